@@ -1,5 +1,6 @@
 -- What a copy comes to for an echo.
-use Rattle.std.proofs.Common.{◌≡◌, ◌≢◌, ℕ, ◌<◌, ◌≤◌, ◌==◌, ◌&&◌, true, false, List, Option, Some, None, IfSome, MatchOption, refl, ap, sym, subst, ◌∙◌, length, arith, nat_lt}
+use Rattle.std.proofs.Common.{◌≡◌, ◌≢◌, ℕ, ◌<◌, ◌≤◌, ◌==◌, ◌&&◌, true, false, List, Option, Some, None, IfSome}
+use Rattle.std.proofs.Common.{MatchOption, refl, ap, sym, subst, ◌∙◌, length, arith, nat_lt}
 use Rattle.std.proofs.lemmas.Bool.Decides.{nat_tests}
 use Rattle.mrpc_table.specs.Calls.{message_of}
 use Rattle.mrpc_table.specs.Node.{Node}

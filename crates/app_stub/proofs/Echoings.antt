@@ -80,7 +80,9 @@ echoed_reply e notices d tree stores more calls all old new before (made copy is
       calls = done.calls ++ call at (length done.stores + length words) ∷ [];
     } in
     let stored : more ≡ done.stores ++ words = reply.stores ∙ ap (λ xs. xs ++ words) before.stored in
-    let stands = subst (λ (cs : List Submission). StandsIn e.table e.heap (message_of e.table d.method Reply) tree (slice_at e.heap e.ring (length cs)) (tree_words e.table (message_of e.table d.method Reply) tree) reply.placed) before.replied reply.stands in
+    let stands = subst (λ (cs : List Submission). StandsIn e.table e.heap (message_of e.table d.method Reply) tree
+    (slice_at e.heap e.ring (length cs)) (tree_words e.table (message_of e.table d.method Reply) tree)
+    reply.placed) before.replied reply.stands in
     record {
       done = next;
       steps = echoes_snoc e notices d _ done next before.steps (replies copy tree reply.placed is_copied of has stands refl);

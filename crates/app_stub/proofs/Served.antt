@@ -1,5 +1,6 @@
 -- What a server makes of notices, one notice more.
-use Rattle.std.proofs.Common.{◌≡◌, ℕ, ◌+◌, ◌*◌, ◌≤◌, List, [], ◌∷◌, ◌++◌, ap, sym, ◌∙◌, length, arith, length-append, append_assoc, append-nil, zero-add}
+use Rattle.std.proofs.Common.{◌≡◌, ℕ, ◌+◌, ◌*◌, ◌≤◌, List, [], ◌∷◌, ◌++◌, ap, sym, ◌∙◌, length, arith, length-append}
+use Rattle.std.proofs.Common.{append_assoc, append-nil, zero-add}
 use Rattle.std.proofs.lemmas.List.Concat.{flat_map-cons}
 use Rattle.std.proofs.lemmas.Grind.{flat_map-append}
 use Rattle.descriptor_ring.specs.declared.descriptor.Descriptor.{Descriptor}
@@ -61,7 +62,13 @@ pub all_served_stores_few : (lines : List ProgramLine) (notices : List Descripto
     → length (all_served_stores lines notices) ≤ 1000 * length notices
 all_served_stores_few lines [] few = omega arith
 all_served_stores_few lines (d ∷ notices) few =
-    omega (arith, ap length (flat_map-cons (served_stores lines) d notices), length-append (served_stores lines d) (all_served_stores lines notices), served_stores_few lines d, all_served_stores_few lines notices few)
+    omega (
+      arith,
+      ap length (flat_map-cons (served_stores lines) d notices),
+      length-append (served_stores lines d) (all_served_stores lines notices),
+      served_stores_few lines d,
+      all_served_stores_few lines notices few,
+    )
 
 pub all_served_replies_few : (lines : List ProgramLine) (made : ℕ) (notices : List Descriptor)
     → length (all_served_replies lines made notices) ≤ length notices

@@ -1,5 +1,6 @@
-// What is delivered to an application, and what it sends besides calls: notices of messages, the numbers of their
-// blocks, and the blocks that it gives back.
+//! What is delivered to an application, and what it sends besides calls: notices of messages, the numbers of their
+//! blocks, and the blocks that it gives back.
+
 ghost use Rattle.std.specs.Prelude.{◌≡◌, ◌<◌, ◌≤◌, ◌+◌, ◌^◌, ◌++◌, ℕ, List, false, OnOk, OnErr, IsTrue, length};
 ghost use Rattle.app_stub.specs.Serving.{blocks_of};
 ghost use Rattle.app_stub.specs.Pairing.{IsDue, IsPaired};

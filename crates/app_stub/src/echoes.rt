@@ -255,7 +255,7 @@ fn copied(table: &Table, desk: &mut Desk, notice: Descriptor) -> Result<Option<T
     if kind != 1 || usize::from(method) >= table.methods.len() {
         return Ok(None);
     }
-    let message = message_of(table, method, Sort::Request);
+    let message = table.message_of(method, Sort::Request);
     let answer = copy_message(
         desk.alloc,
         &mut desk.reader,
@@ -267,20 +267,6 @@ fn copied(table: &Table, desk: &mut Desk, notice: Descriptor) -> Result<Option<T
     match answer {
         CopyResult::Copied { tree, .. } => Ok(replied(table, desk, (method, number), tree)),
         CopyResult::Malformed { .. } => Ok(None),
-    }
-}
-
-// The message of a method's requests or replies.
-fn message_of(table: &Table, method: u16, sort: Sort) -> u32
-    requires valid { IsValid table.now }
-    requires known { method < length table.now.methods }
-    ensures message { result ≡ message_of table.now method sort }
-    ensures known { result < length table.now.messages }
-{
-    let method = &table.methods.as_slice()[usize::from(method)];
-    match sort {
-        Sort::Request => method.input,
-        Sort::Reply => method.output,
     }
 }
 
@@ -297,8 +283,8 @@ fn replied(table: &Table, desk: &Desk, asked: (u16, u32), tree: Tree) -> Option<
         (λ t. HasReply (echo_of table.now desk.now) asked.0 asked.1 tree) }
 {
     let (method, number) = asked;
-    let input = message_of(table, method, Sort::Request);
-    if number == 0 || input != message_of(table, method, Sort::Reply) {
+    let input = table.message_of(method, Sort::Request);
+    if number == 0 || input != table.message_of(method, Sort::Reply) {
         return None;
     }
     if place_words(&tree, table, input) > words_of(desk.writer.size(), desk.ring) {
@@ -337,7 +323,7 @@ fn reply<R: Wait, F: StopFlag>(
     writers_go_on();
     let (method, number) = asked;
     let at = next_slice(desk.writer.size(), desk.ring, desk.replies);
-    let message = message_of(table, method, Sort::Reply);
+    let message = table.message_of(method, Sort::Reply);
     place(desk.alloc, tree, table, message, at, &mut desk.writer)?;
     let reply = call(&mut desk.writer, 2, method, number, at);
     waiting::send(rt, stop, sender, reply)?;

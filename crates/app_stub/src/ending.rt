@@ -1,4 +1,4 @@
-// Why an echo ended before its rings were closed.
+//! Why an echo ended before its rings were closed.
 
 use crate::waiting::Stopped;
 use mrpc_table::Memory;

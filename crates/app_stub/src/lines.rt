@@ -1,4 +1,5 @@
-// What lines of programs store, and the descriptors of calls.
+//! What lines of programs store, and the descriptors of calls.
+
 ghost use Rattle.std.specs.Prelude.{◌≡◌, ◌<◌, ◌≤◌, ◌+◌, ◌*◌, ◌^◌, ◌++◌, length};
 ghost use Rattle.descriptor_ring.specs.Rings.{IsOf};
 ghost use Rattle.app_program.specs.Programs.{IsPlace, StoresIn, spun, line_stores};

@@ -1,4 +1,4 @@
-// What an application sends.
+//! What an application sends.
 
 use descriptor_ring::{NumberSender, Sender};
 

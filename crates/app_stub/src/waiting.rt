@@ -1,4 +1,5 @@
-// What an application does at a ring: it tries until the ring has room, or something to take, or the stop flag is set.
+//! What an application does at a ring: it tries until the ring has room, or something to take, or the stop flag is set.
+
 ghost use Rattle.std.specs.Prelude.{◌≡◌, ◌<◌, ◌≤◌, ◌^◌, ◌++◌, ◌∷◌, [], false, IfOk, IfSome, IfNone, IsNone, MatchOption, OnOk, OnErr, IsTrue, length};
 ghost use Rattle.descriptor_ring.specs.Rings.{IsOf};
 

@@ -1,5 +1,7 @@
 -- The lines of arrivals that have lived can be written.
-use Rattle.std.proofs.Common.{◌≡◌, ℕ, ◌<◌, ◌≤◌, ◌==◌, Bool, true, false, List, [], ◌∷◌, length, max, Option, Some, None, All, inl, inr, refl, sym, ap, subst, arith, unwrap_or, option_map, option_copied, position, if◌then◌else◌}
+use Rattle.std.proofs.Common.{◌≡◌, ℕ, ◌<◌, ◌≤◌, ◌==◌, Bool, true, false, List, [], ◌∷◌, length, max, Option, Some}
+use Rattle.std.proofs.Common.{None, All, inl, inr, refl, sym, ap, subst, arith, unwrap_or, option_map, option_copied}
+use Rattle.std.proofs.Common.{position, if◌then◌else◌}
 use Rattle.std.specs.List.{AllZip}
 use Rattle.std.proofs.lemmas.List.Elements.{All-cons, All-head, All-nil, All-tail}
 use Rattle.std.proofs.lemmas.List.Quantifiers.{position-Some}

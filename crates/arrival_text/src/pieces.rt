@@ -1,4 +1,5 @@
-// What lines are put together from.
+//! What lines are put together from.
+
 ghost use Rattle.std.specs.Prelude.{◌≡◌, [], ◌∷◌, ◌++◌, OnOk, map};
 ghost use Rattle.std.specs.Fmt.{decimal};
 ghost use Rattle.arrival_text.specs.Pieces.{behind_spaces};

@@ -1,5 +1,6 @@
 -- Calls that stand, in the order of connections and numbers.
-use Rattle.std.proofs.Common.{◌≡◌, ℕ, ◌+◌, ◌<◌, ◌≤◌, ◌⊎◌, Bool, true, false, List, [], ◌∷◌, ◌++◌, All, Contains, length, map, filter, arith, refl, ap, sym, subst, ◌∙◌, inl, inr, cond, length-append}
+use Rattle.std.proofs.Common.{◌≡◌, ℕ, ◌+◌, ◌<◌, ◌≤◌, ◌⊎◌, Bool, true, false, List, [], ◌∷◌, ◌++◌, All, Contains}
+use Rattle.std.proofs.Common.{length, map, filter, arith, refl, ap, sym, subst, ◌∙◌, inl, inr, cond, length-append}
 use Rattle.std.specs.List.{AllByRecursion}
 use Rattle.std.proofs.lemmas.Bool.Decides.{eqb_tells}
 use Rattle.std.proofs.lemmas.List.Elements.{All-append, All-cons, All-contains, All-nil, Contains-append_cases, Contains-append_left, Contains-append_right}
@@ -133,9 +134,13 @@ taken_numbered u (Took call ∷ past) prefix =
     let number = prefix.1.numbered.number in
     let long : length (taken past ++ call ∷ []) ≡ length (taken past) + 1 = length-append (taken past) (call ∷ []) in
     record {
-      up = pushed (taken past) call earlier.up (each_weaker (λ other. other.seq ≤ length (taken past)) (λ other. other.seq < call.seq) (taken past) (λ other le. omega (arith, number, le)) earlier.low);
+      up = pushed (taken past) call earlier.up
+          (each_weaker (λ other. other.seq ≤ length (taken past)) (λ other. other.seq < call.seq) (taken past)
+          (λ other le. omega (arith, number, le)) earlier.low);
       low = each_pushed (λ other. other.seq ≤ length (taken past ++ call ∷ [])) (taken past) call
-          (each_weaker (λ other. other.seq ≤ length (taken past)) (λ other. other.seq ≤ length (taken past ++ call ∷ [])) (taken past) (λ other le. omega (arith, long, le)) earlier.low) (omega (arith, number, long));
+          (each_weaker (λ other. other.seq ≤ length (taken past))
+          (λ other. other.seq ≤ length (taken past ++ call ∷ [])) (taken past)
+          (λ other le. omega (arith, long, le)) earlier.low) (omega (arith, number, long));
     }
 taken_numbered u (Away method number addr ∷ past) prefix = taken_numbered u past prefix.0
 taken_numbered u (Op step ∷ past) prefix = taken_numbered u past prefix.0
@@ -205,7 +210,8 @@ calls_ascend h (conn ∷ conns) up rise =
     let is = ap (λ (c : CallName). c.0) found.2 in
     inl (omega (arith, is, calls_above h conn conns rise.0 c k))))
 
-calls_in : (h : History) (conns : List ℕ) (conn seq : ℕ) → Contains conns conn → Contains (map (λ call. call.seq) (standing (behind conn h))) seq → Contains (calls_of h conns) (conn, seq)
+calls_in : (h : History) (conns : List ℕ) (conn seq : ℕ) → Contains conns conn
+    → Contains (map (λ call. call.seq) (standing (behind conn h))) seq → Contains (calls_of h conns) (conn, seq)
 calls_in h [] conn seq m k = absurd (in_nothing conn m)
 calls_in h (c ∷ conns) conn seq m k = elim (in_more c conn conns m) [
   | inl same ↦

@@ -1,5 +1,6 @@
 -- What is answered of a history and the lines behind it is one.
-use Rattle.std.proofs.Common.{◌≡◌, ℕ, ◌+◌, ◌<◌, ◌==◌, ◌⊎◌, List, [], ◌∷◌, ◌++◌, cond, length, map, arith, refl, ap, sym, subst, ◌∙◌, inl, inr, append_assoc, length-append}
+use Rattle.std.proofs.Common.{◌≡◌, ℕ, ◌+◌, ◌<◌, ◌==◌, ◌⊎◌, List, [], ◌∷◌, ◌++◌, cond, length, map, arith, refl, ap}
+use Rattle.std.proofs.Common.{sym, subst, ◌∙◌, inl, inr, append_assoc, length-append}
 use Rattle.std.proofs.lemmas.List.Elements.{filter-append}
 use Rattle.std.proofs.lemmas.List.{map-append}
 use Rattle.mrpc_table.specs.Valid.{IsValid}
@@ -13,7 +14,9 @@ use Rattle.policy_blocks.specs.Declarations.{Declared}
 use Rattle.audit_rules.specs.First.{BreaksFirst, Keeps, order_of}
 use Rattle.audit_rules.specs.declared.rule.Rule.{Rule}
 use Rattle.audit_rules.specs.declared.rule.Rule.TheVariants.{A, B, C, D, E, F, G, Stands}
-use Rattle.audit_check.specs.Checking.{ArePrefixes, AreWhole, IsChecked, IsFirstOpen, IsJudged, MayBegin, StandsLine, TellCalls, broken, call_of, legal, lines_on, misplaced, missing, on_connection, open_end}
+use Rattle.audit_check.specs.Checking.{ArePrefixes, AreWhole, IsChecked, IsFirstOpen, IsJudged, MayBegin, StandsLine}
+use Rattle.audit_check.specs.Checking.{TellCalls, broken, call_of, legal, lines_on, misplaced, missing, on_connection}
+use Rattle.audit_check.specs.Checking.{open_end}
 use Rattle.audit_check.specs.declared.checked.Checked.{Checked}
 use Rattle.audit_check.specs.declared.checked.Checked.TheVariants.{Illegal}
 use Rattle.audit_check.proofs.Known.{behind-joined, behind-more}
@@ -141,12 +144,14 @@ misplaced_whole : (T : Table) (limit : ℕ) (h : History) (told front back : Lis
 misplaced_whole T limit h told front back s e ends (inl none) = omega (arith, ap length e, ap length none, length-append front (s ∷ back))
 misplaced_whole T limit h told front back s e ends (inr whole) = misplaced_not T limit h told front back s e ends whole.begin
 
-missing_whole : (T : Table) (limit : ℕ) (h : History) (told : List StandsLine) → (told ≡ [] → ⊥) → (AreWhole T limit h told → ⊥) → (told ≡ []) ⊎ AreWhole T limit h told → ⊥
+missing_whole : (T : Table) (limit : ℕ) (h : History) (told : List StandsLine) → (told ≡ [] → ⊥)
+    → (AreWhole T limit h told → ⊥) → (told ≡ []) ⊎ AreWhole T limit h told → ⊥
 missing_whole T limit h told some not_whole (inl none) = some none
 missing_whole T limit h told some not_whole (inr whole) = not_whole whole
 
 one_misplaced : (T : Table) (limit : ℕ) (h : History) (front back front' back' : List StandsLine) (s s' : StandsLine) → front ++ s ∷ back ≡ front' ++ s' ∷ back'
-    → MayBegin T limit h front → MayBegin T limit h front' → (MayBegin T limit h (front ++ s ∷ []) → ⊥) → (MayBegin T limit h (front' ++ s' ∷ []) → ⊥) → length front ≡ length front'
+    → MayBegin T limit h front → MayBegin T limit h front' → (MayBegin T limit h (front ++ s ∷ []) → ⊥)
+    → (MayBegin T limit h (front' ++ s' ∷ []) → ⊥) → length front ≡ length front'
 one_misplaced T limit h front back front' back' s s' e m m' n n' = elim (split front back front' back' s s' e) [
   | inl here ↦ ap length here.0
   | inr (inl later) ↦ absurd (misplaced_not T limit h front' front later.0 s later.1 n m')
@@ -205,7 +210,8 @@ one_judged T limit h told one other (missing l so bg nw e) (misplaced f' k' s' l
 one_judged T limit h told one other (missing l so bg nw e) (missing l' so' bg' nw' e') =
     e ∙ sym e'
 
-pub one_answer : TextLaws → (T : Table) (declared : Declared) (limit : ℕ) (text : List ℕ) (one other : Checked) → IsValid T → IsChecked T declared limit text one → IsChecked T declared limit text other → one ≡ other
+pub one_answer : TextLaws → (T : Table) (declared : Declared) (limit : ℕ) (text : List ℕ) (one other : Checked)
+    → IsValid T → IsChecked T declared limit text one → IsChecked T declared limit text other → one ≡ other
 one_answer laws T declared limit text one other valid a b =
     let same = one_reading laws T declared text a.history b.history a.stands b.stands valid a.tells b.tells in
     let H : History → Type 0 = λ h. IsJudged T limit h b.stands other in

@@ -1,5 +1,7 @@
 -- What the checkers of connections know once one more thing happens.
-use Rattle.std.proofs.Common.{◌≡◌, ◌≢◌, ℕ, suc, ◌≤◌, length, arith, ◌==◌, Bool, true, false, cond, List, [], ◌∷◌, ◌++◌, reverse, refl, ap, sym, subst, ◌∙◌, Option, Some, None, IfNone, inl, inr, if◌then◌else◌}
+use Rattle.std.proofs.Common.{◌≡◌, ◌≢◌, ℕ, suc, ◌≤◌, length, arith, ◌==◌, Bool, true, false, cond, List, [], ◌∷◌}
+use Rattle.std.proofs.Common.{◌++◌, reverse, refl, ap, sym, subst, ◌∙◌, Option, Some, None, IfNone, inl, inr}
+use Rattle.std.proofs.Common.{if◌then◌else◌}
 use Rattle.std.specs.BTreeMap.{BTreeMap, Updates, get}
 use Rattle.std.specs.List.{cons_option, filter_map}
 use Rattle.std.specs.Ordering.{is_eq, nat_cmp}
@@ -99,7 +101,8 @@ pub nothing_behind : (T : Table) (limit conn : ℕ) (past : Behind) (o : Option 
 nothing_behind T limit conn past None e k = k
 nothing_behind T limit conn past (Some c) e k = absurd cc
 
-pub known_by : (T : Table) (limit conn : ℕ) (past : Behind) (o : Option Checker) (c : Checker) → Some c ≡ o → KnowsOn T limit conn past o → Knows T past c × (under T c ≡ on_connection T limit conn)
+pub known_by : (T : Table) (limit conn : ℕ) (past : Behind) (o : Option Checker) (c : Checker) → Some c ≡ o
+    → KnowsOn T limit conn past o → Knows T past c × (under T c ≡ on_connection T limit conn)
 known_by T limit conn past o c e k = let P : Option Checker → Type 0 = λ o. KnowsOn T limit conn past o in subst P (sym e) k
 
 pub behind-short : (conn : ℕ) (h : History) → length (behind conn h) ≤ length h

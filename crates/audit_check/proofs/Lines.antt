@@ -1,5 +1,6 @@
 -- A text has one history, and one row of lines behind it, up to where it is read.
-use Rattle.std.proofs.Common.{◌≡◌, ℕ, ◌+◌, ◌⊎◌, List, [], ◌∷◌, ◌++◌, All, Option, length, map, arith, refl, ap, sym, ◌∙◌, inl, inr, append_assoc, length-append}
+use Rattle.std.proofs.Common.{◌≡◌, ℕ, ◌+◌, ◌⊎◌, List, [], ◌∷◌, ◌++◌, All, Option, length, map, arith, refl, ap, sym}
+use Rattle.std.proofs.Common.{◌∙◌, inl, inr, append_assoc, length-append}
 use Rattle.std.specs.List.{AllByRecursion, flat_map}
 use Rattle.std.proofs.lemmas.List.{append-nil}
 use Rattle.std.proofs.lemmas.List.Elements.{All-head, All-tail}
@@ -56,10 +57,14 @@ same_line : TextLaws → (T : Table) (declared : Declared) (x y : AuditLine) (a 
     → bytes_of T x ++ a ≡ bytes_of T y ++ b → (x ≡ y) × (a ≡ b)
 same_line laws T declared (Happened x) (Happened y) a b valid h k e = let same = laws.front T declared x y a b valid h k e in (ap Happened same.0, same.1)
 same_line laws T declared (Happened x) (Stands conn seq position name holding) a b valid h k e =
-    let same = same_bytes (audit_line T x) (stands_line conn seq position name holding) a b (line_ends laws T declared (Happened x) valid h) (line_ends laws T declared (Stands conn seq position name holding) valid k) e in
+    let same = same_bytes (audit_line T x) (stands_line conn seq position name holding) a b
+    (line_ends laws T declared (Happened x) valid h)
+    (line_ends laws T declared (Stands conn seq position name holding) valid k) e in
     absurd (laws.apart T x conn seq position name holding (sym same.0))
 same_line laws T declared (Stands conn seq position name holding) (Happened y) a b valid h k e =
-    let same = same_bytes (stands_line conn seq position name holding) (audit_line T y) a b (line_ends laws T declared (Stands conn seq position name holding) valid h) (line_ends laws T declared (Happened y) valid k) e in
+    let same = same_bytes (stands_line conn seq position name holding) (audit_line T y) a b
+    (line_ends laws T declared (Stands conn seq position name holding) valid h)
+    (line_ends laws T declared (Happened y) valid k) e in
     absurd (laws.apart T y conn seq position name holding same.0)
 same_line laws T declared (Stands conn seq position name holding) (Stands conn' seq' position' name' holding') a b valid h k e =
     let same = same_bytes (stands_line conn seq position name holding) (stands_line conn' seq' position' name' holding') a b
@@ -114,7 +119,8 @@ stands_lines : (T : Table) (declared : Declared) (told : List StandsLine) → Al
 stands_lines T declared [] all = tt
 stands_lines T declared (s ∷ told) all = (All-head IsStandsLine s told all, stands_lines T declared told (All-tail IsStandsLine s told all))
 
-pub whole_lines : (T : Table) (declared : Declared) (h : History) (told : List StandsLine) → All (IsWritable T declared) h → All IsStandsLine told → AreLines T declared (all_lines h told)
+pub whole_lines : (T : Table) (declared : Declared) (h : History) (told : List StandsLine)
+    → All (IsWritable T declared) h → All IsStandsLine told → AreLines T declared (all_lines h told)
 whole_lines T declared [] told all in' = stands_lines T declared told in'
 whole_lines T declared (x ∷ h) told all in' = (All-head (IsWritable T declared) x h all, whole_lines T declared h told (All-tail (IsWritable T declared) x h all) in')
 
@@ -161,31 +167,47 @@ same_lines (x ∷ h) (y ∷ h') told told' e =
 
 -- ---- texts that are read to their end, and first faults
 
-some_text : TextLaws → (T : Table) (declared : Declared) (x : AuditLine) (more : List AuditLine) (b : List ℕ) → IsValid T → IsLine T declared x → [] ≡ texts_of T (x ∷ more) ++ b → ⊥
+some_text : TextLaws → (T : Table) (declared : Declared) (x : AuditLine) (more : List AuditLine) (b : List ℕ)
+    → IsValid T → IsLine T declared x → [] ≡ texts_of T (x ∷ more) ++ b → ⊥
 some_text laws T declared x more b valid h e =
-    omega (arith, ap length e, length-append (bytes_of T x ++ texts_of T more) b, length-append (bytes_of T x) (texts_of T more), some_byte (bytes_of T x) (line_ends laws T declared x valid h))
+    omega (
+      arith,
+      ap length e,
+      length-append (bytes_of T x ++ texts_of T more) b,
+      length-append (bytes_of T x) (texts_of T more),
+      some_byte (bytes_of T x) (line_ends laws T declared x valid h),
+    )
 
-read_as : (T : Table) (declared : Declared) (front rest text : List ℕ) (h : History) (told : List StandsLine) → text ≡ front ++ rest → Tells T declared front h told → texts_of T (all_lines h told) ++ rest ≡ text
+read_as : (T : Table) (declared : Declared) (front rest text : List ℕ) (h : History) (told : List StandsLine)
+    → text ≡ front ++ rest → Tells T declared front h told → texts_of T (all_lines h told) ++ rest ≡ text
 read_as T declared front rest text h told e t = ap (λ (l : List ℕ). l ++ rest) (whole_text T h told ∙ sym t.is_text) ∙ sym e
 
 -- a fault isn't followed by a line
-no_more : TextLaws → (T : Table) (declared : Declared) (text : List ℕ) (line : ℕ) → (bad : IsFirstBad T declared text line) (h : History) (told : List StandsLine) (b : List ℕ) (x : AuditLine) (more : List AuditLine)
+no_more : TextLaws → (T : Table) (declared : Declared) (text : List ℕ) (line : ℕ)
+    → (bad : IsFirstBad T declared text line) (h : History) (told : List StandsLine) (b : List ℕ) (x : AuditLine)
+    (more : List AuditLine)
     → all_lines h told ≡ all_lines bad.history bad.stands ++ x ∷ more → IsLine T declared x → bad.rest ≡ texts_of T (x ∷ more) ++ b → ⊥
 no_more laws T declared text line bad h told b (Happened x) more e in' rest =
     bad.no_happening (none_late h bad.history told bad.stands x more e) x in' (texts_of T more ++ b, rest ∙ append_assoc (audit_line T x) (texts_of T more) b)
 no_more laws T declared text line bad h told b (Stands conn seq position name holding) more e in' rest =
-    bad.no_stands (record { conn = conn; seq = seq; position = position; name = name; holding = holding }) in' (texts_of T more ++ b, rest ∙ append_assoc (stands_line conn seq position name holding) (texts_of T more) b)
+    bad.no_stands (record { conn = conn; seq = seq; position = position; name = name; holding = holding }) in'
+    (texts_of T more ++ b, rest ∙ append_assoc (stands_line conn seq position name holding) (texts_of T more) b)
 
-both_end : TextLaws → (T : Table) (declared : Declared) (rest : List ℕ) (more : List AuditLine) → IsValid T → AreLines T declared more → (rest ≡ [] → ⊥) → [] ≡ texts_of T more ++ rest → ⊥
+both_end : TextLaws → (T : Table) (declared : Declared) (rest : List ℕ) (more : List AuditLine) → IsValid T
+    → AreLines T declared more → (rest ≡ [] → ⊥) → [] ≡ texts_of T more ++ rest → ⊥
 both_end laws T declared rest [] valid are some e = some (sym e)
 both_end laws T declared rest (x ∷ more) valid are some e = some_text laws T declared x more rest valid are.0 e
 
-both_on : TextLaws → (T : Table) (declared : Declared) (text : List ℕ) (line : ℕ) (bad : IsFirstBad T declared text line) (h : History) (told : List StandsLine) (b : List ℕ) (more : List AuditLine) → IsValid T
+both_on : TextLaws
+    → (T : Table) (declared : Declared) (text : List ℕ) (line : ℕ) (bad : IsFirstBad T declared text line)
+    (h : History) (told : List StandsLine) (b : List ℕ) (more : List AuditLine) → IsValid T
     → AreLines T declared more → all_lines h told ≡ all_lines bad.history bad.stands ++ more → bad.rest ≡ texts_of T more ++ b → (more ≡ []) × (bad.rest ≡ b)
 both_on laws T declared text line bad h told b [] valid are lines e = (refl, e)
 both_on laws T declared text line bad h told b (x ∷ more) valid are lines e = absurd (no_more laws T declared text line bad h told b x more lines are.0 e)
 
-pub not_both : TextLaws → (T : Table) (declared : Declared) (text : List ℕ) (line : ℕ) (h : History) (told : List StandsLine) → IsValid T → Tells T declared text h told → IsFirstBad T declared text line → ⊥
+pub not_both : TextLaws
+    → (T : Table) (declared : Declared) (text : List ℕ) (line : ℕ) (h : History) (told : List StandsLine) → IsValid T
+    → Tells T declared text h told → IsFirstBad T declared text line → ⊥
 not_both laws T declared text line h told valid t bad =
     let ours = whole_lines T declared h told t.writable t.in_range in
     let theirs = whole_lines T declared bad.history bad.stands bad.before.writable bad.before.in_range in
@@ -195,12 +217,14 @@ not_both laws T declared text line h told valid t bad =
       | inr on ↦ bad.more (both_on laws T declared text line bad h told [] on.more valid on.are on.lines on.text).1
     ]
 
-counted_same : (h h' : History) (told told' : List StandsLine) (more : List AuditLine) → all_lines h told ≡ all_lines h' told' ++ more → more ≡ [] → length h + length told ≡ length h' + length told'
+counted_same : (h h' : History) (told told' : List StandsLine) (more : List AuditLine)
+    → all_lines h told ≡ all_lines h' told' ++ more → more ≡ [] → length h + length told ≡ length h' + length told'
 counted_same h h' told told' more e none =
     let same = same_lines h h' told told' (e ∙ ap (λ (l : List AuditLine). all_lines h' told' ++ l) none ∙ append-nil (all_lines h' told')) in
     omega (arith, ap length same.0, ap length same.1)
 
-pub one_fault : TextLaws → (T : Table) (declared : Declared) (text : List ℕ) (line other : ℕ) → IsValid T → IsFirstBad T declared text line → IsFirstBad T declared text other → line ≡ other
+pub one_fault : TextLaws → (T : Table) (declared : Declared) (text : List ℕ) (line other : ℕ) → IsValid T
+    → IsFirstBad T declared text line → IsFirstBad T declared text other → line ≡ other
 one_fault laws T declared text line other valid a b =
     let ours = whole_lines T declared a.history a.stands a.before.writable a.before.in_range in
     let theirs = whole_lines T declared b.history b.stands b.before.writable b.before.in_range in
@@ -218,12 +242,17 @@ no_text : TextLaws → (T : Table) (declared : Declared) (more : List AuditLine)
 no_text laws T declared [] valid are e = refl
 no_text laws T declared (x ∷ more) valid are e = absurd (some_text laws T declared x more [] valid are.0 e)
 
-pub one_reading : TextLaws → (T : Table) (declared : Declared) (text : List ℕ) (h h' : History) (told told' : List StandsLine) → IsValid T → Tells T declared text h told → Tells T declared text h' told' → (h ≡ h') × (told ≡ told')
+pub one_reading : TextLaws
+    → (T : Table) (declared : Declared) (text : List ℕ) (h h' : History) (told told' : List StandsLine) → IsValid T
+    → Tells T declared text h told → Tells T declared text h' told' → (h ≡ h') × (told ≡ told')
 one_reading laws T declared text h h' told told' valid t t' =
     let ours = whole_lines T declared h told t.writable t.in_range in
     let theirs = whole_lines T declared h' told' t'.writable t'.in_range in
     let e = read_as T declared text [] text h told (sym (append-nil text)) t ∙ sym (read_as T declared text [] text h' told' (sym (append-nil text)) t') in
     elim (agree laws T declared (all_lines h told) (all_lines h' told') [] [] valid ours theirs e) [
-      | inl on ↦ same_lines h h' told told' (sym (on.lines ∙ ap (λ (l : List AuditLine). all_lines h told ++ l) (no_text laws T declared on.more valid on.are on.text) ∙ append-nil (all_lines h told)))
-      | inr on ↦ same_lines h h' told told' (on.lines ∙ ap (λ (l : List AuditLine). all_lines h' told' ++ l) (no_text laws T declared on.more valid on.are on.text) ∙ append-nil (all_lines h' told'))
+      | inl on ↦ same_lines h h' told told'
+          (sym (on.lines ∙ ap (λ (l : List AuditLine). all_lines h told ++ l)
+          (no_text laws T declared on.more valid on.are on.text) ∙ append-nil (all_lines h told)))
+      | inr on ↦ same_lines h h' told told' (on.lines ∙ ap (λ (l : List AuditLine). all_lines h' told' ++ l)
+          (no_text laws T declared on.more valid on.are on.text) ∙ append-nil (all_lines h' told'))
     ]

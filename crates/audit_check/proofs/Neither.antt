@@ -1,5 +1,6 @@
 -- A text has an answer or a first line that is bad: never neither.
-use Rattle.std.proofs.Common.{◌≡◌, ℕ, zero, suc, ◌+◌, ◌<◌, ◌≤◌, List, [], ◌∷◌, ◌++◌, Contains, length, arith, refl, ap, sym, subst, ◌∙◌, inl, inr, append_assoc, length-append}
+use Rattle.std.proofs.Common.{◌≡◌, ℕ, zero, suc, ◌+◌, ◌<◌, ◌≤◌, List, [], ◌∷◌, ◌++◌, Contains, length, arith, refl}
+use Rattle.std.proofs.Common.{ap, sym, subst, ◌∙◌, inl, inr, append_assoc, length-append}
 use Rattle.std.specs.List.{AllByRecursion}
 use Rattle.std.proofs.lemmas.Bool.{cases_lt}
 use Rattle.std.proofs.lemmas.Bool.Decides.{eqb_tells}
@@ -14,7 +15,9 @@ use Rattle.audit_text.specs.Lines.{audit_line, happening_words, standing_words}
 use Rattle.audit_rules.specs.First.{Awaits, BreaksFirst, Keeps, order_of}
 use Rattle.audit_rules.specs.declared.rule.Rule.{Rule}
 use Rattle.audit_rules.specs.declared.rule.Rule.TheVariants.{A, B, C, D, E, F, G, Stands}
-use Rattle.audit_check.specs.Checking.{AreAllStanding, ArePrefixes, IsChecked, IsFirstBad, IsFirstOpen, IsJudged, MayBegin, StandsLine, Tells, broken, legal, line_of, misplaced, missing, on_connection, open_end}
+use Rattle.audit_check.specs.Checking.{AreAllStanding, ArePrefixes, IsChecked, IsFirstBad, IsFirstOpen, IsJudged}
+use Rattle.audit_check.specs.Checking.{MayBegin, StandsLine, Tells, broken, legal, line_of, misplaced, missing}
+use Rattle.audit_check.specs.Checking.{on_connection, open_end}
 use Rattle.audit_check.specs.States.{Rise, calls_of}
 use Rattle.audit_check.specs.declared.checked.Checked.{Checked}
 use Rattle.audit_check.specs.declared.checked.Checked.TheVariants.{Illegal, Legal}

@@ -1,5 +1,6 @@
 -- What is left open on some connections, and on all.
-use Rattle.std.proofs.Common.{◌≡◌, ℕ, ◌<◌, ◌≤◌, true, false, List, [], ◌∷◌, ◌++◌, All, arith, refl, sym, subst, Option, Some, None, IfNone, IfSome, IsSome, inl, inr}
+use Rattle.std.proofs.Common.{◌≡◌, ℕ, ◌<◌, ◌≤◌, true, false, List, [], ◌∷◌, ◌++◌, All, arith, refl, sym, subst}
+use Rattle.std.proofs.Common.{Option, Some, None, IfNone, IfSome, IsSome, inl, inr}
 use Rattle.std.specs.BTreeMap.{BTreeMap, get, keys}
 use Rattle.std.specs.Ordering.{nat_cmp}
 use Rattle.std.proofs.lemmas.Cmp.{nat_cmp_total}

@@ -1,5 +1,8 @@
 -- The calls that stand, told one after another.
-use Rattle.std.proofs.Common.{◌≡◌, ◌≢◌, ℕ, zero, suc, ◌+◌, ◌<◌, ◌≤◌, ◌==◌, nat_lt, ◌↔◌, Bool, true, false, cond, List, [], ◌∷◌, ◌++◌, All, Contains, length, map, drop, arith, refl, ap, sym, subst, ◌∙◌, inl, inr, Option, Some, None, IsSome, IsTrue, is_some, is_none, not, if◌then◌else◌, option_map, slice_get, append_assoc, length-append}
+use Rattle.std.proofs.Common.{◌≡◌, ◌≢◌, ℕ, zero, suc, ◌+◌, ◌<◌, ◌≤◌, ◌==◌, nat_lt, ◌↔◌, Bool, true, false, cond, List}
+use Rattle.std.proofs.Common.{[], ◌∷◌, ◌++◌, All, Contains, length, map, drop, arith, refl, ap, sym, subst, ◌∙◌, inl}
+use Rattle.std.proofs.Common.{inr, Option, Some, None, IsSome, IsTrue, is_some, is_none, not, if◌then◌else◌}
+use Rattle.std.proofs.Common.{option_map, slice_get, append_assoc, length-append}
 use Rattle.std.specs.BTreeMap.{BTreeMap, get, keys}
 use Rattle.std.specs.List.{AllByRecursion}
 use Rattle.std.specs.List.Sorted.{IsStrictlySortedBy}
@@ -91,7 +94,9 @@ conns-popped m (Some turn) rest e = sym (ap (map (λ (e : ℕ × Checker). e.0))
 abbrev name_on : ℕ → Taken → CallName
 name_on conn call = (conn, call.seq)
 
-none_left : (h : History) (told : List StandsLine) (conn : ℕ) → length (lines_on conn told) ≡ length (standing (behind conn h)) → drop (length (lines_on conn told)) (calls_on h conn) ≡ []
+none_left : (h : History) (told : List StandsLine) (conn : ℕ)
+    → length (lines_on conn told) ≡ length (standing (behind conn h))
+    → drop (length (lines_on conn told)) (calls_on h conn) ≡ []
 none_left h told conn e = drop_all (length (lines_on conn told)) (calls_on h conn) (omega (arith, e, length-map (standing (behind conn h)) (name_on conn)))
 
 all_left : (h : History) (told : List StandsLine) (conn : ℕ) → lines_on conn told ≡ [] → drop (length (lines_on conn told)) (calls_on h conn) ≡ calls_on h conn
@@ -134,7 +139,8 @@ row_step T limit h told turn rest current' rest' row is popped =
 -- ---- one line more
 
 untold_apart : (T : Table) (limit : ℕ) (h : History) (told : List StandsLine) (s : StandsLine) (entries : List (ℕ × Checker))
-    → AllByRecursion (λ m. s.conn < m) (map (λ e. e.0) entries) → AllByRecursion (KnowsUntold T limit h told) entries → AllByRecursion (KnowsUntold T limit h (told ++ s ∷ [])) entries
+    → AllByRecursion (λ m. s.conn < m) (map (λ e. e.0) entries) → AllByRecursion (KnowsUntold T limit h told) entries
+    → AllByRecursion (KnowsUntold T limit h (told ++ s ∷ [])) entries
 untold_apart T limit h told s [] above all = tt
 untold_apart T limit h told s (e ∷ entries) above all =
     let apart : s.conn ≢ e.0 = λ same. omega (arith, same, above.0) in
@@ -201,7 +207,8 @@ row_tell T limit h told s c c' rest row next knows judges =
     let behind_it = drop (length (lines_on s.conn told) + 1) (calls_on h s.conn) in
     let rest_calls = calls_of h (keys rest) in
     let split : map call_of told ++ call_of s ∷ (behind_it ++ rest_calls) ≡ map call_of (told ++ s ∷ []) ++ (behind_it ++ rest_calls) =
-    sym (append_assoc (map call_of told) (call_of s ∷ []) (behind_it ++ rest_calls)) ∙ ap (λ (l : List CallName). l ++ (behind_it ++ rest_calls)) (sym (map-append call_of told (s ∷ []))) in
+    sym (append_assoc (map call_of told) (call_of s ∷ []) (behind_it ++ rest_calls))
+    ∙ ap (λ (l : List CallName). l ++ (behind_it ++ rest_calls)) (sym (map-append call_of told (s ∷ []))) in
     let head : calls_of h (row.done ++ s.conn ∷ keys rest) ≡ map call_of told ++ call_of s ∷ (behind_it ++ rest_calls) =
     row.calls ∙ ap (λ (l : List CallName). map call_of told ++ (l ++ rest_calls)) first in
     record {
@@ -251,7 +258,8 @@ pub left_is : (T : Table) (limit : ℕ) (h : History) (told more : List StandsLi
 left_is T limit h told more current rest row begin =
     let same = one_standing h (calls_of h (row.done ++ conns_of current rest)) begin.calls (row_standing T limit h told current rest row) begin.all in
     same_left (map call_of told) (left_of h told current rest) (map call_of more ++ begin.front.0)
-    (sym row.calls ∙ same ∙ begin.front.1 ∙ ap (λ (l : List CallName). l ++ begin.front.0) (map-append call_of told more) ∙ append_assoc (map call_of told) (map call_of more) begin.front.0)
+    (sym row.calls ∙ same ∙ begin.front.1 ∙ ap (λ (l : List CallName). l ++ begin.front.0)
+    (map-append call_of told more) ∙ append_assoc (map call_of told) (map call_of more) begin.front.0)
 
 dropped_conn : (conn : ℕ) (calls : List Taken) (k : ℕ) (d : CallName) (ds : List CallName) → drop k (map (λ call. (conn, call.seq)) calls) ≡ d ∷ ds → d.0 ≡ conn
 dropped_conn conn [] k d ds e = let none : drop k [] ≡ [] = drop-nil k in absurd (let t : [] ≡ d ∷ ds = sym none ∙ e in cc)
@@ -314,7 +322,9 @@ not_whole T limit h told turn rest row some whole =
 abbrev KnowsNothing : Table → ℕ → History → ℕ × Checker → Type 0
 KnowsNothing T limit h e = KnowsOn T limit e.0 (behind e.0 h) (Some e.1)
 
-untold_at_first : NothingTold → (T : Table) (limit : ℕ) (h : History) → ((conn : ℕ) → IsSettledUp (behind conn h)) → (entries : List (ℕ × Checker)) → AllByRecursion (KnowsNothing T limit h) entries → AllByRecursion (KnowsUntold T limit h []) entries
+untold_at_first : NothingTold → (T : Table) (limit : ℕ) (h : History) → ((conn : ℕ) → IsSettledUp (behind conn h))
+    → (entries : List (ℕ × Checker)) → AllByRecursion (KnowsNothing T limit h) entries
+    → AllByRecursion (KnowsUntold T limit h []) entries
 untold_at_first told T limit h settled [] all = tt
 untold_at_first told T limit h settled (e ∷ entries) all = (
   (record { knows = told T (behind e.0 h) e.1 (settled e.0) all.0.0; judges = all.0.1; fits = omega arith }, refl),
@@ -363,12 +373,15 @@ calls_first : (h : History) (current : Option Turn) (rest : BTreeMap ℕ Checker
 calls_first h None rest = refl
 calls_first h (Some turn) rest = refl
 
-not_behind : (T : Table) (limit conn : ℕ) (h : History) (m : BTreeMap ℕ Checker) (o : Option Checker) → get nat_cmp m conn ≡ o → KnowsOn T limit conn (behind conn h) o → (Contains (keys m) conn → ⊥) → behind conn h ≡ []
+not_behind : (T : Table) (limit conn : ℕ) (h : History) (m : BTreeMap ℕ Checker) (o : Option Checker)
+    → get nat_cmp m conn ≡ o → KnowsOn T limit conn (behind conn h) o → (Contains (keys m) conn → ⊥)
+    → behind conn h ≡ []
 not_behind T limit conn h m None e known none = known
 not_behind T limit conn h m (Some c) e known none =
     absurd (none ((btree_map_contains_key_iff nat_cmp_total exact_unsigned m conn).0 (subst IsSome (sym e) refl)))
 
-pub row_first : NothingTold → (T : Table) (limit : ℕ) (h : History) → ((conn : ℕ) → IsSettledUp (behind conn h)) → (m : BTreeMap ℕ Checker) (current : Option Turn) (rest : BTreeMap ℕ Checker)
+pub row_first : NothingTold → (T : Table) (limit : ℕ) (h : History) → ((conn : ℕ) → IsSettledUp (behind conn h))
+    → (m : BTreeMap ℕ Checker) (current : Option Turn) (rest : BTreeMap ℕ Checker)
     → Popped m current rest → Rise (conns_of current rest) → KnowsEach T limit h m → ArePrefixes T limit h → IsRowOf T limit h [] current rest
 row_first nothing T limit h settled m current rest popped rise known prefixes =
     let conns = conns-popped m current rest popped in
@@ -385,7 +398,8 @@ row_first nothing T limit h settled m current rest popped rise known prefixes =
 
 -- ---- as the row's code asks
 
-pub current_of : (T : Table) (limit : ℕ) (h : History) (told : List StandsLine) (current : Option Turn) (rest : BTreeMap ℕ Checker) → KnowsRest T limit h told current rest → KnowsCurrent T limit h told current
+pub current_of : (T : Table) (limit : ℕ) (h : History) (told : List StandsLine) (current : Option Turn)
+    (rest : BTreeMap ℕ Checker) → KnowsRest T limit h told current rest → KnowsCurrent T limit h told current
 current_of T limit h told None rest knows = tt
 current_of T limit h told (Some turn) rest knows = knows.0
 
@@ -431,7 +445,8 @@ as_next T limit h told s conn c name held e en eh judges next =
     subst U (sym judges) (subst N (sym en) (subst H (sym eh) (subst C e next)))
 
 -- the line tells the next call of the current connection
-pub row_told : (T : Table) (limit : ℕ) (h : History) (told : List StandsLine) (s : StandsLine) (conn : ℕ) (c c' : Checker) (rest : BTreeMap ℕ Checker) (name : List ℕ) (held : Option (ℕ × ℕ))
+pub row_told : (T : Table) (limit : ℕ) (h : History) (told : List StandsLine) (s : StandsLine) (conn : ℕ)
+    (c c' : Checker) (rest : BTreeMap ℕ Checker) (name : List ℕ) (held : Option (ℕ × ℕ))
     → conn ≡ s.conn → name ≡ s.name → held ≡ held_of s → IsRowOf T limit h told (Some (record { conn = conn; checker = c })) rest
     → TellsAs T limit h told s conn c name held → KnowsTold T (behind conn h) (positions_on conn told ++ s.position ∷ []) c' → under T c' ≡ under T c
     → IsRowOf T limit h (told ++ s ∷ []) (Some (record { conn = conn; checker = c' })) rest
@@ -444,8 +459,10 @@ row_told T limit h told s conn c c' rest name held e en eh row next knows same =
     subst A (sym e) (row_tell T limit h told s c c' rest (subst R e row) told_next (subst K e knows) (subst J e (same ∙ row.knows.0.judges)))
 
 -- a line that may follow tells the next call of the current connection
-pub row_next : (T : Table) (limit : ℕ) (h : History) (told : List StandsLine) (s : StandsLine) (conn : ℕ) (c : Checker) (rest : BTreeMap ℕ Checker) (name : List ℕ) (held : Option (ℕ × ℕ))
-    → name ≡ s.name → held ≡ held_of s → IsRowOf T limit h told (Some (record { conn = conn; checker = c })) rest → (IsTold h told (Some (record { conn = conn; checker = c })) → ⊥)
+pub row_next : (T : Table) (limit : ℕ) (h : History) (told : List StandsLine) (s : StandsLine) (conn : ℕ)
+    (c : Checker) (rest : BTreeMap ℕ Checker) (name : List ℕ) (held : Option (ℕ × ℕ))
+    → name ≡ s.name → held ≡ held_of s → IsRowOf T limit h told (Some (record { conn = conn; checker = c })) rest
+    → (IsTold h told (Some (record { conn = conn; checker = c })) → ⊥)
     → MayBegin T limit h (told ++ s ∷ []) → (s.conn ≡ conn) × TellsAs T limit h told s conn c name held
 row_next T limit h told s conn c rest name held en eh row some begin =
     let next = next_is T limit h told s (record { conn = conn; checker = c }) rest row some begin in

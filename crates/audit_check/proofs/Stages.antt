@@ -1,5 +1,6 @@
 -- How far a text was judged, once one more line comes.
-use Rattle.std.proofs.Common.{◌≡◌, ℕ, ◌+◌, ◌⊎◌, List, [], ◌∷◌, ◌++◌, Option, Some, None, IfNone, length, arith, ap, sym, subst, ◌∙◌, inl, inr, append_assoc, length-append}
+use Rattle.std.proofs.Common.{◌≡◌, ℕ, ◌+◌, ◌⊎◌, List, [], ◌∷◌, ◌++◌, Option, Some, None, IfNone, length, arith, ap}
+use Rattle.std.proofs.Common.{sym, subst, ◌∙◌, inl, inr, append_assoc, length-append}
 use Rattle.std.proofs.lemmas.Bool.Decides.{eqb_tells}
 use Rattle.mrpc_table.specs.declared.table.Table.{Table}
 use Rattle.call_history.specs.Behind.{Behind}
@@ -20,7 +21,8 @@ if_none_at None P e p = p
 if_none_at (Some x) P e p = absurd cc
 
 -- prefixes, and one happening more
-pub prefixes_more : (T : Table) (limit : ℕ) (h : History) (next : Happened) → ArePrefixes T limit h → May (on_connection T limit next.conn) (behind next.conn h) next.what → ArePrefixes T limit (h ++ next ∷ [])
+pub prefixes_more : (T : Table) (limit : ℕ) (h : History) (next : Happened) → ArePrefixes T limit h
+    → May (on_connection T limit next.conn) (behind next.conn h) next.what → ArePrefixes T limit (h ++ next ∷ [])
 prefixes_more T limit h next prefixes may conn = elim (eqb_tells next.conn conn) [
   | inl same ↦
       let P : Behind → Type 0 = IsPrefix (on_connection T limit conn) in
@@ -31,7 +33,8 @@ prefixes_more T limit h next prefixes may conn = elim (eqb_tells next.conn conn)
       subst P (sym (behind-other conn h next other.1)) (prefixes conn)
 ]
 
-pub stage_at : (T : Table) (limit : ℕ) (h : History) (told : List StandsLine) (stage : Stage) (c : Connections) → stage ≡ Happening c → IsStage T limit h told stage → IsHappening T limit h told c
+pub stage_at : (T : Table) (limit : ℕ) (h : History) (told : List StandsLine) (stage : Stage) (c : Connections)
+    → stage ≡ Happening c → IsStage T limit h told stage → IsHappening T limit h told c
 stage_at T limit h told stage c e is = let P : Stage → Type 0 = IsStage T limit h told in subst P e is
 
 pub legal_now : (T : Table) (limit : ℕ) (h : History) → ArePrefixes T limit h → ((conn : ℕ) → IsSettledUp (behind conn h)) → IsLegal T limit h
@@ -60,7 +63,9 @@ misplaced_more T limit h told s i m = record {
 }
 
 -- what is illegal stays so behind one line more
-pub illegal_more : (T : Table) (limit : ℕ) (h : History) (told : List StandsLine) (s : StandsLine) (i : Place) → IsIllegalAt T limit h told i → IsBroken T limit h i ⊎ ((told ++ s ∷ [] ≡ [] → ⊥) × IsIllegalAt T limit h (told ++ s ∷ []) i)
+pub illegal_more : (T : Table) (limit : ℕ) (h : History) (told : List StandsLine) (s : StandsLine) (i : Place)
+    → IsIllegalAt T limit h told i
+    → IsBroken T limit h i ⊎ ((told ++ s ∷ [] ≡ [] → ⊥) × IsIllegalAt T limit h (told ++ s ∷ []) i)
 illegal_more T limit h told s i (inl broken) = inl broken
 illegal_more T limit h told s i (inr (inl left)) = inr (some_more told s, inr (inl left))
 illegal_more T limit h told s i (inr (inr m)) = inr (some_more told s, inr (inr (misplaced_more T limit h told s i m)))

@@ -1,5 +1,7 @@
 -- A text that is read line by line.
-use Rattle.std.proofs.Common.{◌≡◌, ◌≢◌, ℕ, ◌+◌, ◌<◌, ◌≤◌, ◌⊎◌, Bool, true, false, cond, List, [], ◌∷◌, ◌++◌, All, Option, Some, None, IfSome, option_map, find, length, arith, refl, ap, sym, subst, ◌∙◌, inl, inr, append_assoc, length-append}
+use Rattle.std.proofs.Common.{◌≡◌, ◌≢◌, ℕ, ◌+◌, ◌<◌, ◌≤◌, ◌⊎◌, Bool, true, false, cond, List, [], ◌∷◌, ◌++◌, All}
+use Rattle.std.proofs.Common.{Option, Some, None, IfSome, option_map, find, length, arith, refl, ap, sym, subst, ◌∙◌}
+use Rattle.std.proofs.Common.{inl, inr, append_assoc, length-append}
 use Rattle.std.specs.Str.{bytes_eq}
 use Rattle.std.proofs.lemmas.Grind.{flat_map-append}
 use Rattle.std.proofs.lemmas.List.{append-nil}
@@ -54,7 +56,9 @@ lacks (x ∷ xs) all = (All-head (λ c. c ≢ 10) x xs all, lacks xs (All-tail (
 pub at_feed : (text front rest : List ℕ) (whole : List ℕ) → whole ≡ front ++ 10 ∷ [] → text ≡ whole ++ rest → text ≡ front ++ 10 ∷ rest
 at_feed text front rest whole e joined = joined ∙ ap (λ (l : List ℕ). l ++ rest) e ∙ append_assoc front (10 ∷ []) rest
 
-at_end : (text first rest other behind : List ℕ) → text ≡ first ++ rest → EndsLine first ⊎ (All (λ c. c ≢ 10) first × (rest ≡ [])) → EndsLine other → text ≡ other ++ behind → first ≡ other
+at_end : (text first rest other behind : List ℕ) → text ≡ first ++ rest
+    → EndsLine first ⊎ (All (λ c. c ≢ 10) first × (rest ≡ [])) → EndsLine other → text ≡ other ++ behind
+    → first ≡ other
 at_end text first rest other behind joined (inl here) ends e =
     let one = at_feed text here.0 rest first here.1 joined in
     let two = at_feed text ends.0 behind other ends.1 e in
@@ -139,7 +143,9 @@ no_line happenings stands T declared text front rest first others h told valid i
   is_text = is_text;
   before = t;
   more = some_text rest some;
-  no_happening = λ untold x writable begins. none (Happened x) writable (front_line rest first others (audit_line T x) begins.0 is (happening_ends happenings T declared x valid writable) begins.1);
+  no_happening = λ untold x writable begins.
+      none (Happened x) writable (front_line rest first others (audit_line T x) begins.0 is
+      (happening_ends happenings T declared x valid writable) begins.1);
   no_stands = λ s in' begins. none (Stands s.conn s.seq s.position s.name s.holding) in' (front_line rest first others (line_of s) begins.0 is (stands_ends stands s in') begins.1);
   counted = refl;
 }
@@ -170,7 +176,9 @@ abbrev named : List ℕ → List NamedPolicy → Option Policy
 named label policies = option_map (λ p. p.policy) (find (λ p. bytes_eq p.name label) policies)
 
 found_here : (label : List ℕ) (p : NamedPolicy) (policies : List NamedPolicy) (policy : Policy) (b : Bool) → All (λ p. IsPolicy p.policy) (p ∷ policies)
-    → ((e : named label policies ≡ Some policy) → IsPolicy policy) → option_map (λ (p : NamedPolicy). p.policy) (cond b (Some p) (find (λ p. bytes_eq p.name label) policies)) ≡ Some policy → IsPolicy policy
+    → ((e : named label policies ≡ Some policy) → IsPolicy policy)
+    → option_map (λ (p : NamedPolicy). p.policy) (cond b (Some p) (find (λ p. bytes_eq p.name label) policies))
+    ≡ Some policy → IsPolicy policy
 found_here label p policies policy true all later e = let same : p.policy ≡ policy = cc in subst IsPolicy same (All-head (λ p. IsPolicy p.policy) p policies all)
 found_here label p policies policy false all later e = later e
 
@@ -180,7 +188,8 @@ copy_by T call (Malformed reason place value) h = tt
 
 found_policy : (label : List ℕ) (policies : List NamedPolicy) (policy : Policy) → All (λ p. IsPolicy p.policy) policies → named label policies ≡ Some policy → IsPolicy policy
 found_policy label [] policy all e = absurd cc
-found_policy label (p ∷ policies) policy all e = found_here label p policies policy (bytes_eq p.name label) all (found_policy label policies policy (All-tail (λ p. IsPolicy p.policy) p policies all)) e
+found_policy label (p ∷ policies) policy all e = found_here label p policies policy (bytes_eq p.name label) all
+    (found_policy label policies policy (All-tail (λ p. IsPolicy p.policy) p policies all)) e
 
 pub readable : (T : Table) (declared : Declared) (x : Happening) → All (λ p. IsPolicy p.policy) declared.policies → CanBeTold T declared x → IsReadable T x
 readable T declared (Took call) all h = copy_by T call call.copy h.copy
@@ -251,7 +260,8 @@ read_more T declared limit text rest first others p p' (Stands conn seq position
       progress = takes;
     }
 
-pub read_whole : (T : Table) (declared : Declared) (limit : ℕ) (text rest : List ℕ) (p : Progress) → (r : IsRead T declared limit text rest p) → rest ≡ [] → Tells T declared text r.history r.told
+pub read_whole : (T : Table) (declared : Declared) (limit : ℕ) (text rest : List ℕ) (p : Progress)
+    → (r : IsRead T declared limit text rest p) → rest ≡ [] → Tells T declared text r.history r.told
 read_whole T declared limit text rest p r none =
     let P : List ℕ → Type 0 = λ text. Tells T declared text r.history r.told in
     subst P (sym (r.is_text ∙ ap (λ (l : List ℕ). r.front ++ l) none ∙ append-nil r.front)) r.tells

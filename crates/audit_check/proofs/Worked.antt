@@ -64,7 +64,14 @@ policy = record {
   rules = record {
     name = codes "no150";
     allow = false;
-    about = OfCalls (record { method = 0; sort = Request; test = Some (record { path = record { way = []; number = 1; kind = Uint64; label = Plain }; condition = Compares Equal (Number 150) }) });
+    about = OfCalls (record {
+      method = 0;
+      sort = Request;
+      test = Some (record {
+        path = record { way = []; number = 1; kind = Uint64; label = Plain };
+        condition = Compares Equal (Number 150);
+      });
+    });
   } ∷ [];
   allow = true;
 }
@@ -177,7 +184,8 @@ may-refuse = record {
 
 -- ---- on each connection
 
-on-each : (P : ℕ → Behind → Type 0) (h : History) → P 1 (behind 1 h) → ((conn : ℕ) → P conn []) → ((conn : ℕ) → 1 ≢ conn → behind conn h ≡ []) → (conn : ℕ) → P conn (behind conn h)
+on-each : (P : ℕ → Behind → Type 0) (h : History) → P 1 (behind 1 h) → ((conn : ℕ) → P conn [])
+    → ((conn : ℕ) → 1 ≢ conn → behind conn h ≡ []) → (conn : ℕ) → P conn (behind conn h)
 on-each P h here nowhere others conn = elim (eqb_tells 1 conn) [
   | inl same ↦ let Q : ℕ → Type 0 = λ conn. P conn (behind conn h) in subst Q same.1 here
   | inr other ↦ subst (P conn) (sym (others conn other.1)) (nowhere conn)

@@ -47,7 +47,7 @@ pub fn check_audit(
     read_text(alloc, table, declared, loads, text)
 }
 
-/// Reads a text line by line, and answers what is to be answered of it.
+// Reads a text line by line, and answers what is to be answered of it.
 fn read_text(
     alloc: Global,
     table: &Table,

@@ -62,7 +62,7 @@ impl Connections {
         }
     }
 
-    /// The same for the first happening on its connection.
+    // The same for the first happening on its connection.
     fn begin(
         &mut self,
         alloc: Global,
@@ -101,7 +101,7 @@ impl Connections {
     }
 }
 
-/// The earlier of two rules for which something is open, where there are any.
+// The earlier of two rules for which something is open, where there are any.
 fn earlier(one: Option<Rule>, other: Option<Rule>) -> Option<Rule>
     ensures { IsEarlier one other result }
 {
@@ -114,7 +114,7 @@ fn earlier(one: Option<Rule>, other: Option<Rule>) -> Option<Rule>
     }
 }
 
-/// The place of a rule among the others.
+// The place of a rule among the others.
 fn order_of(rule: Rule) -> u8
     ensures { result ≡ order_of rule }
 {

@@ -52,7 +52,7 @@ impl Row {
         Row { current, rest }
     }
 
-    /// The same, at the first connection of whose calls some are left, if there is one.
+    // The same, at the first connection of whose calls some are left, if there is one.
     fn at_next(self) -> Row
         ensures same { (T : Table) (limit : ℕ) (h : History) (told : List StandsLine) → IsRow T limit h told self
             → IsRow T limit h told result }
@@ -106,7 +106,7 @@ impl Row {
     }
 }
 
-/// Takes out the first connection, if there is one.
+// Takes out the first connection, if there is one.
 fn pop(rest: &mut BTreeMap<u32, Checker>) -> Option<Turn>
     ensures popped { Popped rest.old result rest.new }
     ensures rise { Rise (conns_of result rest.new) }
@@ -116,7 +116,7 @@ fn pop(rest: &mut BTreeMap<u32, Checker>) -> Option<Turn>
     Some(Turn { conn, checker })
 }
 
-/// Whether there is a connection of which all calls that stand are told.
+// Whether there is a connection of which all calls that stand are told.
 fn is_told(current: &Option<Turn>) -> bool
     ensures some { IsTrue result → IsSome current.now }
     ensures told { (T : Table) (limit : ℕ) (h : History) (told : List StandsLine)
@@ -128,7 +128,7 @@ fn is_told(current: &Option<Turn>) -> bool
     }
 }
 
-/// The level and the cost at which a call is held.
+// The level and the cost at which a call is held.
 fn held(holding: Option<Holding>) -> Option<(u64, u64)>
     ensures { result ≡ option_map (λ held. (held.level, held.cost)) holding }
 {

@@ -64,7 +64,7 @@ impl Stage {
         }
     }
 
-    /// No happening comes any more, from this line on.
+    // No happening comes any more, from this line on.
     fn row(self, line: u64) -> Result<Row, Illegal>
         ensures { (T : Table) (limit : ℕ) (h : History) (told : List StandsLine) → IsStage T limit h told self
             → (told ≡ [] → line ≡ length h + 1)
@@ -93,7 +93,7 @@ impl Stage {
         *self = stage.tell(table, told, line);
     }
 
-    /// How the lines are judged with one more, that of a call that stands.
+    // How the lines are judged with one more, that of a call that stands.
     fn tell(self, table: &Table, told: Told, line: u64) -> Stage
         requires valid { IsValid table.now }
         requires known { (limit : ℕ) × (h : History) × (before : List StandsLine)
@@ -127,7 +127,7 @@ impl Stage {
     }
 }
 
-/// The answer of a legal history with so many lines of calls that stand behind it.
+// The answer of a legal history with so many lines of calls that stand behind it.
 fn whole(row: Row, happenings: u64, stands: u64) -> Checked
     requires { happenings + stands + 1 < 2 ^ 64 }
     ensures { (T : Table) (limit : ℕ) (h : History) (told : List StandsLine) → IsLegal T limit h

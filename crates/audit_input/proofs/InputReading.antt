@@ -18,9 +18,16 @@ use Rattle.audit_input.specs.Reading.{IsStopOf, stop_of}
 use Rattle.audit_input.proofs.TextLines.{cut_text}
 
 -- the fault of an item stops the reading
-pub stop_by : (T : Table) (text : List ℕ) (d : Declared) (rest line behind : List ℕ) (f : ItemForm) (e : ScriptFault) → Reads T nothing text d rest → IsCut rest line behind → item_form_in (words_of line) ≡ Some f
+pub stop_by : (T : Table) (text : List ℕ) (d : Declared) (rest line behind : List ℕ) (f : ItemForm) (e : ScriptFault)
+    → Reads T nothing text d rest → IsCut rest line behind → item_form_in (words_of line) ≡ Some f
     → items.IsFaultOf T false d f line behind e → IsStopOf T text (stop_of (length rest) e)
-stop_by T text d rest line behind f (fault.At at reason) reads cut form fails = record { declared = d; rest = rest; reads = reads; left_is = refl; stop = in_item line behind f cut form fails }
+stop_by T text d rest line behind f (fault.At at reason) reads cut form fails = record {
+  declared = d;
+  rest = rest;
+  reads = reads;
+  left_is = refl;
+  stop = in_item line behind f cut form fails;
+}
 stop_by T text d rest line behind f fault.Memory reads cut form fails = tt
 
 pub front_fault : (text : List ℕ) (e : ScriptFault) → fronts.IsFaultOf first_line text e → IsFaultOf text e
@@ -28,13 +35,16 @@ front_fault text (fault.At at reason) h = in_front h
 front_fault text fault.Memory h = tt
 
 -- the lines in front of the rest
-pub lines_before : (text front rest : List ℕ) (left n : ℕ) → text ≡ front ++ rest → left ≡ length rest → n ≡ line_count (take (length text - left) text) → n ≡ line_count front
+pub lines_before : (text front rest : List ℕ) (left n : ℕ) → text ≡ front ++ rest → left ≡ length rest
+    → n ≡ line_count (take (length text - left) text) → n ≡ line_count front
 lines_before text front rest left n is at count =
     let long : length front ≡ length text - left = omega (arith, ap length is, length-append front rest, at) in
     count ∙ ap (λ (t : List ℕ). line_count (take (length text - left) t)) is ∙ ap line_count (take_at front rest (length text - left) long)
 
 -- a line at fault stands on one of the rest, or right behind
-pub stop_place : (T : Table) (d : Declared) (rest : List ℕ) (at : ℕ) (r : ScriptReason) → ((f : ItemForm) (line text : List ℕ) (n : ℕ) (q : ScriptReason) → FailsAt T false d f line text n q → n ≤ line_count text + 2)
+pub stop_place : (T : Table) (d : Declared) (rest : List ℕ) (at : ℕ) (r : ScriptReason)
+    → ((f : ItemForm) (line text : List ℕ) (n : ℕ) (q : ScriptReason) → FailsAt T false d f line text n q
+    → n ≤ line_count text + 2)
     → Stops T d rest at r → at ≤ length rest + 2
 stop_place T d rest at r place (in_item line behind f cut form fails) =
     let some = place f line behind at r fails in

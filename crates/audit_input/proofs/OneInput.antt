@@ -24,7 +24,8 @@ pub record FrontLaws : Type 0 where
   pub front : (first text : List ℕ) (m n : ℕ) (T U : Table) (x y : List ℕ) → IsFront first text m T x → IsFront first text n U y → (m ≡ n) × (T ≡ U) × (x ≡ y)
   pub fault : (first text : List ℕ) (m n : ℕ) (r q : ScriptReason) → IsFrontFault first text m r → IsFrontFault first text n q → (m ≡ n) × (r ≡ q)
   pub not_both : (first text : List ℕ) (loads : ℕ) (T : Table) (x : List ℕ) (line : ℕ) (r : ScriptReason) → IsFront first text loads T x → IsFrontFault first text line r → ⊥
-  pub some : (first text : List ℕ) → ((loads : ℕ) × (T : Table) × (x : List ℕ) × IsFront first text loads T x) ⊎ ((line : ℕ) × (r : ScriptReason) × IsFrontFault first text line r)
+  pub some : (first text : List ℕ) → ((loads : ℕ) × (T : Table) × (x : List ℕ) × IsFront first text loads T x)
+      ⊎ ((line : ℕ) × (r : ScriptReason) × IsFrontFault first text line r)
 
 -- ---- nothing is sound
 
@@ -41,15 +42,21 @@ nothing_sound = record {
 
 module _ (laws : Laws) where
   -- what stands before the rest
-  pub before : (text : List ℕ) (loads : ℕ) (T : Table) (behind : List ℕ) (d : Declared) (rest : List ℕ) → IsFront first_line text loads T behind → Reads T nothing behind d rest → (front : List ℕ) × (text ≡ front ++ rest)
+  pub before : (text : List ℕ) (loads : ℕ) (T : Table) (behind : List ℕ) (d : Declared) (rest : List ℕ)
+      → IsFront first_line text loads T behind → Reads T nothing behind d rest
+      → (front : List ℕ) × (text ≡ front ++ rest)
   before text loads T behind d rest f reads =
       let end = reads_end laws T nothing behind d rest reads in
       let table : List ℕ = table_text T in
       let whole : text ≡ ((f.head ++ table) ++ codes "end\n") ++ behind =
-      f.text_is ∙ sym (append_assoc f.head table (codes "end\n" ++ behind)) ∙ sym (append_assoc (f.head ++ table) (codes "end\n") behind) in
-      (((f.head ++ table) ++ codes "end\n") ++ end.0, whole ∙ ap (λ (t : List ℕ). ((f.head ++ table) ++ codes "end\n") ++ t) end.1 ∙ sym (append_assoc ((f.head ++ table) ++ codes "end\n") end.0 rest))
+      f.text_is ∙ sym (append_assoc f.head table (codes "end\n" ++ behind)) ∙ sym (append_assoc (f.head ++ table) (codes "end\n") behind) in (
+        ((f.head ++ table) ++ codes "end\n") ++ end.0,
+        whole ∙ ap (λ (t : List ℕ). ((f.head ++ table) ++ codes "end\n") ++ t) end.1
+            ∙ sym (append_assoc ((f.head ++ table) ++ codes "end\n") end.0 rest),
+      )
 
-pub says : (text : List ℕ) (loads : ℕ) (T : Table) (behind : List ℕ) (d : Declared) (rest x front : List ℕ) → IsFront first_line text loads T behind → Reads T nothing behind d rest → rest ≡ audit_line ++ 10 ∷ x
+pub says : (text : List ℕ) (loads : ℕ) (T : Table) (behind : List ℕ) (d : Declared) (rest x front : List ℕ)
+    → IsFront first_line text loads T behind → Reads T nothing behind d rest → rest ≡ audit_line ++ 10 ∷ x
     → text ≡ front ++ rest → Says text loads T d x (line_behind front)
 says text loads T behind d rest x front f reads is at = record {
   behind = behind;
@@ -68,11 +75,15 @@ module _ (fronts : FrontLaws) (laws : Laws) where
   same_audit : (x y : List ℕ) → audit_line ++ 10 ∷ x ≡ audit_line ++ 10 ∷ y → x ≡ y
   same_audit x y e = append_cancel_left (audit_line ++ 10 ∷ []) x y e
 
-  pub one : (text : List ℕ) (m n : ℕ) (T U : Table) (d e : Declared) (x y : List ℕ) (k l : ℕ) → Says text m T d x k → Says text n U e y l → (m ≡ n) × (T ≡ U) × (d ≡ e) × (x ≡ y) × (k ≡ l)
+  pub one : (text : List ℕ) (m n : ℕ) (T U : Table) (d e : Declared) (x y : List ℕ) (k l : ℕ) → Says text m T d x k
+      → Says text n U e y l → (m ≡ n) × (T ≡ U) × (d ≡ e) × (x ≡ y) × (k ≡ l)
   one text m n T U d e x y k l h g =
       let front = fronts.front first_line text m n T U h.behind g.behind h.front g.front in
-      let run = one_run laws T nothing h.behind d e (audit_line ++ 10 ∷ x) (audit_line ++ 10 ∷ y) h.reads (moved_reads T U h.behind g.behind e (audit_line ++ 10 ∷ y) front.1 front.2 g.reads) (last_audit T d x) (last_audit T e y) in
-      let before : h.before ≡ g.before = append_cancel_right h.before g.before (audit_line ++ 10 ∷ y) (ap (λ (t : List ℕ). h.before ++ t) (sym run.1) ∙ sym h.text_is ∙ g.text_is) in
+      let run = one_run laws T nothing h.behind d e (audit_line ++ 10 ∷ x) (audit_line ++ 10 ∷ y) h.reads
+      (moved_reads T U h.behind g.behind e (audit_line ++ 10 ∷ y) front.1 front.2 g.reads) (last_audit T d x)
+      (last_audit T e y) in
+      let before : h.before ≡ g.before = append_cancel_right h.before g.before (audit_line ++ 10 ∷ y)
+      (ap (λ (t : List ℕ). h.before ++ t) (sym run.1) ∙ sym h.text_is ∙ g.text_is) in
       (front.0, front.1, run.0, same_audit x y run.1, h.line_is ∙ ap line_behind before ∙ sym g.line_is)
 
   same_place : (before other x y : List ℕ) (text : List ℕ) → text ≡ before ++ x → text ≡ other ++ y → x ≡ y → before ≡ other
@@ -96,7 +107,9 @@ module _ (fronts : FrontLaws) (laws : Laws) where
       let same = fronts.front first_line text loads limit T U h.behind behind h.front head in
       let last : Stops T b rest at r = subst (λ (V : Table). Stops V b rest at r) (sym same.1) stop in
       let both =
-      one_run laws T nothing h.behind d b (audit_line ++ 10 ∷ x) rest h.reads (moved_reads T U h.behind behind b rest same.1 same.2 run) (last_audit T d x) (stop_is_last laws T b rest at r last) in
+      one_run laws T nothing h.behind d b (audit_line ++ 10 ∷ x) rest h.reads
+      (moved_reads T U h.behind behind b rest same.1 same.2 run) (last_audit T d x)
+      (stop_is_last laws T b rest at r last) in
       stop_or_audit laws T d x at r (subst (λ (z : List ℕ). Stops T d z at r) (sym both.1) (subst (λ (c : Declared). Stops T c rest at r) (sym both.0) last))
 
   abbrev IsTold : List ℕ → Type 0
@@ -118,15 +131,18 @@ module _ (fronts : FrontLaws) (laws : Laws) where
     | inr bad ↦ inr (bad.0, bad.1, in_front bad.2)
   ]
 
-pub sound : ((T : Table) (skips : Bool) (d : Declared) (f : ItemForm) (line text : List ℕ) (i : Item) (x : List ℕ) → IsSound d → Declares T skips d f line text i x → IsSound (with_item d i))
+pub sound : ((T : Table) (skips : Bool) (d : Declared) (f : ItemForm) (line text : List ℕ) (i : Item) (x : List ℕ)
+    → IsSound d → Declares T skips d f line text i x → IsSound (with_item d i))
     → (text : List ℕ) (loads : ℕ) (T : Table) (d : Declared) (x : List ℕ) (k : ℕ) → Says text loads T d x k → IsValid T × IsSound d
 sound stays text loads T d x k h = (h.front.valid, reads_sound T (stays T) nothing h.behind d (audit_line ++ 10 ∷ x) nothing_sound h.reads)
 
 -- what the answer says
 pub only_one : (text : List ℕ) (r : Result AuditInput ScriptFault)
-    → ((t : List ℕ) (m n : ℕ) (T U : Table) (d e : Declared) (x y : List ℕ) (k l : ℕ) → Says t m T d x k → Says t n U e y l → (m ≡ n) × (T ≡ U) × (d ≡ e) × (x ≡ y) × (k ≡ l))
+    → ((t : List ℕ) (m n : ℕ) (T U : Table) (d e : Declared) (x y : List ℕ) (k l : ℕ) → Says t m T d x k
+    → Says t n U e y l → (m ≡ n) × (T ≡ U) × (d ≡ e) × (x ≡ y) × (k ≡ l))
     → ((t : List ℕ) (loads : ℕ) (T : Table) (d : Declared) (x : List ℕ) (k line : ℕ) (q : ScriptReason) → Says t loads T d x k → IsFault t line q → ⊥)
-    → MatchResult r (λ a. Says text a.loads a.table a.declared a.text.now a.line) (IsFaultOf text) → (loads : ℕ) (T : Table) (d : Declared) (rest : List ℕ) (line : ℕ) → Says text loads T d rest line
+    → MatchResult r (λ a. Says text a.loads a.table a.declared a.text.now a.line) (IsFaultOf text)
+    → (loads : ℕ) (T : Table) (d : Declared) (rest : List ℕ) (line : ℕ) → Says text loads T d rest line
     → MatchResult r (λ a. (a.loads ≡ loads) × (a.table ≡ T) × (a.declared ≡ d) × (a.text.now ≡ rest) × (a.line ≡ line)) (λ e. e ≡ fault.Memory)
 only_one text (Ok a) same apart h loads T d rest line spelled = same text a.loads loads a.table T a.declared d a.text.now rest a.line line h spelled
 only_one text (Err (fault.At at reason)) same apart h loads T d rest line spelled = absurd (apart text loads T d rest line at reason spelled h)

@@ -1,5 +1,6 @@
 -- The items of a text, one behind another, up to a line `audit` or to what stops them.
-use Rattle.std.proofs.Common.{◌≡◌, ◌⊎◌, ℕ, zero, suc, ◌<◌, ◌≤◌, Bool, false, List, [], ◌∷◌, ◌++◌, length, Option, Some, None, refl, sym, ap, ◌∙◌, subst, inl, inr, append_assoc, arith}
+use Rattle.std.proofs.Common.{◌≡◌, ◌⊎◌, ℕ, zero, suc, ◌<◌, ◌≤◌, Bool, false, List, [], ◌∷◌, ◌++◌, length, Option}
+use Rattle.std.proofs.Common.{Some, None, refl, sym, ap, ◌∙◌, subst, inl, inr, append_assoc, arith}
 use Rattle.std.specs.Str.{bytes_eq}
 use Rattle.std.proofs.lemmas.Bool.{cases_Bool, false≢true}
 use Rattle.std.proofs.lemmas.List.{length-append}
@@ -18,11 +19,17 @@ use Rattle.audit_input.proofs.TextLines.{same_line, same_behind, cut_or_last, cu
 
 -- what is known of items
 pub record Laws : Type 0 where
-  pub one : (T : Table) (skips : Bool) (d : Declared) (f : ItemForm) (line text : List ℕ) (i j : Item) (x y : List ℕ) → Declares T skips d f line text i x → Declares T skips d f line text j y → (i ≡ j) × (x ≡ y)
-  pub one_fault : (T : Table) (skips : Bool) (d : Declared) (f : ItemForm) (line text : List ℕ) (m n : ℕ) (r q : ScriptReason) → FailsAt T skips d f line text m r → FailsAt T skips d f line text n q → (m ≡ n) × (r ≡ q)
-  pub not_both : (T : Table) (skips : Bool) (d : Declared) (f : ItemForm) (line text : List ℕ) (i : Item) (x : List ℕ) (n : ℕ) (r : ScriptReason) → Declares T skips d f line text i x → FailsAt T skips d f line text n r → ⊥
-  pub either : (T : Table) (skips : Bool) (d : Declared) (f : ItemForm) (line text : List ℕ) → ((i : Item) × (x : List ℕ) × Declares T skips d f line text i x) ⊎ ((n : ℕ) × (r : ScriptReason) × FailsAt T skips d f line text n r)
-  pub left : (T : Table) (skips : Bool) (d : Declared) (f : ItemForm) (line text : List ℕ) (i : Item) (x : List ℕ) → Declares T skips d f line text i x → (passed : List ℕ) × (text ≡ passed ++ x)
+  pub one : (T : Table) (skips : Bool) (d : Declared) (f : ItemForm) (line text : List ℕ) (i j : Item) (x y : List ℕ)
+      → Declares T skips d f line text i x → Declares T skips d f line text j y → (i ≡ j) × (x ≡ y)
+  pub one_fault : (T : Table) (skips : Bool) (d : Declared) (f : ItemForm) (line text : List ℕ) (m n : ℕ)
+      (r q : ScriptReason) → FailsAt T skips d f line text m r → FailsAt T skips d f line text n q → (m ≡ n) × (r ≡ q)
+  pub not_both : (T : Table) (skips : Bool) (d : Declared) (f : ItemForm) (line text : List ℕ) (i : Item) (x : List ℕ)
+      (n : ℕ) (r : ScriptReason) → Declares T skips d f line text i x → FailsAt T skips d f line text n r → ⊥
+  pub either : (T : Table) (skips : Bool) (d : Declared) (f : ItemForm) (line text : List ℕ)
+      → ((i : Item) × (x : List ℕ) × Declares T skips d f line text i x)
+      ⊎ ((n : ℕ) × (r : ScriptReason) × FailsAt T skips d f line text n r)
+  pub left : (T : Table) (skips : Bool) (d : Declared) (f : ItemForm) (line text : List ℕ) (i : Item) (x : List ℕ)
+      → Declares T skips d f line text i x → (passed : List ℕ) × (text ≡ passed ++ x)
 
 -- ---- the line `audit`
 
@@ -42,13 +49,17 @@ same_form words line f g e h k = same_Some f g (sym h ∙ ap (λ (t : List ℕ).
 
 -- no item stands next
 abbrev pub IsLast : Table → Declared → List ℕ → Type 0
-IsLast T d rest = (line behind more : List ℕ) (f : ItemForm) (i : Item) → IsCut rest line behind → item_form_in (words_of line) ≡ Some f → Declares T false d f line behind i more → ⊥
+IsLast T d rest = (line behind more : List ℕ) (f : ItemForm) (i : Item) → IsCut rest line behind
+    → item_form_in (words_of line) ≡ Some f → Declares T false d f line behind i more → ⊥
 
 pub last_audit : (T : Table) (d : Declared) (rest : List ℕ) → IsLast T d (audit_line ++ 10 ∷ rest)
 last_audit T d rest line behind more f i cut form declares =
-    none_some f (item_form_in (words_of line)) (ap (λ (t : List ℕ). item_form_in (words_of t)) (same_line (audit_line ++ 10 ∷ rest) line audit_line behind rest cut (audit_cut rest)) ∙ no_form) form
+    none_some f (item_form_in (words_of line))
+    (ap (λ (t : List ℕ). item_form_in (words_of t))
+    (same_line (audit_line ++ 10 ∷ rest) line audit_line behind rest cut (audit_cut rest)) ∙ no_form) form
 
-lead_more : (T : Table) (d : Declared) (text : List ℕ) (items : List Item) (e : Declared) (rest : List ℕ) (i : Item) (more : List ℕ) → Lead T d text items e rest → IsNext T e rest i more
+lead_more : (T : Table) (d : Declared) (text : List ℕ) (items : List Item) (e : Declared) (rest : List ℕ) (i : Item)
+    (more : List ℕ) → Lead T d text items e rest → IsNext T e rest i more
     → Lead T d text (items ++ i ∷ []) (with_item e i) more
 lead_more T d text [] e rest i more h next =
     (more, subst (λ (t : List ℕ). IsNext T d t i more) h.1 (subst (λ (b : Declared). IsNext T b rest i more) h.0 next), (ap (λ (b : Declared). with_item b i) h.0, refl))
@@ -72,7 +83,8 @@ module _ (laws : Laws) (T : Table) where
       let left = laws.left T false d n.form n.line n.behind i h.0 n.declares in
       let end = lead_end (with_item d i) h.0 items e rest h.2 in (
         (n.line ++ 10 ∷ []) ++ (left.0 ++ end.0),
-        cut_text text n.line n.behind n.cut ∙ ap (λ (t : List ℕ). (n.line ++ 10 ∷ []) ++ t) (left.1 ∙ ap (λ (t : List ℕ). left.0 ++ t) end.1 ∙ sym (append_assoc left.0 end.0 rest))
+        cut_text text n.line n.behind n.cut ∙ ap (λ (t : List ℕ). (n.line ++ 10 ∷ []) ++ t)
+            (left.1 ∙ ap (λ (t : List ℕ). left.0 ++ t) end.1 ∙ sym (append_assoc left.0 end.0 rest))
             ∙ sym (append_assoc (n.line ++ 10 ∷ []) (left.0 ++ end.0) rest),
       )
 
@@ -85,7 +97,9 @@ module _ (laws : Laws) (T : Table) where
       let behinds = same_behind rest line l behind b cut c in
       let forms = same_form l line f g lines form h in
       laws.not_both T false d g l b i more at r declares
-      (subst (λ (t : List ℕ). FailsAt T false d g l t at r) behinds (subst (λ (t : List ℕ). FailsAt T false d g t behind at r) lines (subst (λ (x : ItemForm). FailsAt T false d x line behind at r) forms fails)))
+      (subst (λ (t : List ℕ). FailsAt T false d g l t at r) behinds
+      (subst (λ (t : List ℕ). FailsAt T false d g t behind at r) lines
+      (subst (λ (x : ItemForm). FailsAt T false d x line behind at r) forms fails)))
   stop_last d rest at r (no_item line behind cut other form e q) l b more g i c h declares =
       none_some g (item_form_in (words_of line)) form (ap (λ (t : List ℕ). item_form_in (words_of t)) (same_line rest line l behind b cut c) ∙ h)
   stop_last d rest at r (no_feed some last e q) l b more g i c h declares = cut_or_last rest l b c last
@@ -94,26 +108,33 @@ module _ (laws : Laws) (T : Table) where
   -- a line `audit` isn't at fault
   pub stop_or_audit : (d : Declared) (rest : List ℕ) (at : ℕ) (r : ScriptReason) → Stops T d (audit_line ++ 10 ∷ rest) at r → ⊥
   stop_or_audit d rest at r (in_item line behind f cut form fails) =
-      none_some f (item_form_in (words_of line)) (ap (λ (t : List ℕ). item_form_in (words_of t)) (same_line (audit_line ++ 10 ∷ rest) line audit_line behind rest cut (audit_cut rest)) ∙ no_form) form
+      none_some f (item_form_in (words_of line))
+      (ap (λ (t : List ℕ). item_form_in (words_of t))
+      (same_line (audit_line ++ 10 ∷ rest) line audit_line behind rest cut (audit_cut rest)) ∙ no_form) form
   stop_or_audit d rest at r (no_item line behind cut other form e q) = other (same_line (audit_line ++ 10 ∷ rest) line audit_line behind rest cut (audit_cut rest))
   stop_or_audit d rest at r (no_feed some last e q) = cut_or_last (audit_line ++ 10 ∷ rest) audit_line rest (audit_cut rest) last
   stop_or_audit d rest at r (no_audit empty e q) = absurd cc
 
   -- ---- one run
 
-  no_next : (d : Declared) (text : List ℕ) (e : Declared) (rest : List ℕ) (i : Item) (more : List ℕ) → e ≡ d → rest ≡ text → IsNext T d text i more → IsLast T e rest → ⊥
+  no_next : (d : Declared) (text : List ℕ) (e : Declared) (rest : List ℕ) (i : Item) (more : List ℕ) → e ≡ d
+      → rest ≡ text → IsNext T d text i more → IsLast T e rest → ⊥
   no_next d text e rest i more same at n last =
-      last n.line n.behind more n.form i (subst (λ (t : List ℕ). IsCut t n.line n.behind) (sym at) n.cut) n.form_is (subst (λ (b : Declared). Declares T false b n.form n.line n.behind i more) (sym same) n.declares)
+      last n.line n.behind more n.form i (subst (λ (t : List ℕ). IsCut t n.line n.behind) (sym at) n.cut) n.form_is
+      (subst (λ (b : Declared). Declares T false b n.form n.line n.behind i more) (sym same) n.declares)
 
   same_next : (d : Declared) (text : List ℕ) (i j : Item) (x y : List ℕ) → IsNext T d text i x → IsNext T d text j y → (i ≡ j) × (x ≡ y)
   same_next d text i j x y a b =
       let lines = same_line text a.line b.line a.behind b.behind a.cut b.cut in
       let behinds = same_behind text a.line b.line a.behind b.behind a.cut b.cut in
       let forms = same_form b.line a.line a.form b.form lines a.form_is b.form_is in
-      let moved = subst (λ (t : List ℕ). Declares T false d b.form b.line t i x) behinds (subst (λ (t : List ℕ). Declares T false d b.form t a.behind i x) lines (subst (λ (z : ItemForm). Declares T false d z a.line a.behind i x) forms a.declares)) in
+      let moved = subst (λ (t : List ℕ). Declares T false d b.form b.line t i x) behinds
+      (subst (λ (t : List ℕ). Declares T false d b.form t a.behind i x) lines
+      (subst (λ (z : ItemForm). Declares T false d z a.line a.behind i x) forms a.declares)) in
       laws.one T false d b.form b.line b.behind i j x y moved b.declares
 
-  one_lead : (d : Declared) (text : List ℕ) (is js : List Item) (e g : Declared) (x y : List ℕ) → Lead T d text is e x → Lead T d text js g y → IsLast T e x → IsLast T g y → (e ≡ g) × (x ≡ y)
+  one_lead : (d : Declared) (text : List ℕ) (is js : List Item) (e g : Declared) (x y : List ℕ) → Lead T d text is e x
+      → Lead T d text js g y → IsLast T e x → IsLast T g y → (e ≡ g) × (x ≡ y)
   one_lead d text [] [] e g x y h k last end = (h.0 ∙ sym k.0, h.1 ∙ sym k.1)
   one_lead d text [] (j ∷ js) e g x y h k last end = absurd (no_next d text e x j k.0 h.0 h.1 k.1 last)
   one_lead d text (i ∷ is) [] e g x y h k last end = absurd (no_next d text g y i h.0 k.0 k.1 h.1 end)
@@ -133,16 +154,20 @@ module _ (laws : Laws) (T : Table) where
       let behinds = same_behind rest line l behind b cut c in
       let forms = same_form l line f g lines form h in
       laws.one_fault T false d g l b m n r q
-      (subst (λ (t : List ℕ). FailsAt T false d g l t m r) behinds (subst (λ (t : List ℕ). FailsAt T false d g t behind m r) lines (subst (λ (x : ItemForm). FailsAt T false d x line behind m r) forms fails))) other
+      (subst (λ (t : List ℕ). FailsAt T false d g l t m r) behinds
+      (subst (λ (t : List ℕ). FailsAt T false d g t behind m r) lines
+      (subst (λ (x : ItemForm). FailsAt T false d x line behind m r) forms fails))) other
   one_stop d rest m n r q (in_item line behind f cut form fails) (no_item l b c other h e g) =
       absurd (none_some f (item_form_in (words_of l)) h (ap (λ (t : List ℕ). item_form_in (words_of t)) (same_line rest l line b behind c cut) ∙ form))
   one_stop d rest m n r q (in_item line behind f cut form fails) (no_feed some last e g) = absurd (cut_or_last rest line behind cut last)
-  one_stop d rest m n r q (in_item line behind f cut form fails) (no_audit empty e g) = absurd (cut_or_last rest line behind cut (ap pieces_of empty ∙ ap (λ (t : List ℕ). t ∷ []) (sym empty)))
+  one_stop d rest m n r q (in_item line behind f cut form fails) (no_audit empty e g) =
+      absurd (cut_or_last rest line behind cut (ap pieces_of empty ∙ ap (λ (t : List ℕ). t ∷ []) (sym empty)))
   one_stop d rest m n r q (no_item line behind cut other form e g) (in_item l b f c h fails) =
       absurd (none_some f (item_form_in (words_of line)) form (ap (λ (t : List ℕ). item_form_in (words_of t)) (same_line rest line l behind b cut c) ∙ h))
   one_stop d rest m n r q (no_item line behind cut other form e g) (no_item l b c another h k p) = (e ∙ sym k, g ∙ sym p)
   one_stop d rest m n r q (no_item line behind cut other form e g) (no_feed some last k p) = absurd (cut_or_last rest line behind cut last)
-  one_stop d rest m n r q (no_item line behind cut other form e g) (no_audit empty k p) = absurd (cut_or_last rest line behind cut (ap pieces_of empty ∙ ap (λ (t : List ℕ). t ∷ []) (sym empty)))
+  one_stop d rest m n r q (no_item line behind cut other form e g) (no_audit empty k p) =
+      absurd (cut_or_last rest line behind cut (ap pieces_of empty ∙ ap (λ (t : List ℕ). t ∷ []) (sym empty)))
   one_stop d rest m n r q (no_feed some last e g) (in_item l b f c h fails) = absurd (cut_or_last rest l b c last)
   one_stop d rest m n r q (no_feed some last e g) (no_item l b c another h k p) = absurd (cut_or_last rest l b c last)
   one_stop d rest m n r q (no_feed some last e g) (no_feed any end k p) = (e ∙ sym k, g ∙ sym p)
@@ -174,7 +199,8 @@ module _ (laws : Laws) (T : Table) where
   abbrev GoesOn : List ℕ → Type 0
   GoesOn text = (d : Declared) (more : List ℕ) → length more < length text → IsRun d more
 
-  run_item : (d : Declared) (text line behind : List ℕ) (f : ItemForm) → IsCut text line behind → length behind < length text → item_form_in (words_of line) ≡ Some f → GoesOn text → IsRun d text
+  run_item : (d : Declared) (text line behind : List ℕ) (f : ItemForm) → IsCut text line behind
+      → length behind < length text → item_form_in (words_of line) ≡ Some f → GoesOn text → IsRun d text
   run_item d text line behind f cut less form on = elim (laws.either T false d f line behind) [
     | inr fault ↦ stopped d text fault.0 fault.1 (in_item line behind f cut form fault.2)
     | inl next ↦
@@ -191,7 +217,8 @@ module _ (laws : Laws) (T : Table) where
         }
   ]
 
-  run_line : (d : Declared) (text line behind : List ℕ) (o : Option ItemForm) → item_form_in (words_of line) ≡ o → IsCut text line behind → length behind < length text → GoesOn text → IsRun d text
+  run_line : (d : Declared) (text line behind : List ℕ) (o : Option ItemForm) → item_form_in (words_of line) ≡ o
+      → IsCut text line behind → length behind < length text → GoesOn text → IsRun d text
   run_line d text line behind (Some f) form cut less on = run_item d text line behind f cut less form on
   run_line d text line behind None form cut less on = elim (cases_Bool (bytes_eq line audit_line)) [
     | inl is ↦ record {
@@ -203,7 +230,9 @@ module _ (laws : Laws) (T : Table) where
     | inr isnt ↦ stopped d text 1 Word (no_item line behind cut (λ e. false≢true (sym isnt ∙ (bytes_eq-Decides line audit_line).1 e)) form refl refl)
   ]
 
-  run_by : (d : Declared) (text : List ℕ) → (pieces_of text ≡ text ∷ []) ⊎ ((line : List ℕ) × (behind : List ℕ) × IsCut text line behind × (length behind < length text)) → GoesOn text → IsRun d text
+  run_by : (d : Declared) (text : List ℕ)
+      → (pieces_of text ≡ text ∷ []) ⊎ ((line : List ℕ) × (behind : List ℕ) × IsCut text line behind
+      × (length behind < length text)) → GoesOn text → IsRun d text
   run_by d text (inl last) on = run_last d text last
   run_by d text (inr more) on = run_line d text more.0 more.1 (item_form_in (words_of more.0)) refl more.2 more.3 on
 
@@ -217,7 +246,8 @@ module _ (laws : Laws) (T : Table) where
   pub stop_is_last : (d : Declared) (rest : List ℕ) (at : ℕ) (r : ScriptReason) → Stops T d rest at r → IsLast T d rest
   stop_is_last d rest at r stop = stop_last d rest at r stop
 
-module _ (T : Table) (sound : (skips : Bool) (d : Declared) (f : ItemForm) (line text : List ℕ) (i : Item) (x : List ℕ) → IsSound d → Declares T skips d f line text i x → IsSound (with_item d i)) where
+module _ (T : Table) (sound : (skips : Bool) (d : Declared) (f : ItemForm) (line text : List ℕ) (i : Item)
+    (x : List ℕ) → IsSound d → Declares T skips d f line text i x → IsSound (with_item d i)) where
   lead_sound : (d : Declared) (text : List ℕ) (items : List Item) (e : Declared) (rest : List ℕ) → IsSound d → Lead T d text items e rest → IsSound e
   lead_sound d text [] e rest s h = subst IsSound (sym h.0) s
   lead_sound d text (i ∷ items) e rest s h = lead_sound (with_item d i) h.0 items e rest (sound false d h.1.form h.1.line h.1.behind i h.0 s h.1.declares) h.2

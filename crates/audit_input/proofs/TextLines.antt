@@ -1,5 +1,6 @@
 -- The lines of a text, one by one.
-use Rattle.std.proofs.Common.{◌≡◌, ◌⊎◌, ℕ, ◌<◌, ◌==◌, Bool, true, false, cond, List, [], ◌∷◌, ◌++◌, length, refl, sym, ap, ◌∙◌, inl, inr, append_assoc, arith}
+use Rattle.std.proofs.Common.{◌≡◌, ◌⊎◌, ℕ, ◌<◌, ◌==◌, Bool, true, false, cond, List, [], ◌∷◌, ◌++◌, length, refl, sym}
+use Rattle.std.proofs.Common.{ap, ◌∙◌, inl, inr, append_assoc, arith}
 use Rattle.std.specs.List.{onto_first, join_with_byte}
 use Rattle.std.proofs.lemmas.List.Splits.{join_with_byte-slice_split}
 use Rattle.mrpc_table.specs.Lines.{pieces_of}
@@ -40,7 +41,10 @@ cut_or_last text line behind cut last =
 pub cut_text : (text line behind : List ℕ) → IsCut text line behind → text ≡ (line ++ 10 ∷ []) ++ behind
 cut_text text line behind cut =
     let p = has_piece behind in
-    sym (join_with_byte-slice_split 10 text) ∙ ap (join_with_byte 10) (cut ∙ ap (λ (ps : List (List ℕ)). line ∷ ps) p.2) ∙ ap (λ (t : List ℕ). line ++ 10 ∷ t) (ap (join_with_byte 10) (sym p.2) ∙ join_with_byte-slice_split 10 behind)
+    sym (join_with_byte-slice_split 10 text)
+    ∙ ap (join_with_byte 10) (cut ∙ ap (λ (ps : List (List ℕ)). line ∷ ps) p.2)
+    ∙ ap (λ (t : List ℕ). line ++ 10 ∷ t) (ap (join_with_byte 10) (sym p.2)
+    ∙ join_with_byte-slice_split 10 behind)
     ∙ sym (append_assoc line (10 ∷ []) behind)
 
 pub split : (text : List ℕ) → (pieces_of text ≡ text ∷ []) ⊎ ((line : List ℕ) × (behind : List ℕ) × IsCut text line behind × (length behind < length text))

@@ -16,10 +16,10 @@ use script_head::read_front;
 use script_words::{ScriptFault, ScriptReason};
 use std::alloc::Global;
 
-/// The first line, with its line feed.
+// The first line, with its line feed.
 const FIRST_LINE: &[u8] = b"mrpc-audit 1\n";
 
-/// The line behind which the audit stands.
+// The line behind which the audit stands.
 const AUDIT: &[u8] = b"audit";
 
 /// What the input of `audit` says.
@@ -36,7 +36,7 @@ pub struct AuditInput<'a> {
     pub line: u64,
 }
 
-/// What is declared in front of the line `audit`, and what stands from that line on and behind it.
+// What is declared in front of the line `audit`, and what stands from that line on and behind it.
 #[derive(Drop)]
 struct Items<'a> {
     declared: Declarations,
@@ -46,7 +46,7 @@ struct Items<'a> {
     text: &'a [u8],
 }
 
-/// Why the items of a text weren't read up to a line `audit`.
+// Why the items of a text weren't read up to a line `audit`.
 #[derive(Clone, Copy)]
 enum Stop {
     /// A line is at fault, counted from 1 at the front of the bytes that are left.
@@ -111,7 +111,7 @@ fn input_of(alloc: Global, text: &[u8]) -> Result<AuditInput<'_>, ScriptFault>
     }
 }
 
-/// What is declared in front of the line `audit`, and what stands from there on.
+// What is declared in front of the line `audit`, and what stands from there on.
 fn read_items<'a>(alloc: Global, table: &Table, text: &'a [u8]) -> Result<Items<'a>, Stop>
     requires { IsValid table.now }
     ensures { MatchResult result (λ i. AreItems table.now text.now i) (IsStopOf table.now text.now) }
@@ -148,14 +148,14 @@ fn read_items<'a>(alloc: Global, table: &Table, text: &'a [u8]) -> Result<Items<
     Err(stopped(rest, reason))
 }
 
-/// Whether it is the line behind which the audit stands.
+// Whether it is the line behind which the audit stands.
 fn is_audit(line: &[u8]) -> bool
     ensures { result ≡ bytes_eq line.now audit_line }
 {
     line == AUDIT
 }
 
-/// The item at the front of these bytes is at fault.
+// The item at the front of these bytes is at fault.
 fn stopped_by(rest: &[u8], fault: ScriptFault) -> Stop
     ensures { result ≡ stop_of (length rest.now) fault }
 {
@@ -169,7 +169,7 @@ fn stopped_by(rest: &[u8], fault: ScriptFault) -> Stop
     }
 }
 
-/// The line at the front of these bytes is at fault.
+// The line at the front of these bytes is at fault.
 fn stopped(rest: &[u8], reason: ScriptReason) -> Stop
     ensures { result ≡ Stop.At (length rest.now) 1 reason }
 {

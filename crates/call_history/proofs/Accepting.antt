@@ -1,5 +1,6 @@
 -- A call is accepted, and refused at once where it is malformed.
-use Rattle.std.proofs.Common.{◌≡◌, ◌≢◌, ℕ, ◌+◌, ◌<◌, ◌≤◌, ◌==◌, cond, not, false, true, inl, inr, List, [], ◌∷◌, ◌++◌, length, map, refl, sym, ap, ◌∙◌, subst, arith, length-append, append-nil}
+use Rattle.std.proofs.Common.{◌≡◌, ◌≢◌, ℕ, ◌+◌, ◌<◌, ◌≤◌, ◌==◌, cond, not, false, true, inl, inr, List, [], ◌∷◌, ◌++◌}
+use Rattle.std.proofs.Common.{length, map, refl, sym, ap, ◌∙◌, subst, arith, length-append, append-nil}
 use Rattle.std.specs.Prelude.{All, Contains}
 use Rattle.std.proofs.lemmas.Bool.{eq-eqb, ne_eqb}
 use Rattle.std.proofs.lemmas.List.{map-append}
@@ -45,7 +46,9 @@ copied-holds u c call h running take has =
     record {
       prefix = (h.prefix, may-take u c.past call free take);
       settled = record { malformed = has; quota = λ awaits. awaits; link = works-on new free.works };
-      row = row-weaker u new 0 0 call.seq (length (taken new)) (length (chain new).entries) (length (chain new).entries) (c.row ++ (call.seq, 0) ∷ []) (omega arith) (omega (arith, next, longer)) (omega arith)
+      row = row-weaker u new 0 0 call.seq (length (taken new)) (length (chain new).entries)
+          (length (chain new).entries) (c.row ++ (call.seq, 0) ∷ []) (omega arith) (omega (arith, next, longer))
+          (omega arith)
           (row-more u new 0 (length (taken c.past)) call.seq (length (chain c.past).entries) c.row (omega (arith, next)) (omega (arith, next))
           (row-kept u c.past new 0 (length (taken c.past)) (length (chain c.past).entries) c.row (keeps-taken u c.past call (length (taken c.past)) (omega (arith, next))) h.row));
       calls =
@@ -59,10 +62,14 @@ copied-holds u c call h running take has =
       none_left = λ ended. (let wrong : false ≡ true = sym running ∙ ended in absurd cc);
     }
   where
-    ascends : (name : List ℕ) (s : ℕ) → noted name s c.past ≡ nothing → Contains (map (λ (other : Taken). other.seq) (standing c.past) ++ call.seq ∷ []) s → All (λ other. other < s) (noted_calls name c.past)
+    ascends : (name : List ℕ) (s : ℕ) → noted name s c.past ≡ nothing
+        → Contains (map (λ (other : Taken). other.seq) (standing c.past) ++ call.seq ∷ []) s
+        → All (λ other. other < s) (noted_calls name c.past)
     ascends name s none has = elim (Contains-push_cases (map (λ (other : Taken). other.seq) (standing c.past)) call.seq s has) [
       | inl stood ↦ h.notes_ascend name s stood none
-      | inr same ↦ All-weaker (λ n. n ≤ length (taken c.past)) (λ n. n < s) (λ n few. omega (arith, few, same, take.number)) (noted_calls name c.past) (noted-few u c.past name h.prefix)
+      | inr same ↦ All-weaker (λ n. n ≤ length (taken c.past)) (λ n. n < s)
+          (λ n few. omega (arith, few, same, take.number)) (noted_calls name c.past)
+          (noted-few u c.past name h.prefix)
     ]
 
 -- ---- without one
@@ -96,7 +103,8 @@ malformed-holds u c call h running take lacks =
     record {
       prefix = ((h.prefix, may-take u c.past call free take), may-refuse_malformed u c.past call lacks free.works);
       settled = record { malformed = λ awaits. awaits; quota = λ awaits. awaits; link = works-on new free.works };
-      row = row-weaker u new 0 0 (length (taken c.past)) (length (taken new)) (length (chain new).entries) (length (chain new).entries) c.row (omega arith) (omega (arith, longer)) (omega arith)
+      row = row-weaker u new 0 0 (length (taken c.past)) (length (taken new)) (length (chain new).entries)
+          (length (chain new).entries) c.row (omega arith) (omega (arith, longer)) (omega arith)
           (row-kept u c.past new 0 (length (taken c.past)) (length (chain c.past).entries) c.row (keeps-refused u c.past call (length (taken c.past)) (omega (arith, next))) h.row);
       calls = h.calls ∙ ap (map (λ (other : Taken). other.seq)) (sym stand);
       notes_ascend = λ name s stands none. h.notes_ascend name s (subst (λ (calls : List Taken). Contains (map (λ other. other.seq) calls) s) stand stands) none;
@@ -109,7 +117,16 @@ malformed-holds u c call h running take lacks =
 by-copy : (u : Under) (c : Course) (call : Taken) (copy : TookCopy)
     → ((HasNoCopy copy → ⊥) → Holds u (record c { past = Took call ∷ c.past; row = c.row ++ (call.seq, 0) ∷ [] }))
     → (HasNoCopy copy → Holds u (record c { past = Refused call.seq cause.Malformed ∷ Took call ∷ c.past }))
-    → Holds u (elim copy [ Copy tree ↦ record c { past = Took call ∷ c.past; row = c.row ++ (call.seq, 0) ∷ [] } | Malformed reason place value ↦ record c { past = Refused call.seq cause.Malformed ∷ Took call ∷ c.past } ])
+    → Holds u (elim copy [
+      | Copy tree ↦ record c {
+        past = Took call ∷ c.past;
+        row = c.row ++ (call.seq, 0) ∷ [];
+      }
+      | Malformed reason place value ↦ record c {
+        past =
+            Refused call.seq cause.Malformed ∷ Took call ∷ c.past;
+      }
+    ])
 by-copy u c call (Copy tree) has lacks = has (λ none. none)
 by-copy u c call (Malformed reason place value) has lacks = lacks tt
 

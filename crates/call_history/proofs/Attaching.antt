@@ -1,5 +1,7 @@
 -- An attachment leaves the entries before it, and what those noted.
-use Rattle.std.proofs.Common.{◌≡◌, ℕ, ◌+◌, ◌<◌, ◌≤◌, zero, suc, min, Bool, true, false, cond, inl, inr, List, [], ◌∷◌, ◌++◌, length, map, take, drop, refl, sym, ap, subst, arith, length-append, length-take-le}
+use Rattle.std.proofs.Common.{◌≡◌, ℕ, ◌+◌, ◌<◌, ◌≤◌, zero, suc, min, Bool, true, false, cond, inl, inr, List, [], ◌∷◌}
+use Rattle.std.proofs.Common.{◌++◌, length, map, take, drop, refl, sym, ap, subst, arith, length-append}
+use Rattle.std.proofs.Common.{length-take-le}
 use Rattle.std.specs.Prelude.{All, Contains}
 use Rattle.std.specs.Str.{bytes_eq}
 use Rattle.std.proofs.lemmas.Bool.{cases_lt}
@@ -61,11 +63,15 @@ attached_holds u c at name label policy h changes =
         → All (Lets u (Op (Attach at name label policy) ∷ c.past) seq) (take k (chain c.past).entries)
     front-lets seq k free lets = all-step (Lets u c.past seq) (Lets u (Op (Attach at name label policy) ∷ c.past) seq) (take k (chain c.past).entries)
         (λ e has let_e. lets-still u c.past (Op (Attach at name label policy) ∷ c.past) seq e refl
-        (ap (λ b. cond b nothing (noted e.name seq c.past)) (other-name name e.name (λ same. free.apart (subst (λ (n : List ℕ). Contains (names_of (chain c.past).entries) n) (sym same) (named-there (chain c.past).entries e (in-front (chain c.past).entries k e has))))))
+        (ap (λ b. cond b nothing (noted e.name seq c.past))
+        (other-name name e.name
+        (λ same. free.apart (subst (λ (n : List ℕ). Contains (names_of (chain c.past).entries) n) (sym same)
+        (named-there (chain c.past).entries e (in-front (chain c.past).entries k e has))))))
         let_e)
         lets
 
-    keeps : IsFree (chain c.past).entries at name → (seq position : ℕ) → StandsAt u c.past seq position → StandsAt u (Op (Attach at name label policy) ∷ c.past) seq (min position at)
+    keeps : IsFree (chain c.past).entries at name → (seq position : ℕ) → StandsAt u c.past seq position
+        → StandsAt u (Op (Attach at name label policy) ∷ c.past) seq (min position at)
     keeps free seq position stands = record {
       within = omega (arith, longer (chain c.past).entries at (new_entry name ((chain c.past).attached + 1) policy) free.within);
       let_pass = subst (λ (xs : List Entry). All (Lets u (Op (Attach at name label policy) ∷ c.past) seq) xs)

@@ -68,7 +68,9 @@ same-entry (x ∷ es) a b apart has_a has_b same = elim (contains-cases x es a h
 pub front-apart : (front back : List Entry) (e x : Entry) → AreDistinct (names_of (front ++ e ∷ back)) → Contains front x → x.name ≢ e.name
 front-apart [] back e x apart has same = absurd (omega (arith, has.1))
 front-apart (y ∷ front) back e x apart has same = elim (contains-cases y front x has) [
-  | inl is ↦ apart.0 (subst (λ (n : List ℕ). Contains (names_of (front ++ e ∷ back)) n) (sym same ∙ ap (λ (z : Entry). z.name) (sym is)) (named-there (front ++ e ∷ back) e (contains-middle front back e)))
+  | inl is ↦ apart.0 (subst (λ (n : List ℕ). Contains (names_of (front ++ e ∷ back)) n)
+      (sym same ∙ ap (λ (z : Entry). z.name) (sym is))
+      (named-there (front ++ e ∷ back) e (contains-middle front back e)))
   | inr rest ↦ front-apart front back e x apart.1 rest same
 ]
 

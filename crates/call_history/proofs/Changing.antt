@@ -59,7 +59,9 @@ detached-entries front back e apart =
     ∙ ap (λ (xs : List Entry). xs ++ others_of e.name back) (kept e.name front (λ x has. front-apart front back e x apart has))
     ∙ ap (λ (xs : List Entry). front ++ xs) (kept e.name back (λ x has. back-apart front back e x apart has))
 
-upgraded-entries : (front back : List Entry) (e : Entry) (policy : Policy) → AreDistinct (names_of (front ++ e ∷ back)) → with_upgraded e.name policy (front ++ e ∷ back) ≡ front ++ upgraded e policy ∷ back
+upgraded-entries : (front back : List Entry) (e : Entry) (policy : Policy)
+    → AreDistinct (names_of (front ++ e ∷ back)) → with_upgraded e.name policy (front ++ e ∷ back) ≡ front
+    ++ upgraded e policy ∷ back
 upgraded-entries front back e policy apart =
     map-append (λ (x : Entry). if is_named e.name x then upgraded x policy else x) front (e ∷ back)
     ∙ ap (λ b. with_upgraded e.name policy front ++ cond b (upgraded e policy) e ∷ with_upgraded e.name policy back) (equal-name e.name e.name refl)
@@ -72,12 +74,15 @@ makes-changed before after op apart (attaches at name label policy front back is
 makes-changed before after op apart (detaches name e front back is whole named result) =
     let distinct : AreDistinct (names_of (front ++ e ∷ back)) = subst (λ (es : List Entry). AreDistinct (names_of es)) whole apart in
     result
-    ∙ ap (with_entries before.attached) (sym (detached-entries front back e distinct) ∙ ap (λ (n : List ℕ). others_of n (front ++ e ∷ back)) named ∙ ap (others_of name) (sym whole))
+    ∙ ap (with_entries before.attached) (sym (detached-entries front back e distinct)
+    ∙ ap (λ (n : List ℕ). others_of n (front ++ e ∷ back)) named ∙ ap (others_of name) (sym whole))
     ∙ ap (λ (o : Step). changed o before) (sym is)
 makes-changed before after op apart (upgrades name label policy e front back is whole named result) =
     let distinct : AreDistinct (names_of (front ++ e ∷ back)) = subst (λ (es : List Entry). AreDistinct (names_of es)) whole apart in
     result
-    ∙ ap (with_entries before.attached) (sym (upgraded-entries front back e policy distinct) ∙ ap (λ (n : List ℕ). with_upgraded n policy (front ++ e ∷ back)) named ∙ ap (with_upgraded name policy) (sym whole))
+    ∙ ap (with_entries before.attached) (sym (upgraded-entries front back e policy distinct)
+    ∙ ap (λ (n : List ℕ). with_upgraded n policy (front ++ e ∷ back)) named ∙ ap (with_upgraded name policy)
+    (sym whole))
     ∙ ap (λ (o : Step). changed o before) (sym is)
 
 pub changes-changed : (before after : Chain) (op : Step) → IsChain before → Changes before op after → after ≡ changed op before

@@ -71,7 +71,9 @@ clear_events =
 abbrev clear_end : Course
 clear_end = record { past = Sent 1 18 ∷ cleared but_5; row = []; ended = false }
 
-pub ready-cleared : (c : Course) → first_at (length (chain c.past).entries) c.row ≡ Some (1, length (chain c.past).entries) → form 1 1 c.past ≡ Some (form_of 1 7) → IsReady under_two c 1 18
+pub ready-cleared : (c : Course)
+    → first_at (length (chain c.past).entries) c.row ≡ Some (1, length (chain c.past).entries)
+    → form 1 1 c.past ≡ Some (form_of 1 7) → IsReady under_two c 1 18
 unfolding varint groups
 ready-cleared c first is = record { first = first; sent = form_of 1 7; is_form = is; long = refl }
 
@@ -81,22 +83,50 @@ lead-cleared = (
   changes (Attach 0 acl acl (Access but_5)) refl (attached [] 0 0 [] [] acl acl (Access but_5) (none-in acl) (omega arith) refl refl refl (omega arith)) refl,
   (
     _,
-    changes (Attach 1 cut cut (Redact clears)) refl (attached (acl_entry but_5 ∷ []) 1 1 (acl_entry but_5 ∷ []) [] cut cut (Redact clears) apart-cut (omega arith) refl refl refl (omega arith)) refl,
+    changes (Attach 1 cut cut (Redact clears)) refl
+        (attached (acl_entry but_5 ∷ []) 1 1 (acl_entry but_5 ∷ []) [] cut cut (Redact clears) apart-cut
+        (omega arith) refl refl refl (omega arith)) refl,
     (
       _,
       takes seven_nine refl refl (record { number = refl; few = omega arith; loads = omega arith; copy = (omega arith, normal-whole) }) refl,
       (
         _,
-        has_turn 0 1 (outcomes.Passed notes.Nothing) (acl_entry but_5) refl (record { entry = refl; first = refl; call = form_whole; is_form = refl; comes = turns.passes (answers.allows but_5 refl refl refl) refl }) refl,
+        has_turn 0 1 (outcomes.Passed notes.Nothing) (acl_entry but_5) refl (record {
+          entry = refl;
+          first = refl;
+          call = form_whole;
+          is_form = refl;
+          comes = turns.passes (answers.allows but_5 refl refl refl) refl;
+        })
+            refl,
         (
           _,
-          has_turn 1 1 outcomes.Redacted cut_entry refl (record { entry = refl; first = refl; call = form_whole; is_form = refl; comes = turns.is_redacted (answers.redacts clears refl (λ same. cc) refl) refl }) refl,
+          has_turn 1 1 outcomes.Redacted cut_entry refl (record {
+            entry = refl;
+            first = refl;
+            call = form_whole;
+            is_form = refl;
+            comes = turns.is_redacted (answers.redacts clears refl (λ same. cc) refl) refl;
+          }) refl,
           (
             _,
-            has_turn 0 1 (outcomes.Passed notes.Nothing) (acl_entry but_5) refl (record { entry = refl; first = refl; call = form_of 1 7; is_form = refl; comes = turns.passes (answers.allows but_5 refl refl refl) refl }) refl,
+            has_turn 0 1 (outcomes.Passed notes.Nothing) (acl_entry but_5) refl (record {
+              entry = refl;
+              first = refl;
+              call = form_of 1 7;
+              is_form = refl;
+              comes = turns.passes (answers.allows but_5 refl refl refl) refl;
+            })
+                refl,
             (
               _,
-              has_turn 1 1 (outcomes.Passed notes.Nothing) cut_entry refl (record { entry = refl; first = refl; call = form_of 1 7; is_form = refl; comes = turns.passes (answers.is_clear clears refl refl refl) refl }) refl,
+              has_turn 1 1 (outcomes.Passed notes.Nothing) cut_entry refl (record {
+                entry = refl;
+                first = refl;
+                call = form_of 1 7;
+                is_form = refl;
+                comes = turns.passes (answers.is_clear clears refl refl refl) refl;
+              }) refl,
               (_, is_sent 1 18 refl refl (ready-cleared _ refl refl) refl, refl),
             ),
           ),

@@ -1,5 +1,7 @@
 -- No call is redacted twice for one attachment and version.
-use Rattle.std.proofs.Common.{◌≡◌, ◌≢◌, ℕ, ◌+◌, ◌<◌, ◌≤◌, ◌==◌, ◌&&◌, Bool, true, false, cond, not, inl, inr, List, [], ◌∷◌, ◌++◌, length, take, drop, refl, sym, ap, ◌∙◌, subst, arith, take-append-drop, length-append}
+use Rattle.std.proofs.Common.{◌≡◌, ◌≢◌, ℕ, ◌+◌, ◌<◌, ◌≤◌, ◌==◌, ◌&&◌, Bool, true, false, cond, not, inl, inr, List}
+use Rattle.std.proofs.Common.{[], ◌∷◌, ◌++◌, length, take, drop, refl, sym, ap, ◌∙◌, subst, arith, take-append-drop}
+use Rattle.std.proofs.Common.{length-append}
 use Rattle.std.specs.Prelude.{All, Contains, find, IsSomeAnd, Option, Some, None, option_map}
 use Rattle.std.specs.Str.{bytes_eq}
 use Rattle.std.proofs.lemmas.Bool.{and_parts, cases_eq, eqb-true, and_left}
@@ -98,7 +100,8 @@ none-cleared u (Op (Attach at other label policy) ∷ past) seq name prefix abov
 none-cleared u (Took call ∷ past) seq name prefix above = none-cleared u past seq name prefix.0 (omega (arith, above, length-append (taken past) (call ∷ [])))
 none-cleared u (Redacted call other version ∷ past) seq name prefix above =
     let few : call ≤ length (taken past) = stood u past call prefix.0 prefix.1.notes_due.at.call_stands in
-    ap (λ b. cond b (version ∷ cleared_in name seq past) (cleared_in name seq past)) (and_left (call == seq) (bytes_eq other name) (ne_eqb call seq (λ same. omega (arith, same, few, above))))
+    ap (λ b. cond b (version ∷ cleared_in name seq past) (cleared_in name seq past))
+    (and_left (call == seq) (bytes_eq other name) (ne_eqb call seq (λ same. omega (arith, same, few, above))))
     ∙ none-cleared u past seq name prefix.0 above
 none-cleared u (x ∷ past) seq name prefix above = none-cleared u past seq name prefix.0 above
 
@@ -111,7 +114,9 @@ attached u past at seq name label policy e has before = record { versions = (giv
     apart test same = let yes : bytes_eq name e.name ≡ true = equal-name name e.name same in let wrong : true ≡ false = sym yes ∙ test in cc
 
     given : (b : Bool) → bytes_eq name e.name ≡ b
-        → All (λ version. version ≤ e.version) (cond b [] (cleared_in e.name seq past)) × (Contains (cond b [] (cleared_in e.name seq past)) e.version → IsClearOf e.policy (form u.conn seq past))
+        → All (λ version. version ≤ e.version) (cond b [] (cleared_in e.name seq past))
+        × (Contains (cond b [] (cleared_in e.name seq past)) e.version
+        → IsClearOf e.policy (form u.conn seq past))
     given true test = (All-nil (λ version. version ≤ e.version), λ has. absurd (none-in e.version has))
     given false test =
         let old : IsClearBy u past seq e = before e (old-entry (chain past).entries at (new_entry name ((chain past).attached + 1) policy) e (apart test) has) in (old.versions, old.clear)
@@ -123,36 +128,51 @@ upgraded-clear u past seq name label policy e from before =
   where
     given : (b : Bool) → IsClearBy u past seq from.old → IsClearBy u (Op (Upgrade name label policy) ∷ past) seq (cond b (upgraded from.old policy) from.old)
     given true old = record {
-      versions = All-weaker (λ version. version ≤ from.old.version) (λ version. version ≤ from.old.version + 1) (λ version le. omega (arith, le)) (cleared_in from.old.name seq past) old.versions;
+      versions = All-weaker (λ version. version ≤ from.old.version) (λ version. version ≤ from.old.version + 1)
+          (λ version le. omega (arith, le)) (cleared_in from.old.name seq past) old.versions;
       clear = λ has. absurd (omega (arith, All-contains (λ version. version ≤ from.old.version) (cleared_in from.old.name seq past) (from.old.version + 1) old.versions has));
     }
     given false old = record { versions = old.versions; clear = old.clear }
 
-redacted-clear : Laws → (u : Under) (past : Behind) (call seq version : ℕ) (other : List ℕ) (e : Entry) → IsPrefix u past → IsCleared u past call other version → Contains (chain past).entries e
+redacted-clear : Laws → (u : Under) (past : Behind) (call seq version : ℕ) (other : List ℕ) (e : Entry)
+    → IsPrefix u past → IsCleared u past call other version → Contains (chain past).entries e
     → IsClearBy u past seq e → IsClearBy u (Redacted call other version ∷ past) seq e
-redacted-clear laws u past call seq version other e prefix due there old = record { versions = (given ((call == seq) && bytes_eq other e.name) refl).0; clear = (given ((call == seq) && bytes_eq other e.name) refl).1 }
+redacted-clear laws u past call seq version other e prefix due there old =
+    record {
+      versions = (given ((call == seq) && bytes_eq other e.name) refl).0;
+      clear = (given ((call == seq) && bytes_eq other e.name) refl).1;
+    }
   where
     -- the form is as it was, or another policy cleared it
     others : IsClearOf e.policy (form u.conn seq past) → IsClearOf e.policy (form u.conn seq (Redacted call other version ∷ past))
     others is = elim (cases_eq call seq) [
-      | inl same ↦ subst (λ (f : Option Call). IsClearOf e.policy f) (sym (ap (λ n. form u.conn seq (Redacted n other version ∷ past)) same ∙ form-cleared u.conn seq version other past))
+      | inl same ↦ subst (λ (f : Option Call). IsClearOf e.policy f)
+          (sym (ap (λ n. form u.conn seq (Redacted n other version ∷ past)) same
+          ∙ form-cleared u.conn seq version other past))
           (clear-still laws.either e.policy (policy_of other past) (form u.conn seq past) is)
       | inr apart ↦ subst (λ (f : Option Call). IsClearOf e.policy f) (sym (form-others u.conn call seq version other past apart)) is
     ]
 
     entry-is : other ≡ e.name → due.entry ≡ e
-    entry-is same = same-entry (chain past).entries due.entry e (chained laws.chains u past prefix).names (contains-in (chain past).entries due.at.front due.at.back due.entry due.at.entries) there (due.at.named ∙ same)
+    entry-is same = same-entry (chain past).entries due.entry e (chained laws.chains u past prefix).names
+        (contains-in (chain past).entries due.at.front due.at.back due.entry due.at.entries) there
+        (due.at.named ∙ same)
 
     policy-is : other ≡ e.name → policy_of other past ≡ Some e.policy
     policy-is same =
         ap (λ (n : List ℕ). policy_of n past) (sym due.at.named)
         ∙ ap (λ (es : List Entry). option_map (λ x. x.policy) (find (is_named due.entry.name) es)) due.at.entries
-        ∙ ap (option_map (λ (x : Entry). x.policy)) (find-entry due.at.front due.at.back due.entry (subst (λ (es : List Entry). AreDistinct (names_of es)) due.at.entries (chained laws.chains u past prefix).names))
+        ∙ ap (option_map (λ (x : Entry). x.policy))
+        (find-entry due.at.front due.at.back due.entry
+        (subst (λ (es : List Entry). AreDistinct (names_of es)) due.at.entries
+        (chained laws.chains u past prefix).names))
         ∙ ap (λ (x : Entry). Some x.policy) (entry-is same)
 
     here : call ≡ seq → other ≡ e.name → IsClearOf e.policy (form u.conn seq (Redacted call other version ∷ past))
     here number same = subst (λ (f : Option Call). IsClearOf e.policy f)
-        (sym (ap (λ n. form u.conn seq (Redacted n other version ∷ past)) number ∙ form-cleared u.conn seq version other past ∙ ap (λ (p : Option Policy). option_map (redacted p) (form u.conn seq past)) (policy-is same)))
+        (sym (ap (λ n. form u.conn seq (Redacted n other version ∷ past)) number
+        ∙ form-cleared u.conn seq version other past
+        ∙ ap (λ (p : Option Policy). option_map (redacted p) (form u.conn seq past)) (policy-is same)))
         (clear-after laws.again e.policy (form u.conn seq past))
 
     given : (b : Bool) → ((call == seq) && bytes_eq other e.name) ≡ b
@@ -182,7 +202,9 @@ clear-by laws u (Took call ∷ past) seq prefix e there =
         | inr apart ↦ subst (λ (f : Option Call). IsClearOf e.policy f) (sym (form-other u.conn seq past call apart)) (old.clear has)
       ];
     }
-clear-by laws u (Redacted call other version ∷ past) seq prefix e there = redacted-clear laws u past call seq version other e prefix.0 prefix.1.notes_due there (clear-by laws u past seq prefix.0 e there)
+clear-by laws u (Redacted call other version ∷ past) seq prefix e there =
+    redacted-clear laws u past call seq version other e prefix.0 prefix.1.notes_due there
+    (clear-by laws u past seq prefix.0 e there)
 clear-by laws u (x ∷ past) seq prefix e there = let old = clear-by laws u past seq prefix.0 e there in record { versions = old.versions; clear = old.clear }
 
 -- ---- so it isn't redacted again
@@ -206,7 +228,8 @@ gives-redact : (policy : Policy) (level moment : ℕ) (f : Option Call) (past : 
 gives-redact policy level moment None past is gives = gives
 gives-redact policy level moment (Some call) past is gives = not-redacts policy level moment call past is gives
 
-pub redacted-once : Laws → (u : Under) (past : Behind) (seq version : ℕ) (name : List ℕ) → IsPrefix u past → IsCleared u past seq name version → Contains (cleared_in name seq past) version → ⊥
+pub redacted-once : Laws → (u : Under) (past : Behind) (seq version : ℕ) (name : List ℕ) → IsPrefix u past
+    → IsCleared u past seq name version → Contains (cleared_in name seq past) version → ⊥
 redacted-once laws u past seq version name prefix due has =
     let e = due.entry in
     let at = due.at in

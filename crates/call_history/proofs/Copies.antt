@@ -45,10 +45,12 @@ not-awaits past x is clean awaits = awaits
 
 pub stands-copied : (u : Under) (past : Behind) (call : Taken) → IsPrefix u past → (AwaitsMalformed past → ⊥) → Contains (standing past) call → HasNoCopy call.copy → ⊥
 stands-copied u [] call prefix settled has none = omega (arith, has.1)
-stands-copied u (Took new ∷ past) call prefix settled has none = elim (Contains-push_cases (standing past) new call (subst (λ (cs : List Taken). Contains cs call) (standing-took u past new prefix.0 prefix.1.numbered.number) has)) [
-  | inl before ↦ stands-copied u past call prefix.0 (not-awaits past (Took new) prefix.1.malformed tt) before none
-  | inr same ↦ settled (subst (λ (c : Taken). HasNoCopy c.copy) (sym same) none)
-]
+stands-copied u (Took new ∷ past) call prefix settled has none =
+    elim (Contains-push_cases (standing past) new call
+    (subst (λ (cs : List Taken). Contains cs call) (standing-took u past new prefix.0 prefix.1.numbered.number) has)) [
+      | inl before ↦ stands-copied u past call prefix.0 (not-awaits past (Took new) prefix.1.malformed tt) before none
+      | inr same ↦ settled (subst (λ (c : Taken). HasNoCopy c.copy) (sym same) none)
+    ]
 stands-copied u (Refused seq cause.Malformed ∷ Took new ∷ past) call prefix settled has none =
     let number : seq ≡ new.seq = refused-at-once new.copy new.seq seq prefix.1.malformed in
     let same : standing (Refused seq cause.Malformed ∷ Took new ∷ past) ≡ standing past =
@@ -97,7 +99,8 @@ cleared-form normal u call (Some (Redact clears)) (Some x) (now, is, of_table, m
     let same : x ≡ now = cc in
     (cleared_call clears now, ap (λ (c : Call). Some (cleared_call clears c)) same, normal u.table clears now of_table, method, number)
 
-formed : StaysNormal → (u : Under) (past : Behind) (call : Taken) → IsPrefix u past → Contains (taken past) call → (HasNoCopy call.copy → ⊥) → FormIs u (form u.conn call.seq past) call
+formed : StaysNormal → (u : Under) (past : Behind) (call : Taken) → IsPrefix u past → Contains (taken past) call
+    → (HasNoCopy call.copy → ⊥) → FormIs u (form u.conn call.seq past) call
 formed normal u [] call prefix has copy = absurd (omega (arith, has.1))
 formed normal u (Took new ∷ past) call prefix has copy = elim (Contains-push_cases (taken past) new call has) [
   | inl before ↦ (
@@ -106,7 +109,9 @@ formed normal u (Took new ∷ past) call prefix has copy = elim (Contains-push_c
       subst (λ (f : Option Call). FormIs u f call) (sym (form-other u.conn call.seq past new (λ same. omega (arith, same, next, few)))) (formed normal u past call prefix.0 before copy)
       )
   | inr same ↦ subst (λ (c : Taken). FormIs u (form u.conn c.seq (Took new ∷ past)) c) same
-      (subst (λ (f : Option Call). FormIs u f new) (sym (form-own u.conn new.seq past new refl)) (copy-form u new new.copy prefix.1.numbered.copy (subst (λ (c : Taken). HasNoCopy c.copy → ⊥) (sym same) copy)))
+      (subst (λ (f : Option Call). FormIs u f new) (sym (form-own u.conn new.seq past new refl))
+      (copy-form u new new.copy prefix.1.numbered.copy (subst (λ (c : Taken). HasNoCopy c.copy
+      → ⊥) (sym same) copy)))
 ]
 formed normal u (Redacted seq name version ∷ past) call prefix has copy =
     let before : FormIs u (form u.conn call.seq past) call = formed normal u past call prefix.0 has copy in
@@ -118,7 +123,8 @@ formed normal u (Redacted seq name version ∷ past) call prefix has copy =
     ]
 formed normal u (x ∷ past) call prefix has copy = formed normal u past call prefix.0 has copy
 
-pub stands-formed : StaysNormal → (u : Under) (past : Behind) (call : Taken) → IsPrefix u past → (AwaitsMalformed past → ⊥) → Contains (standing past) call → HasForm u past call
+pub stands-formed : StaysNormal → (u : Under) (past : Behind) (call : Taken) → IsPrefix u past
+    → (AwaitsMalformed past → ⊥) → Contains (standing past) call → HasForm u past call
 stands-formed normal u past call prefix settled has =
     has-form u past call (formed normal u past call prefix (contains-kept (stands past) (taken past) call has) (stands-copied u past call prefix settled has))
 

@@ -1,5 +1,6 @@
 -- A detached entry leaves the others in their order.
-use Rattle.std.proofs.Common.{◌≡◌, ℕ, ◌+◌, ◌-◌, ◌<◌, ◌≤◌, zero, suc, Bool, true, false, cond, if◌then◌else◌, not, inl, inr, List, [], ◌∷◌, length, take, refl, sym, ap, ◌∙◌, subst, arith}
+use Rattle.std.proofs.Common.{◌≡◌, ℕ, ◌+◌, ◌-◌, ◌<◌, ◌≤◌, zero, suc, Bool, true, false, cond, if◌then◌else◌, not, inl}
+use Rattle.std.proofs.Common.{inr, List, [], ◌∷◌, length, take, refl, sym, ap, ◌∙◌, subst, arith}
 use Rattle.std.specs.Prelude.{All, Contains, filter, nat_lt}
 use Rattle.std.specs.Str.{bytes_eq}
 use Rattle.std.proofs.lemmas.Bool.{cases_lt, lt-ltb, le-ltb}
@@ -38,7 +39,8 @@ others-same name (e ∷ es) none =
 none-there : (name : List ℕ) (es : List Entry) → length es ≤ place_of name es → Contains (names_of es) name → ⊥
 none-there name [] past has = omega (arith, has.1)
 none-there name (e ∷ es) past has =
-    let given : (b : Bool) → is_named name e ≡ b → length es + 1 ≤ cond b 0 (place_of name es + 1) → ⊥ = λ b. elim b as (λ b. is_named name e ≡ b → length es + 1 ≤ cond b 0 (place_of name es + 1) → ⊥) [
+    let given : (b : Bool) → is_named name e ≡ b → length es + 1 ≤ cond b 0 (place_of name es + 1)
+    → ⊥ = λ b. elim b as (λ b. is_named name e ≡ b → length es + 1 ≤ cond b 0 (place_of name es + 1) → ⊥) [
       | true ↦ λ test past. omega (arith, past)
       | false ↦ λ test past. elim (contains-cases e.name (names_of es) name has) [
         | inl same ↦ (let yes : bytes_eq e.name name ≡ true = equal-name e.name name same in let no : false ≡ true = sym test ∙ yes in cc)
@@ -56,20 +58,28 @@ there before after name changes = elim (cases_lt (place_of name before.entries) 
 one-fewer : (name : List ℕ) (es : List Entry) → AreDistinct (names_of es) → place_of name es < length es → length (others_of name es) + 1 ≡ length es
 one-fewer name [] apart less = absurd (omega (arith, less))
 one-fewer name (e ∷ es) apart less =
-    let given : (b : Bool) → is_named name e ≡ b → cond b 0 (place_of name es + 1) < length es + 1 → length (cond (not b) (e ∷ others_of name es) (others_of name es)) + 1 ≡ length es + 1 = λ b. elim b as (λ b. is_named name e ≡ b → cond b 0 (place_of name es + 1) < length es + 1 → length (cond (not b) (e ∷ others_of name es) (others_of name es)) + 1 ≡ length es + 1) [
-      | true ↦ λ test less. ap (λ (xs : List Entry). length xs + 1) (others-same name es (λ has. apart.0 (subst (λ (n : List ℕ). Contains (names_of es) n) (sym (same-name e.name name test)) has)))
+    let given : (b : Bool) → is_named name e ≡ b → cond b 0 (place_of name es + 1) < length es + 1
+    → length (cond (not b) (e ∷ others_of name es) (others_of name es)) + 1 ≡ length es + 1 =
+    λ b. elim b as (λ b. is_named name e ≡ b → cond b 0 (place_of name es + 1) < length es + 1
+    → length (cond (not b) (e ∷ others_of name es) (others_of name es)) + 1 ≡ length es + 1) [
+      | true ↦ λ test less. ap (λ (xs : List Entry). length xs + 1)
+          (others-same name es
+          (λ has. apart.0 (subst (λ (n : List ℕ). Contains (names_of es) n) (sym (same-name e.name name test)) has)))
       | false ↦ λ test less. omega (arith, one-fewer name es apart.1 (omega (arith, less)))
     ] in
     omega (arith, given (is_named name e) refl (omega (arith, less)))
 
 -- what holds of the entries before a position holds of those before the one to which it moves
-front-all : (P : Entry → Type 0) (name : List ℕ) (es : List Entry) (p k : ℕ) → AreDistinct (names_of es) → (p ≤ place_of name es → k ≡ p) → (place_of name es < p → k + 1 ≡ p)
+front-all : (P : Entry → Type 0) (name : List ℕ) (es : List Entry) (p k : ℕ) → AreDistinct (names_of es)
+    → (p ≤ place_of name es → k ≡ p) → (place_of name es < p → k + 1 ≡ p)
     → All P (take p es) → All P (take k (others_of name es))
 front-all P name [] p k apart before behind all = all-none P k
 front-all P name (e ∷ es) zero k apart before behind all = subst (λ n. All P (take n (others_of name (e ∷ es)))) (sym (before (omega arith))) (All-nil P)
 front-all P name (e ∷ es) (suc p) k apart before behind all =
     let given : (b : Bool) → is_named name e ≡ b → (suc p ≤ cond b 0 (place_of name es + 1) → k ≡ suc p) → (cond b 0 (place_of name es + 1) < suc p → k + 1 ≡ suc p)
-    → All P (take k (cond (not b) (e ∷ others_of name es) (others_of name es))) = λ b. elim b as (λ b. is_named name e ≡ b → (suc p ≤ cond b 0 (place_of name es + 1) → k ≡ suc p) → (cond b 0 (place_of name es + 1) < suc p → k + 1 ≡ suc p)
+    → All P (take k (cond (not b) (e ∷ others_of name es) (others_of name es))) =
+    λ b. elim b as (λ b. is_named name e ≡ b → (suc p ≤ cond b 0 (place_of name es + 1) → k ≡ suc p)
+    → (cond b 0 (place_of name es + 1) < suc p → k + 1 ≡ suc p)
     → All P (take k (cond (not b) (e ∷ others_of name es) (others_of name es)))) [
       | true ↦ λ test before behind. here test (omega (arith, behind (omega arith)))
       | false ↦ λ test before behind. later k (λ m le lt. front-all P name es p m apart.1 le lt (All-tail P e (take p es) all)) before behind
@@ -85,7 +95,8 @@ front-all P name (e ∷ es) (suc p) k apart before behind all =
         → (suc p ≤ place_of name es + 1 → k ≡ suc p) → (place_of name es + 1 < suc p → k + 1 ≡ suc p) → All P (take k (e ∷ others_of name es))
     later zero rest before behind = All-nil P
     later (suc m) rest before behind = All-cons P e (take m (others_of name es)) (All-head P e (take p es) all)
-        (rest m (λ le. (let same : suc m ≡ suc p = before (omega (arith, le)) in omega (arith, same))) (λ lt. (let same : suc m + 1 ≡ suc p = behind (omega (arith, lt)) in omega (arith, same))))
+        (rest m (λ le. (let same : suc m ≡ suc p = before (omega (arith, le)) in omega (arith, same)))
+        (λ lt. (let same : suc m + 1 ≡ suc p = behind (omega (arith, lt)) in omega (arith, same))))
 
 moved-before : (place p : ℕ) → p ≤ place → moved place p ≡ p
 moved-before place p le = ap (λ b. cond b (p - 1) p) (le-ltb place p le)
@@ -118,7 +129,8 @@ detached_holds u c name stays h changes =
     moved-holds u c (Detach name) (moved (place_of name (chain c.past).entries)) h changes (record {
       rises = moved-rises (place_of name (chain c.past).entries);
       keeps = keeps apart stood fewer;
-      bound = moved-within (place_of name (chain c.past).entries) (length (chain c.past).entries) (length (chain c.past).entries) (length (others_of name (chain c.past).entries)) stood fewer (omega arith);
+      bound = moved-within (place_of name (chain c.past).entries) (length (chain c.past).entries)
+          (length (chain c.past).entries) (length (others_of name (chain c.past).entries)) stood fewer (omega arith);
       ascend = h.notes_ascend;
     })
   where

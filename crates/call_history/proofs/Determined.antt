@@ -10,7 +10,9 @@ use Rattle.engine_core.specs.Turns.{ComesOut, noted_in}
 use Rattle.engine_core.specs.declared.outcome.Outcome.{Outcome}
 use Rattle.engine_core.specs.declared.policy.Policy.{Policy}
 use Rattle.call_history.specs.Behind.{chain, level, moment, noted, standing}
-use Rattle.call_history.specs.Events.{Course, Event, accepts, turns_away, operates, shows, turns, sends, fails, Comes, takes, is_away, changes, rises, stays, has_turn, is_sent, link_failed, HasTurn, accepted, refused_for_link, turned}
+use Rattle.call_history.specs.Events.{Course, Event, accepts, turns_away, operates, shows, turns, sends, fails, Comes}
+use Rattle.call_history.specs.Events.{takes, is_away, changes, rises, stays, has_turn, is_sent, link_failed, HasTurn}
+use Rattle.call_history.specs.Events.{accepted, refused_for_link, turned}
 use Rattle.call_history.specs.Rules.{Under}
 use Rattle.call_history.specs.declared.happening.Happening.TheVariants.{Away, Op, Moment, Sent}
 use Rattle.call_history.proofs.Settling.{same-number}

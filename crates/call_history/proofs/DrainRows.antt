@@ -41,10 +41,24 @@ two_sent = record { past = Sent 2 18 ∷ Sent 1 18 ∷ Charged 2 rl 0 ∷ Charge
 turns-charged : Turns under 0 three_stand at_rest two_charged
 turns-charged =
     goes three_stand two_charged at_rest 1 (outcomes.Passed (notes.Charged 1000)) rate_entry
-    (record { entry = refl; first = refl; call = form_of 1 7; is_form = refl; comes = turns.is_noted (notes.Charged 1000) (answers.charges rate refl refl (omega arith) refl) (answers.was_charged rate refl (λ none. cc) refl) refl })
+    (record {
+      entry = refl;
+      first = refl;
+      call = form_of 1 7;
+      is_form = refl;
+      comes = turns.is_noted (notes.Charged 1000) (answers.charges rate refl refl (omega arith) refl)
+          (answers.was_charged rate refl (λ none. cc) refl) refl;
+    })
     tt
     (goes _ two_charged at_rest 2 (outcomes.Passed (notes.Charged 0)) rate_entry
-    (record { entry = refl; first = refl; call = form_of 2 7; is_form = refl; comes = turns.is_noted (notes.Charged 0) (answers.charges rate refl refl (omega arith) refl) (answers.was_charged rate refl (λ none. cc) refl) refl })
+    (record {
+      entry = refl;
+      first = refl;
+      call = form_of 2 7;
+      is_form = refl;
+      comes = turns.is_noted (notes.Charged 0) (answers.charges rate refl refl (omega arith) refl)
+          (answers.was_charged rate refl (λ none. cc) refl) refl;
+    })
     tt
     (is_held two_charged 3 0 1000 rate_entry
     (record { entry = refl; first = refl; call = form_of 3 7; is_form = refl; comes = turns.is_held 0 1000 (answers.holds rate refl refl (omega arith) refl refl) refl })))
@@ -97,7 +111,14 @@ drains-too_early = record {
   begins = record {
     between = too_early;
     passes = next 0 too_early too_early too_early (omega arith)
-        (is_held too_early 3 999 1000 rate_entry (record { entry = refl; first = refl; call = form_of 3 7; is_form = refl; comes = turns.is_held 999 1000 (answers.holds rate refl refl (omega arith) refl refl) refl }))
+        (is_held too_early 3 999 1000 rate_entry (record {
+          entry = refl;
+          first = refl;
+          call = form_of 3 7;
+          is_form = refl;
+          comes =
+              turns.is_held 999 1000 (answers.holds rate refl refl (omega arith) refl refl) refl;
+        }))
         (is_over 1 too_early refl);
     sent = none too_early;
   };

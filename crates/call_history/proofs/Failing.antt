@@ -52,7 +52,8 @@ may-refuse_first u past call calls malformed quota first =
       link_end = (λ failed. own, is_first);
     }
 
-pub refuse-all : (u : Under) (past : Behind) (calls : List Taken) → IsPrefix u past → (AwaitsMalformed past → ⊥) → (AwaitsQuota past → ⊥) → standing past ≡ calls → IsOver u (refused_for_link calls past)
+pub refuse-all : (u : Under) (past : Behind) (calls : List Taken) → IsPrefix u past → (AwaitsMalformed past → ⊥)
+    → (AwaitsQuota past → ⊥) → standing past ≡ calls → IsOver u (refused_for_link calls past)
 refuse-all u past [] prefix malformed quota none = record { prefix = prefix; malformed = malformed; quota = quota; none = none }
 refuse-all u past (call ∷ calls) prefix malformed quota first =
     let rises : Rising 0 (length (taken past)) (call ∷ calls) = subst (Rising 0 (length (taken past))) first (rising u past prefix) in

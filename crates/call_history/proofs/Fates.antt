@@ -1,5 +1,6 @@
 -- Each call has one fate at most, and calls are sent in the order of their numbers.
-use Rattle.std.proofs.Common.{◌≡◌, ℕ, ◌+◌, ◌<◌, ◌≤◌, ◌==◌, Bool, true, false, cond, not, inl, inr, List, [], ◌∷◌, ◌++◌, length, map, refl, sym, ap, ◌∙◌, subst, arith, append_assoc}
+use Rattle.std.proofs.Common.{◌≡◌, ℕ, ◌+◌, ◌<◌, ◌≤◌, ◌==◌, Bool, true, false, cond, not, inl, inr, List, [], ◌∷◌}
+use Rattle.std.proofs.Common.{◌++◌, length, map, refl, sym, ap, ◌∙◌, subst, arith, append_assoc}
 use Rattle.std.specs.Prelude.{All, Contains, filter, count_by}
 use Rattle.std.specs.List.{list_any}
 use Rattle.std.proofs.lemmas.Bool.{eq-eqb, eqb-true, not-true, or_parts, or_cases, or_left, or_right, cases_lt, false≢true}
@@ -24,7 +25,13 @@ use Rattle.call_history.proofs.Standing.{standing-took, standing-sent, standing-
 unfated-among : (past : Behind) (calls : List Taken) (seq : ℕ) → Contains (map (λ call. call.seq) (filter (stands past) calls)) seq → list_any (is_fate_of seq) past ≡ false
 unfated-among past [] seq has = absurd (omega (arith, has.1))
 unfated-among past (call ∷ calls) seq has =
-    let given : (b : Bool) → stands past call ≡ b → Contains (map (λ other. other.seq) (cond b (call ∷ filter (stands past) calls) (filter (stands past) calls))) seq → list_any (is_fate_of seq) past ≡ false = λ b. elim b as (λ b. stands past call ≡ b → Contains (map (λ other. other.seq) (cond b (call ∷ filter (stands past) calls) (filter (stands past) calls))) seq → list_any (is_fate_of seq) past ≡ false) [
+    let given : (b : Bool) → stands past call ≡ b
+    → Contains (map (λ other. other.seq)
+    (cond b (call ∷ filter (stands past) calls) (filter (stands past) calls))) seq
+    → list_any (is_fate_of seq) past ≡ false = λ b. elim b as (λ b. stands past call ≡ b
+    → Contains (map (λ other. other.seq)
+    (cond b (call ∷ filter (stands past) calls) (filter (stands past) calls))) seq
+    → list_any (is_fate_of seq) past ≡ false) [
       | true ↦ λ test has. elim (contains-cases call.seq (map (λ other. other.seq) (filter (stands past) calls)) seq has) [
         | inl same ↦ subst (λ n. list_any (is_fate_of n) past ≡ false) same (not-true (list_any (is_fate_of call.seq) past) test)
         | inr rest ↦ unfated-among past calls seq rest
@@ -37,7 +44,8 @@ pub unfated : (past : Behind) (seq : ℕ) → Contains (map (λ call. call.seq) 
 unfated past seq has = unfated-among past (taken past) seq has
 
 first-there : (calls others : List Taken) (call : Taken) → calls ≡ call ∷ others → Contains (map (λ other. other.seq) calls) call.seq
-first-there calls others call is = subst (λ (cs : List Taken). Contains (map (λ other. other.seq) cs) call.seq) (sym is) (contains-first call.seq (map (λ other. other.seq) others) call.seq refl)
+first-there calls others call is = subst (λ (cs : List Taken). Contains (map (λ other. other.seq) cs) call.seq)
+    (sym is) (contains-first call.seq (map (λ other. other.seq) others) call.seq refl)
 
 is-first-there : (calls : List Taken) (seq : ℕ) → IsFirst calls seq → Contains (map (λ other. other.seq) calls) seq
 is-first-there [] seq is = absurd is
@@ -68,7 +76,9 @@ none-counted : (seq : ℕ) (past : Behind) → list_any (is_fate_of seq) past �
 none-counted seq [] none = refl
 none-counted seq (x ∷ past) none =
     let parts = or_parts (is_fate_of seq x) (list_any (is_fate_of seq) past) none in
-    let same : count_by (is_fate_of seq) (x ∷ past) ≡ 0 + count_by (is_fate_of seq) past = sum_by-cons (λ y. cond (is_fate_of seq y) 1 0) x past ∙ ap (λ b. cond b 1 0 + count_by (is_fate_of seq) past) parts.0 in
+    let same : count_by (is_fate_of seq) (x ∷ past) ≡ 0 + count_by (is_fate_of seq) past =
+    sum_by-cons (λ y. cond (is_fate_of seq y) 1 0) x past ∙ ap (λ b. cond b 1 0 + count_by (is_fate_of seq) past)
+    parts.0 in
     omega (arith, same, none-counted seq past parts.1)
 
 fate-first : (u : Under) (past : Behind) (seq : ℕ) (x : Happening) → IsPrefix u past → May u past x → is_fate_of seq x ≡ true → list_any (is_fate_of seq) past ≡ false
@@ -80,12 +90,17 @@ fate-first u past seq x prefix may is = absurd (false≢true is)
 pub one_at_most : (u : Under) (past : Behind) (seq : ℕ) → IsPrefix u past → count_by (is_fate_of seq) past ≤ 1
 one_at_most u [] seq prefix = omega arith
 one_at_most u (x ∷ past) seq prefix =
-    let given : (b : Bool) → is_fate_of seq x ≡ b → count_by (is_fate_of seq) (x ∷ past) ≤ 1 = λ b. elim b as (λ b. is_fate_of seq x ≡ b → count_by (is_fate_of seq) (x ∷ past) ≤ 1) [
+    let given : (b : Bool) → is_fate_of seq x ≡ b → count_by (is_fate_of seq) (x ∷ past) ≤ 1 =
+    λ b. elim b as (λ b. is_fate_of seq x ≡ b → count_by (is_fate_of seq) (x ∷ past) ≤ 1) [
       | true ↦ λ is.
-          let more : count_by (is_fate_of seq) (x ∷ past) ≡ 1 + count_by (is_fate_of seq) past = sum_by-cons (λ y. cond (is_fate_of seq y) 1 0) x past ∙ ap (λ b. cond b 1 0 + count_by (is_fate_of seq) past) is in
+          let more : count_by (is_fate_of seq) (x ∷ past) ≡ 1 + count_by (is_fate_of seq) past =
+          sum_by-cons (λ y. cond (is_fate_of seq y) 1 0) x past
+          ∙ ap (λ b. cond b 1 0 + count_by (is_fate_of seq) past) is in
           omega (arith, more, none-counted seq past (fate-first u past seq x prefix.0 prefix.1 is))
       | false ↦ λ is.
-          let same : count_by (is_fate_of seq) (x ∷ past) ≡ 0 + count_by (is_fate_of seq) past = sum_by-cons (λ y. cond (is_fate_of seq y) 1 0) x past ∙ ap (λ b. cond b 1 0 + count_by (is_fate_of seq) past) is in
+          let same : count_by (is_fate_of seq) (x ∷ past) ≡ 0 + count_by (is_fate_of seq) past =
+          sum_by-cons (λ y. cond (is_fate_of seq y) 1 0) x past
+          ∙ ap (λ b. cond b 1 0 + count_by (is_fate_of seq) past) is in
           omega (arith, same, one_at_most u past seq prefix.0)
     ] in
     given (is_fate_of seq x) refl
@@ -115,11 +130,13 @@ sent-fate seq (x ∷ past) is = sent-fate seq past is
 
 numbers-left : (P : ℕ → Type 0) (seq : ℕ) (calls : List Taken) → All P (map (λ call. call.seq) calls) → All P (map (λ call. call.seq) (others_of seq calls))
 numbers-left P seq calls all =
-    subst (λ (ns : List ℕ). All P ns) (sym (map-filter (λ (call : Taken). call.seq) (λ n. not (seq == n)) calls)) (All-filter (λ n. not (seq == n)) P (map (λ call. call.seq) calls) all)
+    subst (λ (ns : List ℕ). All P ns) (sym (map-filter (λ (call : Taken). call.seq) (λ n. not (seq == n)) calls))
+    (All-filter (λ n. not (seq == n)) P (map (λ call. call.seq) calls) all)
 
 all-above : (below top low : ℕ) (calls : List Taken) → low ≤ below → Rising below top calls → All (λ n. low < n) (map (λ call. call.seq) calls)
 all-above below top low [] le h = All-nil (λ n. low < n)
-all-above below top low (call ∷ calls) le h = All-cons (λ n. low < n) call.seq (map (λ other. other.seq) calls) (omega (arith, le, h.0)) (all-above call.seq top low calls (omega (arith, le, h.0)) h.2)
+all-above below top low (call ∷ calls) le h = All-cons (λ n. low < n) call.seq (map (λ other. other.seq) calls)
+    (omega (arith, le, h.0)) (all-above call.seq top low calls (omega (arith, le, h.0)) h.2)
 
 -- behind a sending only calls of greater numbers stand
 later : (u : Under) (past : Behind) (m : ℕ) → IsPrefix u past → list_any (is_sent m) past ≡ true → All (λ n. m < n) (map (λ call. call.seq) (standing past))
@@ -140,7 +157,8 @@ later u (Sent call bytes ∷ past) m prefix is = subst (λ (calls : List Taken).
           let rises : Rising 0 (length (taken past)) (next.call ∷ next.others) = subst (Rising 0 (length (taken past))) next.first (rising u past prefix.0) in
           let others : others_of call (standing past) ≡ next.others =
           ap (λ n. others_of n (standing past)) (sym next.number) ∙ ap (others_of next.call.seq) next.first ∙ without-first (length (taken past)) next.call next.others rises in
-          subst (λ (calls : List Taken). All (λ n. m < n) (map (λ other. other.seq) calls)) (sym others) (all-above next.call.seq (length (taken past)) m next.others (omega (arith, number)) rises.2)
+          subst (λ (calls : List Taken). All (λ n. m < n) (map (λ other. other.seq) calls)) (sym others)
+          (all-above next.call.seq (length (taken past)) m next.others (omega (arith, number)) rises.2)
           )
       | inr rest ↦ numbers-left (λ n. m < n) call (standing past) (later u past m prefix.0 rest)
     ]
@@ -161,6 +179,7 @@ earlier-prefix u (x ∷ front) past prefix = earlier-prefix u front past prefix.
 pub ascend : (u : Under) (m n a b : ℕ) (front between past : Behind) → IsPrefix u (front ++ Sent n b ∷ between ++ Sent m a ∷ past) → m < n
 ascend u m n a b front between past whole =
     let prefix : IsPrefix u (front ++ (Sent n b ∷ (between ++ Sent m a ∷ past))) = subst (IsPrefix u) (append_assoc front (Sent n b ∷ between) (Sent m a ∷ past)) whole in
-    let here : IsPrefix u (between ++ Sent m a ∷ past) × May u (between ++ Sent m a ∷ past) (Sent n b) = (let both = earlier-prefix u front (Sent n b ∷ (between ++ Sent m a ∷ past)) prefix in (both.0, both.1)) in
+    let here : IsPrefix u (between ++ Sent m a ∷ past) × May u (between ++ Sent m a ∷ past) (Sent n b) =
+    (let both = earlier-prefix u front (Sent n b ∷ (between ++ Sent m a ∷ past)) prefix in (both.0, both.1)) in
     All-contains (λ k. m < k) (map (λ call. call.seq) (standing (between ++ Sent m a ∷ past))) n (later u (between ++ Sent m a ∷ past) m here.0 (was-sent m a between past))
     (sent-stood u (between ++ Sent m a ∷ past) n b here.1.in_order)

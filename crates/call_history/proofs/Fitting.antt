@@ -1,11 +1,15 @@
 -- What an entry has noted of a call is what a policy of its kind notes.
-use Rattle.std.proofs.Common.{◌≡◌, ◌≢◌, ℕ, ◌+◌, ◌-◌, ◌/◌, min, ◌==◌, ◌&&◌, if◌then◌else◌, Bool, true, false, cond, not, inl, inr, List, [], ◌∷◌, ◌++◌, map, take, drop, refl, sym, ap, ◌∙◌, subst, arith, take-append-drop}
+use Rattle.std.proofs.Common.{◌≡◌, ◌≢◌, ℕ, ◌+◌, ◌-◌, ◌/◌, min, ◌==◌, ◌&&◌, if◌then◌else◌, Bool, true, false, cond}
+use Rattle.std.proofs.Common.{not, inl, inr, List, [], ◌∷◌, ◌++◌, map, take, drop, refl, sym, ap, ◌∙◌, subst, arith}
+use Rattle.std.proofs.Common.{take-append-drop}
 use Rattle.std.specs.Prelude.{Contains, filter, IsSomeAnd, Option, Some, None}
 use Rattle.std.specs.Str.{bytes_eq}
 use Rattle.std.proofs.lemmas.Bool.{and_parts, true_from_ne_false}
 use Rattle.std.proofs.lemmas.List.Elements.{Contains-append_cases, Contains-append_left, Contains-append_right}
 use Rattle.mrpc_table.specs.declared.call.Call.{Call}
-use Rattle.engine_core.specs.Answers.{Past, nothing, charged, drawn, counted, note, Answers, allows, denies, was_charged, charges, holds, refuses, is_within, is_over, draws, was_counted, counts, is_clear, redacts}
+use Rattle.engine_core.specs.Answers.{Past, nothing, charged, drawn, counted, note, Answers, allows, denies}
+use Rattle.engine_core.specs.Answers.{was_charged, charges, holds, refuses, is_within, is_over, draws, was_counted}
+use Rattle.engine_core.specs.Answers.{counts, is_clear, redacts}
 use Rattle.engine_core.specs.Chains.{Chain, Changes, Entry, new_entry, upgraded, is_other, other_kind}
 use Rattle.engine_core.specs.Policies.{is_same_kind}
 use Rattle.engine_core.specs.declared.op.Op.TheVariants.{Attach, Detach, Upgrade}
@@ -82,14 +86,17 @@ note-fits policy level moment form past n (refuses r is none less mode answer) =
 note-fits policy level moment form past n (is_within tenant per cap ticket is some less answer) = absurd cc
 note-fits policy level moment form past n (is_over tenant per cap ticket is some more answer) = absurd cc
 note-fits policy level moment form past n (draws tenant per cap ticket is none answer) =
-    let same : n ≡ notes.Drawn (min (moment / per) 1023) ticket = cc in subst (λ (m : Noted). Fits policy (past_by m)) (sym same) (subst (λ (p : Policy). Fits p (drawn ticket)) (sym is) tt)
+    let same : n ≡ notes.Drawn (min (moment / per) 1023) ticket = cc in
+    subst (λ (m : Noted). Fits policy (past_by m)) (sym same)
+    (subst (λ (p : Policy). Fits p (drawn ticket)) (sym is) tt)
 note-fits policy level moment form past n (was_counted is some answer) = absurd cc
 note-fits policy level moment form past n (counts is none answer) =
     let same : n ≡ notes.Counted = cc in subst (λ (m : Noted). Fits policy (past_by m)) (sym same) (subst (λ (p : Policy). Fits p counted) (sym is) tt)
 note-fits policy level moment form past n (is_clear clears is left answer) = absurd cc
 note-fits policy level moment form past n (redacts clears is other answer) = absurd cc
 
-gives-fits : (policy : Policy) (level moment : ℕ) (form : Option Call) (past : Past) (n : Noted) → IsSomeAnd form (λ call. Answers policy level moment call past (note n)) → Fits policy (past_by n)
+gives-fits : (policy : Policy) (level moment : ℕ) (form : Option Call) (past : Past) (n : Noted)
+    → IsSomeAnd form (λ call. Answers policy level moment call past (note n)) → Fits policy (past_by n)
 gives-fits policy level moment None past n gives = absurd gives
 gives-fits policy level moment (Some call) past n gives = note-fits policy level moment call past n gives
 
@@ -117,10 +124,14 @@ none-noted policy level moment form past n fits (redacts clears is other answer)
 
 -- ---- in a chain
 
-noted-fits : (u : Under) (past : Behind) (call seq : ℕ) (other : List ℕ) (n : Noted) (e : Entry) → StaysChain → IsPrefix u past → IsCalledFor u past call other n → Contains (chain past).entries e
+noted-fits : (u : Under) (past : Behind) (call seq : ℕ) (other : List ℕ) (n : Noted) (e : Entry) → StaysChain
+    → IsPrefix u past → IsCalledFor u past call other n → Contains (chain past).entries e
     → Fits e.policy (noted e.name seq past) → Fits e.policy (cond ((call == seq) && bytes_eq other e.name) (past_by n) (noted e.name seq past))
 noted-fits u past call seq other n e stays prefix due there before =
-    let given : (b : Bool) → ((call == seq) && bytes_eq other e.name) ≡ b → Fits e.policy (cond b (past_by n) (noted e.name seq past)) = λ b. elim b as (λ b. ((call == seq) && bytes_eq other e.name) ≡ b → Fits e.policy (cond b (past_by n) (noted e.name seq past))) [
+    let given : (b : Bool) → ((call == seq) && bytes_eq other e.name) ≡ b
+    → Fits e.policy (cond b (past_by n) (noted e.name seq past)) =
+    λ b. elim b as (λ b. ((call == seq) && bytes_eq other e.name) ≡ b
+    → Fits e.policy (cond b (past_by n) (noted e.name seq past))) [
       | true ↦ λ test. here (same-name other e.name (and_parts (call == seq) (bytes_eq other e.name) test).1)
       | false ↦ λ test. before
     ] in
@@ -129,15 +140,20 @@ noted-fits u past call seq other n e stays prefix due there before =
     here : other ≡ e.name → Fits e.policy (past_by n)
     here same =
         let at = due.meets.at in
-        let is : due.meets.entry ≡ e = same-entry (chain past).entries due.meets.entry e (chained stays u past prefix).names (contains-in (chain past).entries at.front at.back due.meets.entry at.entries) there (at.named ∙ same) in
+        let is : due.meets.entry ≡ e =
+        same-entry (chain past).entries due.meets.entry e (chained stays u past prefix).names
+        (contains-in (chain past).entries at.front at.back due.meets.entry at.entries) there (at.named ∙ same) in
         subst (λ (x : Entry). Fits x.policy (past_by n)) is
         (gives-fits due.meets.entry.policy (level due.meets.entry.name past) (moment past) (form u.conn call past) (noted due.meets.entry.name call past) n due.meets.gives)
 
-Attach-fits : (u : Under) (past : Behind) (at seq : ℕ) (name : List ℕ) (policy : Policy) (e : Entry) → Contains (take at (chain past).entries ++ new_entry name ((chain past).attached + 1) policy ∷ drop at (chain past).entries) e
+Attach-fits : (u : Under) (past : Behind) (at seq : ℕ) (name : List ℕ) (policy : Policy) (e : Entry)
+    → Contains (take at (chain past).entries ++ new_entry name ((chain past).attached + 1) policy
+    ∷ drop at (chain past).entries) e
     → ((x : Entry) → Contains (chain past).entries x → Fits x.policy (noted x.name seq past))
     → Fits e.policy (if bytes_eq name e.name then nothing else noted e.name seq past)
 Attach-fits u past at seq name policy e has before =
-    let given : (b : Bool) → bytes_eq name e.name ≡ b → Fits e.policy (cond b nothing (noted e.name seq past)) = λ b. elim b as (λ b. bytes_eq name e.name ≡ b → Fits e.policy (cond b nothing (noted e.name seq past))) [
+    let given : (b : Bool) → bytes_eq name e.name ≡ b → Fits e.policy (cond b nothing (noted e.name seq past)) =
+    λ b. elim b as (λ b. bytes_eq name e.name ≡ b → Fits e.policy (cond b nothing (noted e.name seq past))) [
       | true ↦ λ test. tt
       | false ↦ λ test. before e (old (bytes-apart test))
     ] in
@@ -164,7 +180,9 @@ Attach-fits u past at seq name policy e has before =
 pub in-filter : (q : Entry → Bool) (es : List Entry) (e : Entry) → Contains (filter q es) e → Contains es e
 in-filter q [] e has = has
 in-filter q (x ∷ es) e has =
-    let given : (b : Bool) → Contains (cond b (x ∷ filter q es) (filter q es)) e → Contains (x ∷ es) e = λ b. elim b as (λ b. Contains (cond b (x ∷ filter q es) (filter q es)) e → Contains (x ∷ es) e) [
+    let given : (b : Bool) → Contains (cond b (x ∷ filter q es) (filter q es)) e
+    → Contains (x ∷ es) e = λ b. elim b as (λ b. Contains (cond b (x ∷ filter q es) (filter q es)) e
+    → Contains (x ∷ es) e) [
       | true ↦ λ has. elim (contains-cases x (filter q es) e has) [ inl same ↦ contains-first x es e same | inr rest ↦ contains-later x es e (in-filter q es e rest) ]
       | false ↦ λ has. contains-later x es e (in-filter q es e has)
     ] in
@@ -194,7 +212,9 @@ Upgrade-fits u past seq name label policy e from kind before =
     given true test = fits-kind from.old.policy policy (noted from.old.name seq past) (kind from.old from.there (same-name from.old.name name test)) (before from.old from.there)
     given false test = before from.old from.there
 
-kind-kept : (before after : Chain) (name label : List ℕ) (policy : Policy) (e : Entry) → Changes before (Upgrade name label policy) after → Contains before.entries e → e.name ≡ name → is_same_kind e.policy policy ≡ true
+kind-kept : (before after : Chain) (name label : List ℕ) (policy : Policy) (e : Entry)
+    → Changes before (Upgrade name label policy) after → Contains before.entries e → e.name ≡ name
+    → is_same_kind e.policy policy ≡ true
 kind-kept before after name label policy e changes there named =
     true_from_ne_false (is_same_kind e.policy policy) (λ differs. changes.free (other_kind name) (is_other name label policy e refl there named differs refl))
 

@@ -1,5 +1,6 @@
 -- The first call at a position goes on by an entry.
-use Rattle.std.proofs.Common.{◌≡◌, ◌≢◌, ℕ, ◌+◌, ◌<◌, ◌≤◌, suc, Bool, true, false, ◌==◌, cond, ◌⊎◌, inl, inr, List, [], ◌∷◌, map, refl, sym, ap, subst, arith}
+use Rattle.std.proofs.Common.{◌≡◌, ◌≢◌, ℕ, ◌+◌, ◌<◌, ◌≤◌, suc, Bool, true, false, ◌==◌, cond, ◌⊎◌, inl, inr, List, []}
+use Rattle.std.proofs.Common.{◌∷◌, map, refl, sym, ap, subst, arith}
 use Rattle.std.specs.Prelude.{Contains, Some}
 use Rattle.std.proofs.lemmas.Bool.{eq-eqb, ne_eqb, eqb-true, eqb-false}
 use Rattle.std.proofs.lemmas.List.Elements.{Contains-append_cases, Contains-push_cases}
@@ -36,7 +37,10 @@ pub found : (u : Under) (past : Behind) (below top bound position : ℕ) (row : 
     → IsFound u past below top bound position row call
 found u past below top bound position [] call is h = absurd cc
 found u past below top bound position (x ∷ row) call is h =
-    let given : (b : Bool) → (x.1 == position) ≡ b → cond b (Some x) (first_at position row) ≡ Some call → IsFound u past below top bound position (x ∷ row) call = λ b. elim b as (λ b. (x.1 == position) ≡ b → cond b (Some x) (first_at position row) ≡ Some call → IsFound u past below top bound position (x ∷ row) call) [
+    let given : (b : Bool) → (x.1 == position) ≡ b → cond b (Some x) (first_at position row) ≡ Some call
+    → IsFound u past below top bound position (x ∷ row) call = λ b. elim b as (λ b. (x.1 == position) ≡ b
+    → cond b (Some x) (first_at position row) ≡ Some call
+    → IsFound u past below top bound position (x ∷ row) call) [
       | true ↦ λ test first. here (eqb-true x.1 position test) (cc)
       | false ↦ λ test first.
           let rest = found u past x.0 top x.1 position row call first h.1 in
@@ -49,10 +53,15 @@ found u past below top bound position (x ∷ row) call is h =
     given (x.1 == position) refl is
   where
     here : x.1 ≡ position → x ≡ call → IsFound u past below top bound position (x ∷ row) call
-    here at same = subst (IsFound u past below top bound position (x ∷ row)) same (record { placed = h.0; at = at; there = contains-first x.0 (map (λ (other : ℕ × ℕ). other.0) row) x.0 refl })
+    here at same = subst (IsFound u past below top bound position (x ∷ row)) same (record {
+      placed = h.0;
+      at = at;
+      there = contains-first x.0 (map (λ (other : ℕ × ℕ). other.0) row) x.0 refl;
+    })
 
 -- numbers behind a call are greater
-pub above : (u : Under) (past : Behind) (below top bound seq : ℕ) (row : Row) → IsRow u past below top bound row → Contains (map (λ (call : ℕ × ℕ). call.0) row) seq → below < seq
+pub above : (u : Under) (past : Behind) (below top bound seq : ℕ) (row : Row) → IsRow u past below top bound row
+    → Contains (map (λ (call : ℕ × ℕ). call.0) row) seq → below < seq
 above u past below top bound seq [] h has = absurd (contains-none seq has)
 above u past below top bound seq (call ∷ row) h has = elim (contains-cases call.0 (map (λ (other : ℕ × ℕ). other.0) row) seq has) [
   | inl same ↦ omega (arith, same, h.0.number)
@@ -69,7 +78,9 @@ pub earlier-further : (u : Under) (past : Behind) (below top bound position seq 
     → Contains (map (λ (call : ℕ × ℕ). call.0) row) s → s < seq → IsFurther u past s position
 earlier-further u past below top bound position seq s [] is h has less = absurd cc
 earlier-further u past below top bound position seq s (x ∷ row) is h has less =
-    let given : (b : Bool) → (x.1 == position) ≡ b → cond b (Some x) (first_at position row) ≡ Some (seq, position) → IsFurther u past s position = λ b. elim b as (λ b. (x.1 == position) ≡ b → cond b (Some x) (first_at position row) ≡ Some (seq, position) → IsFurther u past s position) [
+    let given : (b : Bool) → (x.1 == position) ≡ b → cond b (Some x) (first_at position row) ≡ Some (seq, position)
+    → IsFurther u past s position = λ b. elim b as (λ b. (x.1 == position) ≡ b
+    → cond b (Some x) (first_at position row) ≡ Some (seq, position) → IsFurther u past s position) [
       | true ↦ λ test first. here (cc)
       | false ↦ λ test first. elim (contains-cases x.0 (map (λ (other : ℕ × ℕ). other.0) row) s has) [
         | inl same ↦ later same (eqb-false x.1 position test) (found u past x.0 top x.1 position row (seq, position) first h.1)
@@ -116,7 +127,10 @@ pub goes-further : (u : Under) (past new : Behind) (below top bound position seq
     → IsRow u past below top bound row → IsRow u new below top bound (goes_on seq row)
 goes-further u past new below top bound position seq [] is less keeps step h = absurd cc
 goes-further u past new below top bound position seq (x ∷ row) is less keeps step h =
-    let given : (b : Bool) → (x.1 == position) ≡ b → cond b (Some x) (first_at position row) ≡ Some (seq, position) → IsRow u new below top bound (goes_on seq (x ∷ row)) = λ b. elim b as (λ b. (x.1 == position) ≡ b → cond b (Some x) (first_at position row) ≡ Some (seq, position) → IsRow u new below top bound (goes_on seq (x ∷ row))) [
+    let given : (b : Bool) → (x.1 == position) ≡ b → cond b (Some x) (first_at position row) ≡ Some (seq, position)
+    → IsRow u new below top bound (goes_on seq (x ∷ row)) = λ b. elim b as (λ b. (x.1 == position) ≡ b
+    → cond b (Some x) (first_at position row) ≡ Some (seq, position)
+    → IsRow u new below top bound (goes_on seq (x ∷ row))) [
       | true ↦ λ test first. here (cc)
       | false ↦ λ test first. other (eqb-false x.1 position test) (found u past x.0 top x.1 position row (seq, position) first h.1)
           (λ closer. goes-further u past new x.0 top x.1 position seq row first closer keeps step h.1)
@@ -127,7 +141,8 @@ goes-further u past new below top bound position seq (x ∷ row) is less keeps s
     here same =
         let number : x.0 ≡ seq = ap (λ (c : ℕ × ℕ). c.0) same in
         let at : x.1 ≡ position = ap (λ (c : ℕ × ℕ). c.1) same in
-        let stands : StandsAt u new x.0 (x.1 + 1) = subst (λ (c : ℕ × ℕ). StandsAt u new c.0 (c.1 + 1)) (sym same) (step (subst (λ (c : ℕ × ℕ). StandsAt u past c.0 c.1) same h.0.stands)) in
+        let stands : StandsAt u new x.0 (x.1 + 1) = subst (λ (c : ℕ × ℕ). StandsAt u new c.0 (c.1 + 1)) (sym same)
+        (step (subst (λ (c : ℕ × ℕ). StandsAt u past c.0 c.1) same h.0.stands)) in
         moves-on u new below top bound seq x (goes_on seq row) true (eq-eqb x.0 seq number) (
           record { number = h.0.number; few = h.0.few; falls = omega (arith, at, less); stands = stands },
           row-weaker u new x.0 x.0 top top x.1 (x.1 + 1) (goes_on seq row) (omega arith) (omega arith) (omega arith)

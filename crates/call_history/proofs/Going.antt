@@ -6,7 +6,10 @@ use Rattle.engine_core.specs.declared.op.Op.{Op as Step}
 use Rattle.call_history.specs.Behind.{Behind, chain, moment, standing, has_failed}
 use Rattle.engine_core.specs.Chains.{changed}
 use Rattle.call_history.specs.Legal.{HasNoCopy, AwaitsMalformed, AwaitsQuota, IsSettledUp}
-use Rattle.call_history.specs.Rules.{Under, MayTake, IsRefusedAtOnce, IsNoMalformedRefusal, RefusesMalformed, IsNumbered, KeepsChain, NotesWhatIsDue, SendsInOrder, RefusesAsAnswered, RefusesDrawn, IsCalledFor, IsCleared, IsSentNext, IsQuiet, IsLeft, IsLinkRefusal, May}
+use Rattle.call_history.specs.Rules.{Under, MayTake, IsRefusedAtOnce, IsNoMalformedRefusal, RefusesMalformed}
+use Rattle.call_history.specs.Rules.{IsNumbered, KeepsChain, NotesWhatIsDue, SendsInOrder, RefusesAsAnswered}
+use Rattle.call_history.specs.Rules.{RefusesDrawn, IsCalledFor, IsCleared, IsSentNext, IsQuiet, IsLeft, IsLinkRefusal}
+use Rattle.call_history.specs.Rules.{May}
 use Rattle.call_history.specs.declared.happening.Cause.TheVariants as cause
 use Rattle.call_history.specs.declared.happening.Happening.{Happening}
 use Rattle.call_history.specs.declared.happening.Happening.TheVariants.{Took, Op, Moment, Charged, Drawn, Counted, Redacted, Sent, Refused}
@@ -72,20 +75,67 @@ may u past next free own = record {
 pub may-take : (u : Under) (past : Behind) (call : Taken) → IsOpen past → MayTake u past call → May u past (Took call)
 may-take u past call free take = may u past (Took call) free (record { numbered = take; no_malformed = tt; chain_kept = tt; notes_due = tt; in_order = tt; answered = tt; link_refusal = tt })
 
-pub may-charge : (u : Under) (past : Behind) (seq : ℕ) (name : List ℕ) (left : ℕ) → IsOpen past → IsCalledFor u past seq name (notes.Charged left) → May u past (Charged seq name left)
-may-charge u past seq name left free due = may u past (Charged seq name left) free (record { numbered = tt; no_malformed = tt; chain_kept = tt; notes_due = due; in_order = tt; answered = tt; link_refusal = tt })
+pub may-charge : (u : Under) (past : Behind) (seq : ℕ) (name : List ℕ) (left : ℕ) → IsOpen past
+    → IsCalledFor u past seq name (notes.Charged left) → May u past (Charged seq name left)
+may-charge u past seq name left free due =
+    may u past (Charged seq name left) free (record {
+      numbered = tt;
+      no_malformed = tt;
+      chain_kept = tt;
+      notes_due = due;
+      in_order = tt;
+      answered = tt;
+      link_refusal = tt;
+    })
 
-pub may-draw : (u : Under) (past : Behind) (seq : ℕ) (name : List ℕ) (window ticket : ℕ) → IsOpen past → IsCalledFor u past seq name (notes.Drawn window ticket) → May u past (Drawn seq name window ticket)
-may-draw u past seq name window ticket free due = may u past (Drawn seq name window ticket) free (record { numbered = tt; no_malformed = tt; chain_kept = tt; notes_due = due; in_order = tt; answered = tt; link_refusal = tt })
+pub may-draw : (u : Under) (past : Behind) (seq : ℕ) (name : List ℕ) (window ticket : ℕ) → IsOpen past
+    → IsCalledFor u past seq name (notes.Drawn window ticket) → May u past (Drawn seq name window ticket)
+may-draw u past seq name window ticket free due =
+    may u past (Drawn seq name window ticket) free (record {
+      numbered = tt;
+      no_malformed = tt;
+      chain_kept = tt;
+      notes_due = due;
+      in_order = tt;
+      answered = tt;
+      link_refusal = tt;
+    })
 
 pub may-count : (u : Under) (past : Behind) (seq : ℕ) (name : List ℕ) → IsOpen past → IsCalledFor u past seq name notes.Counted → May u past (Counted seq name)
-may-count u past seq name free due = may u past (Counted seq name) free (record { numbered = tt; no_malformed = tt; chain_kept = tt; notes_due = due; in_order = tt; answered = tt; link_refusal = tt })
+may-count u past seq name free due =
+    may u past (Counted seq name) free (record {
+      numbered = tt;
+      no_malformed = tt;
+      chain_kept = tt;
+      notes_due = due;
+      in_order = tt;
+      answered = tt;
+      link_refusal = tt;
+    })
 
 pub may-redact : (u : Under) (past : Behind) (seq : ℕ) (name : List ℕ) (version : ℕ) → IsOpen past → IsCleared u past seq name version → May u past (Redacted seq name version)
-may-redact u past seq name version free due = may u past (Redacted seq name version) free (record { numbered = tt; no_malformed = tt; chain_kept = tt; notes_due = due; in_order = tt; answered = tt; link_refusal = tt })
+may-redact u past seq name version free due =
+    may u past (Redacted seq name version) free (record {
+      numbered = tt;
+      no_malformed = tt;
+      chain_kept = tt;
+      notes_due = due;
+      in_order = tt;
+      answered = tt;
+      link_refusal = tt;
+    })
 
 pub may-send : (u : Under) (past : Behind) (seq bytes : ℕ) → IsOpen past → IsSentNext u past seq bytes → May u past (Sent seq bytes)
-may-send u past seq bytes free next = may u past (Sent seq bytes) free (record { numbered = tt; no_malformed = tt; chain_kept = tt; notes_due = tt; in_order = next; answered = tt; link_refusal = tt })
+may-send u past seq bytes free next =
+    may u past (Sent seq bytes) free (record {
+      numbered = tt;
+      no_malformed = tt;
+      chain_kept = tt;
+      notes_due = tt;
+      in_order = next;
+      answered = tt;
+      link_refusal = tt;
+    })
 
 -- steps and moments, also where the link has failed
 quiet-left : (calls : List Taken) (next : Happening) → calls ≡ [] → IsQuiet next → IsLeft calls next

@@ -43,10 +43,12 @@ on-none conn (x ∷ k) apart =
 pub behind-apart : (conn : ℕ) (h k : History) → All (λ x. x.conn ≢ conn) k → behind conn (h ++ k) ≡ behind conn h
 behind-apart conn h k apart = behind-joined conn h k ∙ ap (λ (happened : List Happening). reverse happened ++ behind conn h) (on-none conn k apart)
 
-pub prefix-on : (u : Under) (h : History) (x : Happened) → x.conn ≡ u.conn → IsPrefix u (behind u.conn h) → May u (behind u.conn h) x.what → IsPrefix u (behind u.conn (h ++ x ∷ []))
+pub prefix-on : (u : Under) (h : History) (x : Happened) → x.conn ≡ u.conn → IsPrefix u (behind u.conn h)
+    → May u (behind u.conn h) x.what → IsPrefix u (behind u.conn (h ++ x ∷ []))
 prefix-on u h x own prefix may = subst (IsPrefix u) (sym (behind-own u.conn h x own)) (prefix, may)
 
-pub prefix-before : (u : Under) (h : History) (x : Happened) → x.conn ≡ u.conn → IsPrefix u (behind u.conn (h ++ x ∷ [])) → IsPrefix u (behind u.conn h) × May u (behind u.conn h) x.what
+pub prefix-before : (u : Under) (h : History) (x : Happened) → x.conn ≡ u.conn
+    → IsPrefix u (behind u.conn (h ++ x ∷ [])) → IsPrefix u (behind u.conn h) × May u (behind u.conn h) x.what
 prefix-before u h x own prefix = let both : IsPrefix u (x.what ∷ behind u.conn h) = subst (IsPrefix u) (behind-own u.conn h x own) prefix in (both.0, both.1)
 
 pub legal-apart : (u : Under) (h k : History) → All (λ x. x.conn ≢ u.conn) k → IsLegalBehind u (behind u.conn h) → IsLegalBehind u (behind u.conn (h ++ k))
@@ -63,7 +65,8 @@ legal-where T limit conn h k legal own here other = elim (cases_eq other conn) [
 
 -- ---- standing calls
 
-pub standing-next : (u : Under) (past : Behind) (call : Taken) (others : List Taken) (bytes : ℕ) → IsPrefix u past → standing past ≡ call ∷ others → standing (Sent call.seq bytes ∷ past) ≡ others
+pub standing-next : (u : Under) (past : Behind) (call : Taken) (others : List Taken) (bytes : ℕ) → IsPrefix u past
+    → standing past ≡ call ∷ others → standing (Sent call.seq bytes ∷ past) ≡ others
 standing-next u past call others bytes prefix first =
     let rises : Rising 0 (length (taken past)) (call ∷ others) = subst (Rising 0 (length (taken past))) first (rising u past prefix) in
     standing-sent past call.seq bytes ∙ ap (others_of call.seq) first ∙ without-first (length (taken past)) call others rises
@@ -73,7 +76,9 @@ standing-next u past call others bytes prefix first =
 pub form-own : (conn seq : ℕ) (past : Behind) (call : Taken) → call.seq ≡ seq → form conn seq (Took call ∷ past) ≡ copied conn call call.copy
 form-own conn seq past call own = ap (λ b. cond b (copied conn call call.copy) (form conn seq past)) (eq-eqb call.seq seq own)
 
-pub form-cleared : (conn seq version : ℕ) (name : List ℕ) (past : Behind) → form conn seq (Redacted seq name version ∷ past) ≡ option_map (redacted (policy_of name past)) (form conn seq past)
+pub form-cleared : (conn seq version : ℕ) (name : List ℕ) (past : Behind)
+    → form conn seq (Redacted seq name version ∷ past) ≡ option_map (redacted (policy_of name past))
+    (form conn seq past)
 form-cleared conn seq version name past =
     ap (λ b. cond b (option_map (redacted (policy_of name past)) (form conn seq past)) (form conn seq past)) (eq-eqb seq seq refl)
 
@@ -101,10 +106,12 @@ pub level-upgraded : (past : Behind) (name label : List ℕ) (policy : Policy)
     → level name (Op (Upgrade name label policy) ∷ past) ≡ converted (policy_of name past) policy (level name past)
 level-upgraded past name label policy = ap (λ b. cond b (converted (policy_of name past) policy (level name past)) (level name past)) (equal-name name name refl)
 
-pub noted-attached_other : (past : Behind) (at seq : ℕ) (name other label : List ℕ) (policy : Policy) → name ≢ other → noted other seq (Op (Attach at name label policy) ∷ past) ≡ noted other seq past
+pub noted-attached_other : (past : Behind) (at seq : ℕ) (name other label : List ℕ) (policy : Policy) → name ≢ other
+    → noted other seq (Op (Attach at name label policy) ∷ past) ≡ noted other seq past
 noted-attached_other past at seq name other label policy apart = ap (λ b. cond b nothing (noted other seq past)) (other-name name other apart)
 
-pub level-attached_other : (past : Behind) (at : ℕ) (name other label : List ℕ) (policy : Policy) → name ≢ other → level other (Op (Attach at name label policy) ∷ past) ≡ level other past
+pub level-attached_other : (past : Behind) (at : ℕ) (name other label : List ℕ) (policy : Policy) → name ≢ other
+    → level other (Op (Attach at name label policy) ∷ past) ≡ level other past
 level-attached_other past at name other label policy apart = ap (λ b. cond b (first_level policy) (level other past)) (other-name name other apart)
 
 pub level-upgraded_other : (past : Behind) (name other label : List ℕ) (policy : Policy) → name ≢ other → level other (Op (Upgrade name label policy) ∷ past) ≡ level other past

@@ -50,7 +50,8 @@ from_course u c h = record {
   none_left = h.none_left;
 }
   where
-    first-within : (calls : List Taken) (positions : List ℕ) → AllZip (MayStandAt u c.past) calls positions → (p : ℕ) → slice_get positions 0 ≡ Some p → p ≤ length (chain c.past).entries
+    first-within : (calls : List Taken) (positions : List ℕ) → AllZip (MayStandAt u c.past) calls positions → (p : ℕ)
+        → slice_get positions 0 ≡ Some p → p ≤ length (chain c.past).entries
     first-within [] [] each p at = absurd cc
     first-within [] (q ∷ positions) each p at = absurd each
     first-within (call ∷ calls) [] each p at = absurd each
@@ -93,7 +94,9 @@ works-on past works awaits = let wrong : false ≡ true = sym works ∙ awaits.f
 pub contains-kept : {X : Type 0} (p : X → Bool) (xs : List X) (y : X) → Contains (filter p xs) y → Contains xs y
 contains-kept p [] y has = has
 contains-kept p (x ∷ xs) y has =
-    let given : (b : Bool) → Contains (cond b (x ∷ filter p xs) (filter p xs)) y → Contains (x ∷ xs) y = λ b. elim b as (λ b. Contains (cond b (x ∷ filter p xs) (filter p xs)) y → Contains (x ∷ xs) y) [
+    let given : (b : Bool) → Contains (cond b (x ∷ filter p xs) (filter p xs)) y
+    → Contains (x ∷ xs) y = λ b. elim b as (λ b. Contains (cond b (x ∷ filter p xs) (filter p xs)) y
+    → Contains (x ∷ xs) y) [
       | true ↦ λ has. elim (contains-cases x (filter p xs) y has) [ inl same ↦ contains-first x xs y same | inr rest ↦ contains-later x xs y (contains-kept p xs y rest) ]
       | false ↦ λ has. contains-later x xs y (contains-kept p xs y has)
     ] in

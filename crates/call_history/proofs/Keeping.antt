@@ -41,7 +41,8 @@ begins u = record {
 
 -- ---- a turn
 
-outcome-holds : (u : Under) (c : Course) (position seq : ℕ) (outcome : Outcome) (e : Entry) → StaysChain → Holds u c → IsTurn u c position seq e → (has : HasTurn u c position seq outcome e)
+outcome-holds : (u : Under) (c : Course) (position seq : ℕ) (outcome : Outcome) (e : Entry) → StaysChain → Holds u c
+    → IsTurn u c position seq e → (has : HasTurn u c position seq outcome e)
     → ComesOut e.policy (level e.name c.past) (moment c.past) has.call (noted e.name seq c.past) outcome → Holds u (turned e seq outcome c)
 outcome-holds u c position seq outcome e chains h turn has (passes answers is) =
     subst (λ (o : Outcome). Holds u (turned e seq o c)) (sym is) (passed u c position seq e h turn has.first (gives-by u c.past seq e has.call pass has.is_form answers))

@@ -106,10 +106,24 @@ lead-upgraded = (
         takes with_7 refl refl (record { number = refl; few = omega arith; loads = omega arith; copy = (omega arith, normal_number 7 (omega arith) (omega arith)) }) refl,
         (
           _,
-          has_turn 0 1 (outcomes.Passed notes.Nothing) first_entry refl (record { entry = refl; first = refl; call = form_of 1 150; is_form = refl; comes = turns.passes (answers.allows all refl refl refl) refl }) refl,
+          has_turn 0 1 (outcomes.Passed notes.Nothing) first_entry refl (record {
+            entry = refl;
+            first = refl;
+            call = form_of 1 150;
+            is_form = refl;
+            comes = turns.passes (answers.allows all refl refl refl) refl;
+          })
+              refl,
           (
             _,
-            has_turn 0 2 (outcomes.Passed notes.Nothing) first_entry refl (record { entry = refl; first = refl; call = form_of 2 7; is_form = refl; comes = turns.passes (answers.allows all refl refl refl) refl }) refl,
+            has_turn 0 2 (outcomes.Passed notes.Nothing) first_entry refl (record {
+              entry = refl;
+              first = refl;
+              call = form_of 2 7;
+              is_form = refl;
+              comes = turns.passes (answers.allows all refl refl refl) refl;
+            })
+                refl,
             (
               _,
               has_turn 1 1 (outcomes.Passed (notes.Charged 1000)) rate_entry refl (record {
@@ -130,16 +144,41 @@ lead-upgraded = (
                 }) refl,
                 (
                   _,
-                  changes (Upgrade acl p2 (Access but_150)) refl (record { free = free-upgrade; makes = chains.upgrades acl p2 (Access but_150) first_entry [] (rate_entry ∷ []) refl refl refl refl }) refl,
+                  changes (Upgrade acl p2 (Access but_150)) refl (record {
+                    free = free-upgrade;
+                    makes = chains.upgrades acl p2 (Access but_150) first_entry [] (rate_entry ∷ []) refl refl refl
+                        refl;
+                  }) refl,
                   (
                     _,
-                    has_turn 0 1 (outcomes.Refused notes.Nothing (Denied 0)) second_entry refl (record { entry = refl; first = refl; call = form_of 1 150; is_form = refl; comes = turns.is_refused (Denied 0) (answers.denies but_150 refl refl refl) refl }) refl,
+                    has_turn 0 1 (outcomes.Refused notes.Nothing (Denied 0)) second_entry refl
+                        (record {
+                          entry = refl;
+                          first = refl;
+                          call = form_of 1 150;
+                          is_form = refl;
+                          comes = turns.is_refused (Denied 0) (answers.denies but_150 refl refl refl) refl;
+                        }) refl,
                     (
                       _,
-                      has_turn 0 2 (outcomes.Passed notes.Nothing) second_entry refl (record { entry = refl; first = refl; call = form_of 2 7; is_form = refl; comes = turns.passes (answers.allows but_150 refl refl refl) refl }) refl,
+                      has_turn 0 2 (outcomes.Passed notes.Nothing) second_entry refl
+                          (record {
+                            entry = refl;
+                            first = refl;
+                            call = form_of 2 7;
+                            is_form = refl;
+                            comes = turns.passes (answers.allows but_150 refl refl refl) refl;
+                          }) refl,
                       (
                         _,
-                        has_turn 1 2 (outcomes.Passed notes.Nothing) rate_entry refl (record { entry = refl; first = refl; call = form_of 2 7; is_form = refl; comes = turns.passes (answers.was_charged rate refl (λ none. cc) refl) refl }) refl,
+                        has_turn 1 2 (outcomes.Passed notes.Nothing) rate_entry refl
+                            (record {
+                              entry = refl;
+                              first = refl;
+                              call = form_of 2 7;
+                              is_form = refl;
+                              comes = turns.passes (answers.was_charged rate refl (λ none. cc) refl) refl;
+                            }) refl,
                         (_, is_sent 2 18 refl refl (ready _ 2 7 refl refl (long-7 2)) refl, refl),
                       ),
                     ),

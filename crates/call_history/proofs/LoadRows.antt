@@ -58,14 +58,36 @@ spelled-three = (
     [],
     refl,
     record { taken = is_malformed Address 0 15 (omega arith) (comes_malformed Address 0 15 (no_root (λ root. omega (arith, root.to_end)) refl refl refl refl) refl) refl; counted = refl },
-    ([], (14, 5) ∷ [], refl, record { taken = is_copied (with_number 5) (omega arith) (comes_copied (placed 14 5) (sound 14 5 (omega arith) (omega arith) (omega arith)) refl (omega arith) refl) refl; counted = refl }, refl),
+    (
+      [],
+      (14, 5) ∷ [],
+      refl,
+      record {
+        taken = is_copied (with_number 5) (omega arith)
+            (comes_copied (placed 14 5) (sound 14 5 (omega arith) (omega arith) (omega arith)) refl (omega arith) refl)
+            refl;
+        counted = refl;
+      },
+      refl,
+    ),
   ),
 )
 
 -- ---- a call that is denied: it alone was loaded, and no word a second time
 
 spelled-denied : AreSpelled table 16 1024 denied ((2, 150) ∷ [])
-spelled-denied = ([], (2, 150) ∷ [], refl, record { taken = is_copied (with_number 150) (omega arith) (comes_copied (placed 2 150) (sound 2 150 (omega arith) (omega arith) (omega arith)) refl (omega arith) refl) refl; counted = refl }, refl)
+spelled-denied = (
+  [],
+  (2, 150) ∷ [],
+  refl,
+  record {
+    taken = is_copied (with_number 150) (omega arith)
+        (comes_copied (placed 2 150) (sound 2 150 (omega arith) (omega arith) (omega arith)) refl (omega arith) refl)
+        refl;
+    counted = refl;
+  },
+  refl,
+)
 
 not-loaded_twice : (v : ℕ) → AreSpelled table 16 1024 denied ((2, 150) ∷ (2, v) ∷ []) → ⊥
 not-loaded_twice v (before, own, joined, loaded, none) =

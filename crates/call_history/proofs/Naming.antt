@@ -29,7 +29,9 @@ tells-still steps step (Counted seq place) named = ap (λ (s : Step). what.Count
 tells-still steps step (Redacted seq place version) named = ap (λ (s : Step). what.Redacted seq (name_in s) version) (stays-at steps step place named)
 tells-still steps step (Sent seq bytes) named = refl
 tells-still steps step (Refused seq by.Malformed) named = refl
-tells-still steps step (Refused seq (by.Access place version rule)) named = ap (λ (s : Step). what.Refused seq (cause.Access (name_in s) version (rule_in s rule))) (stays-at steps step place named.0)
+tells-still steps step (Refused seq (by.Access place version rule)) named =
+    ap (λ (s : Step). what.Refused seq (cause.Access (name_in s) version (rule_in s rule)))
+    (stays-at steps step place named.0)
 tells-still steps step (Refused seq (by.Rate place level cost)) named = ap (λ (s : Step). what.Refused seq (cause.Rate (name_in s) level cost)) (stays-at steps step place named)
 tells-still steps step (Refused seq (by.Quota place ticket cap)) named = ap (λ (s : Step). what.Refused seq (cause.Quota (name_in s) ticket cap)) (stays-at steps step place named)
 tells-still steps step (Refused seq by.Transport) named = refl
@@ -46,7 +48,9 @@ pub operated : (steps more : List Step) (step : Step) (place : ℕ) (records now
     → more ≡ steps ++ step ∷ [] → now ≡ records ++ Op place ∷ [] → place ≡ length steps → before ≡ map (told_by steps) records
     → map (told_by more) now ≡ before ++ what.Op step ∷ []
 operated steps more step place records now before named steps_are records_are place_is before_is =
-    let tells : (s : Step) → step_at (steps ++ step ∷ []) (length steps) ≡ s → map (told_by (steps ++ step ∷ [])) (records ++ Op (length steps) ∷ []) ≡ map (told_by steps) records ++ what.Op s ∷ [] = λ s there.
+    let tells : (s : Step) → step_at (steps ++ step ∷ []) (length steps) ≡ s
+    → map (told_by (steps ++ step ∷ [])) (records ++ Op (length steps) ∷ []) ≡ map (told_by steps) records
+    ++ what.Op s ∷ [] = λ s there.
     map_push (told_by (steps ++ step ∷ [])) records (Op (length steps))
     ∙ ap (λ (xs : List Happening). xs ++ what.Op (step_at (steps ++ step ∷ []) (length steps)) ∷ []) (tell-still steps step records named)
     ∙ ap (λ (s : Step). map (told_by steps) records ++ what.Op s ∷ []) there in

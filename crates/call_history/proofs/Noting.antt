@@ -1,13 +1,16 @@
 -- A note of one call by one entry changes nothing that was noted of another call, or by another name; and calls are
 -- noted in order.
-use Rattle.std.proofs.Common.{◌≡◌, ◌≢◌, ℕ, ◌+◌, ◌<◌, ◌≤◌, ◌==◌, ◌&&◌, zero, suc, Bool, true, false, cond, inl, inr, List, [], ◌∷◌, ◌++◌, length, map, take, refl, sym, ap, ◌∙◌, subst, arith, add-one}
+use Rattle.std.proofs.Common.{◌≡◌, ◌≢◌, ℕ, ◌+◌, ◌<◌, ◌≤◌, ◌==◌, ◌&&◌, zero, suc, Bool, true, false, cond, inl, inr}
+use Rattle.std.proofs.Common.{List, [], ◌∷◌, ◌++◌, length, map, take, refl, sym, ap, ◌∙◌, subst, arith, add-one}
 use Rattle.std.specs.Prelude.{All, Contains, IsSomeAnd, Option, Some, None, slice_get}
 use Rattle.std.specs.Str.{bytes_eq}
 use Rattle.std.proofs.lemmas.Bool.{cases_order, and_right}
 use Rattle.std.proofs.lemmas.List.Elements.{All-cons, All-contains, All-push}
 use Rattle.mrpc_table.specs.Valid.{AreDistinct}
 use Rattle.mrpc_table.specs.declared.call.Call.{Call}
-use Rattle.engine_core.specs.Answers.{Past, nothing, Answer, pass, note, Answers, allows, denies, was_charged, charges, holds, refuses, is_within, is_over, draws, was_counted, counts, is_clear, redacts}
+use Rattle.engine_core.specs.Answers.{Past, nothing, Answer, pass, note, Answers, allows, denies, was_charged}
+use Rattle.engine_core.specs.Answers.{charges, holds, refuses, is_within, is_over, draws, was_counted, counts}
+use Rattle.engine_core.specs.Answers.{is_clear, redacts}
 use Rattle.engine_core.specs.Chains.{Entry, names_of}
 use Rattle.engine_core.specs.declared.outcome.Noted.{Noted}
 use Rattle.engine_core.specs.declared.outcome.Noted.TheVariants as notes
@@ -86,13 +89,37 @@ pub record IsNote (past new : Behind) (seq : ℕ) (name : List ℕ) (n : Noted) 
   pub calls_is : (other : List ℕ) → noted_calls other new ≡ cond (bytes_eq name other) (seq ∷ noted_calls other past) (noted_calls other past)
 
 pub charge-note : (past : Behind) (seq : ℕ) (name : List ℕ) (left : ℕ) → IsNote past (Charged seq name left ∷ past) seq name (notes.Charged left)
-charge-note past seq name left = record { entries = refl; forms = λ conn s. refl; standing_same = refl; taken_same = refl; failed_same = refl; noted_is = λ other s. refl; calls_is = λ other. refl }
+charge-note past seq name left = record {
+  entries = refl;
+  forms = λ conn s. refl;
+  standing_same = refl;
+  taken_same = refl;
+  failed_same = refl;
+  noted_is = λ other s. refl;
+  calls_is = λ other. refl;
+}
 
 pub draw-note : (past : Behind) (seq : ℕ) (name : List ℕ) (window ticket : ℕ) → IsNote past (Drawn seq name window ticket ∷ past) seq name (notes.Drawn window ticket)
-draw-note past seq name window ticket = record { entries = refl; forms = λ conn s. refl; standing_same = refl; taken_same = refl; failed_same = refl; noted_is = λ other s. refl; calls_is = λ other. refl }
+draw-note past seq name window ticket = record {
+  entries = refl;
+  forms = λ conn s. refl;
+  standing_same = refl;
+  taken_same = refl;
+  failed_same = refl;
+  noted_is = λ other s. refl;
+  calls_is = λ other. refl;
+}
 
 pub count-note : (past : Behind) (seq : ℕ) (name : List ℕ) → IsNote past (Counted seq name ∷ past) seq name notes.Counted
-count-note past seq name = record { entries = refl; forms = λ conn s. refl; standing_same = refl; taken_same = refl; failed_same = refl; noted_is = λ other s. refl; calls_is = λ other. refl }
+count-note past seq name = record {
+  entries = refl;
+  forms = λ conn s. refl;
+  standing_same = refl;
+  taken_same = refl;
+  failed_same = refl;
+  noted_is = λ other s. refl;
+  calls_is = λ other. refl;
+}
 
 -- what was noted of the call itself, of another, and by another name
 pub noted-here : (past new : Behind) (seq : ℕ) (name : List ℕ) (n : Noted) → IsNote past new seq name n → noted name seq new ≡ past_by n
@@ -116,7 +143,8 @@ pub front-lets : (u : Under) (past new : Behind) (seq : ℕ) (name : List ℕ) (
 front-lets u past new seq name n front is apart lets = all-step (Lets u past seq) (Lets u new seq) front
     (λ x has let_x. lets-still u past new seq x (is.forms u.conn seq) (noted-name past new seq seq name x.name n is (λ same. apart x has (sym same))) let_x) lets
 
-pub note-row : (u : Under) (c : Course) (new : Behind) (position seq : ℕ) (e : Entry) (n : Noted) → Holds u c → IsTurn u c position seq e → first_at position c.row ≡ Some (seq, position)
+pub note-row : (u : Under) (c : Course) (new : Behind) (position seq : ℕ) (e : Entry) (n : Noted) → Holds u c
+    → IsTurn u c position seq e → first_at position c.row ≡ Some (seq, position)
     → IsNote c.past new seq e.name n → Lets u new seq e → IsRow u new 0 (length (taken c.past)) (length (chain c.past).entries) (goes_on seq c.row)
 note-row u c new position seq e n h turn first is lets =
     goes-further u c.past new 0 (length (taken c.past)) (length (chain c.past).entries) position seq c.row first turn.cut.within (note-keeps u c.past new seq e.name n is) step h.row
@@ -172,7 +200,8 @@ pass-noted policy level moment form past noting (counts is none answer) gone = c
 pass-noted policy level moment form past noting (is_clear clears is left answer) none = subst Notes is noting
 pass-noted policy level moment form past noting (redacts clears is other answer) none = cc
 
-lets-noted : (policy : Policy) (level moment : ℕ) (form : Option Call) (past : Past) → Notes policy → IsSomeAnd form (λ call. Answers policy level moment call past pass) → past ≢ nothing
+lets-noted : (policy : Policy) (level moment : ℕ) (form : Option Call) (past : Past) → Notes policy
+    → IsSomeAnd form (λ call. Answers policy level moment call past pass) → past ≢ nothing
 lets-noted policy level moment None past noting lets = absurd lets
 lets-noted policy level moment (Some call) past noting lets = pass-noted policy level moment call past noting lets
 
@@ -184,13 +213,16 @@ contains-take (x ∷ es) (suc k) zero e at less = absurd (omega (arith, less))
 contains-take (x ∷ es) (suc k) (suc m) e at less = contains-later x (take m es) e (contains-take es k m e at (omega (arith, less)))
 
 -- a call of a smaller number was noted by the entry before
-pub earlier-noted : (u : Under) (c : Course) (position seq s : ℕ) (e : Entry) → Holds u c → Notes e.policy → slice_get (chain c.past).entries position ≡ Some e → first_at position c.row ≡ Some (seq, position)
+pub earlier-noted : (u : Under) (c : Course) (position seq s : ℕ) (e : Entry) → Holds u c → Notes e.policy
+    → slice_get (chain c.past).entries position ≡ Some e → first_at position c.row ≡ Some (seq, position)
     → Contains (map (λ (call : Taken). call.seq) (standing c.past)) s → s < seq → noted e.name s c.past ≢ nothing
 earlier-noted u c position seq s e h noting entry first stands less =
     let further : IsFurther u c.past s position =
-    earlier-further u c.past 0 (length (taken c.past)) (length (chain c.past).entries) position seq s c.row first h.row (subst (λ (ns : List ℕ). Contains ns s) (sym h.calls) stands) less in
+    earlier-further u c.past 0 (length (taken c.past)) (length (chain c.past).entries) position seq s c.row first
+    h.row (subst (λ (ns : List ℕ). Contains ns s) (sym h.calls) stands) less in
     let lets : Lets u c.past s e =
-    All-contains (Lets u c.past s) (take further.place (chain c.past).entries) e further.stands.let_pass (contains-take (chain c.past).entries position further.place e entry further.further) in
+    All-contains (Lets u c.past s) (take further.place (chain c.past).entries) e further.stands.let_pass
+    (contains-take (chain c.past).entries position further.place e entry further.further) in
     lets-noted e.policy (level e.name c.past) (moment c.past) (form u.conn s c.past) (noted e.name s c.past) noting lets
 
 pub note-ascends : (u : Under) (c : Course) (new : Behind) (position seq : ℕ) (e : Entry) (n : Noted) → Holds u c → Notes e.policy → past_by n ≢ nothing
@@ -204,14 +236,22 @@ note-ascends u c new position seq e n h noting something entry first is name s s
     here same = elim (cases_order seq s) [
       | inl equal ↦ absurd (something (sym (is.noted_is name s ∙ ap (λ b. cond b (past_by n) (noted name s c.past)) (is-for seq s e.name name equal same)) ∙ none))
       | inr rest ↦ elim rest [
-        | inl less ↦ All-cons (λ other. other < s) seq (noted_calls name c.past) less (h.notes_ascend name s stood (sym (noted-call c.past new seq s e.name name n is (λ equal. omega (arith, equal, less))) ∙ none))
+        | inl less ↦ All-cons (λ other. other < s) seq (noted_calls name c.past) less
+            (h.notes_ascend name s stood
+            (sym (noted-call c.past new seq s e.name name n is (λ equal. omega (arith, equal, less))) ∙ none))
         | inr more ↦ absurd (earlier-noted u c position seq s e h noting entry first stood more
             (subst (λ (m : List ℕ). noted m s c.past ≡ nothing) (sym same) (sym (noted-call c.past new seq s e.name name n is (λ equal. omega (arith, equal, more))) ∙ none)))
       ]
     ]
 
     given : (b : Bool) → bytes_eq e.name name ≡ b → All (λ other. other < s) (noted_calls name new)
-    given true test = subst (λ (calls : List ℕ). All (λ other. other < s) calls) (sym (is.calls_is name ∙ ap (λ b. cond b (seq ∷ noted_calls name c.past) (noted_calls name c.past)) test)) (here (same-name e.name name test))
+    given true test = subst (λ (calls : List ℕ). All (λ other. other < s) calls)
+        (sym (is.calls_is name ∙ ap (λ b. cond b (seq ∷ noted_calls name c.past) (noted_calls name c.past)) test))
+        (here (same-name e.name name test))
     given false test =
-        let quiet : noted name s new ≡ noted name s c.past = is.noted_is name s ∙ ap (λ b. cond b (past_by n) (noted name s c.past)) (and_right (seq == s) (bytes_eq e.name name) test) in
-        subst (λ (calls : List ℕ). All (λ other. other < s) calls) (sym (is.calls_is name ∙ ap (λ b. cond b (seq ∷ noted_calls name c.past) (noted_calls name c.past)) test)) (h.notes_ascend name s stood (sym quiet ∙ none))
+        let quiet : noted name s new ≡ noted name s c.past =
+        is.noted_is name s ∙ ap (λ b. cond b (past_by n) (noted name s c.past))
+        (and_right (seq == s) (bytes_eq e.name name) test) in
+        subst (λ (calls : List ℕ). All (λ other. other < s) calls)
+        (sym (is.calls_is name ∙ ap (λ b. cond b (seq ∷ noted_calls name c.past) (noted_calls name c.past)) test))
+        (h.notes_ascend name s stood (sym quiet ∙ none))

@@ -12,11 +12,13 @@ use Rattle.call_history.proofs.Chained.{contains-in}
 use Rattle.call_history.proofs.Fitting.{Fits, fitting, none-noted}
 use Rattle.call_history.proofs.Prefixes.{StaysChain}
 
-gives-none : (policy : Policy) (level moment : ℕ) (form : Option Call) (past : Past) (n : Noted) → Fits policy past → IsSomeAnd form (λ call. Answers policy level moment call past (note n)) → past ≡ nothing
+gives-none : (policy : Policy) (level moment : ℕ) (form : Option Call) (past : Past) (n : Noted) → Fits policy past
+    → IsSomeAnd form (λ call. Answers policy level moment call past (note n)) → past ≡ nothing
 gives-none policy level moment None past n fits gives = absurd gives
 gives-none policy level moment (Some call) past n fits gives = none-noted policy level moment call past n fits gives
 
-pub called-once : StaysChain → (u : Under) (past : Behind) (seq : ℕ) (name : List ℕ) (n : Noted) → IsPrefix u past → IsCalledFor u past seq name n → noted name seq past ≡ nothing
+pub called-once : StaysChain → (u : Under) (past : Behind) (seq : ℕ) (name : List ℕ) (n : Noted) → IsPrefix u past
+    → IsCalledFor u past seq name n → noted name seq past ≡ nothing
 called-once chains u past seq name n prefix due =
     let e = due.meets.entry in
     let at = due.meets.at in

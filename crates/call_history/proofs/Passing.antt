@@ -3,7 +3,9 @@ use Rattle.std.proofs.Common.{◌≡◌, ◌≢◌, ℕ, ◌+◌, ◌<◌, ◌==
 use Rattle.std.specs.Prelude.{All, find, Some, None, option_map, slice_get}
 use Rattle.std.proofs.lemmas.List.Elements.{All-push}
 use Rattle.mrpc_table.specs.declared.call.Call.{Call}
-use Rattle.engine_core.specs.Answers.{Past, nothing, drawn, pass, note, past_after, level_left, Answers, allows, denies, was_charged, charges, holds, refuses, is_within, is_over, draws, was_counted, counts, is_clear, redacts}
+use Rattle.engine_core.specs.Answers.{Past, nothing, drawn, pass, note, past_after, level_left, Answers, allows}
+use Rattle.engine_core.specs.Answers.{denies, was_charged, charges, holds, refuses, is_within, is_over, draws}
+use Rattle.engine_core.specs.Answers.{was_counted, counts, is_clear, redacts}
 use Rattle.engine_core.specs.Chains.{Entry, names_of}
 use Rattle.mrpc_table.specs.Valid.{AreDistinct}
 use Rattle.engine_core.specs.declared.outcome.Noted.{Noted}
@@ -39,7 +41,8 @@ ended-still f row none = let go : ℕ × ℕ → ℕ × ℕ = λ call. (call.0, 
 
 -- ---- nothing is to be noted
 
-pub passed : (u : Under) (c : Course) (position seq : ℕ) (e : Entry) → Holds u c → IsTurn u c position seq e → first_at position c.row ≡ Some (seq, position) → Lets u c.past seq e
+pub passed : (u : Under) (c : Course) (position seq : ℕ) (e : Entry) → Holds u c → IsTurn u c position seq e
+    → first_at position c.row ≡ Some (seq, position) → Lets u c.past seq e
     → Holds u (record c { row = goes_on seq c.row })
 passed u c position seq e h turn first lets = record {
   prefix = h.prefix;
@@ -69,8 +72,10 @@ pub record IsNoted (u : Under) (c : Course) (x : Happening) (seq : ℕ) (e : Ent
   pub something : past_by n ≢ nothing
   pub noting : Notes e.policy
 
-pub noted-holds : (u : Under) (c : Course) (x : Happening) (position seq : ℕ) (e : Entry) (n : Noted) → Holds u c → IsTurn u c position seq e → slice_get (chain c.past).entries position ≡ Some e
-    → first_at position c.row ≡ Some (seq, position) → IsNoted u c x seq e n → IsSettledUp (x ∷ c.past) → Lets u (x ∷ c.past) seq e → Holds u (record c { past = x ∷ c.past; row = goes_on seq c.row })
+pub noted-holds : (u : Under) (c : Course) (x : Happening) (position seq : ℕ) (e : Entry) (n : Noted) → Holds u c
+    → IsTurn u c position seq e → slice_get (chain c.past).entries position ≡ Some e
+    → first_at position c.row ≡ Some (seq, position) → IsNoted u c x seq e n → IsSettledUp (x ∷ c.past)
+    → Lets u (x ∷ c.past) seq e → Holds u (record c { past = x ∷ c.past; row = goes_on seq c.row })
 noted-holds u c x position seq e n h turn entry first noted settled lets =
     let new : Behind = x ∷ c.past in
     record {
@@ -86,7 +91,8 @@ noted-holds u c x position seq e n h turn entry first noted settled lets =
     }
 
 -- the note is called for
-pub called-for : (u : Under) (c : Course) (position seq : ℕ) (e : Entry) (n : Noted) (call : Call) → StaysChain → Holds u c → IsTurn u c position seq e → form u.conn seq c.past ≡ Some call
+pub called-for : (u : Under) (c : Course) (position seq : ℕ) (e : Entry) (n : Noted) (call : Call) → StaysChain
+    → Holds u c → IsTurn u c position seq e → form u.conn seq c.past ≡ Some call
     → Answers e.policy (level e.name c.past) (moment c.past) call (noted e.name seq c.past) (note n) → IsCalledFor u c.past seq e.name n
 called-for u c position seq e n call stays h turn is answers = record {
   meets = record { entry = e; at = turn.at; gives = gives-by u c.past seq e call (note n) is answers };
@@ -128,7 +134,9 @@ pass-within policy level moment ticket cap form (counts is none answer) caps = a
 pass-within policy level moment ticket cap form (is_clear clears is left answer) caps = let wrong : None ≡ Some cap = sym (ap cap_of is) ∙ caps in absurd cc
 pass-within policy level moment ticket cap form (redacts clears is other answer) caps = absurd cc
 
-not-over : (u : Under) (c : Course) (position seq ticket level moment : ℕ) (e : Entry) (call : Call) → IsTurn u c position seq e → Answers e.policy level moment call (drawn ticket) pass → IsOver c.past e.name ticket → ⊥
+not-over : (u : Under) (c : Course) (position seq ticket level moment : ℕ) (e : Entry) (call : Call)
+    → IsTurn u c position seq e → Answers e.policy level moment call (drawn ticket) pass → IsOver c.past e.name ticket
+    → ⊥
 not-over u c position seq ticket level moment e call turn answers over =
     let policies : Some over.policy ≡ Some e.policy = sym over.is_policy ∙ policy-there u c position seq e turn in
     let same : over.policy ≡ e.policy = cc in
@@ -151,7 +159,8 @@ no-note policy level moment form past (counts is none answer) = cc
 no-note policy level moment form past (is_clear clears is left answer) = cc
 no-note policy level moment form past (redacts clears is other answer) = cc
 
-pub passed-noted : (u : Under) (c : Course) (position seq : ℕ) (e : Entry) (n : Noted) (call : Call) → StaysChain → Holds u c → IsTurn u c position seq e → slice_get (chain c.past).entries position ≡ Some e
+pub passed-noted : (u : Under) (c : Course) (position seq : ℕ) (e : Entry) (n : Noted) (call : Call) → StaysChain
+    → Holds u c → IsTurn u c position seq e → slice_get (chain c.past).entries position ≡ Some e
     → first_at position c.row ≡ Some (seq, position) → form u.conn seq c.past ≡ Some call
     → Answers e.policy (level e.name c.past) (moment c.past) call (noted e.name seq c.past) (note n)
     → Answers e.policy (level_left n (level e.name c.past)) (moment c.past) call (past_after n (noted e.name seq c.past)) pass
@@ -178,7 +187,11 @@ passed-noted u c position seq e (notes.Drawn window ticket) call stays h turn en
       something = λ none. cc;
       noting = notes-by e.policy (level e.name c.past) (moment c.past) call (noted e.name seq c.past) (notes.Drawn window ticket) calls;
     })
-    (record { malformed = λ awaits. awaits; quota = not-over u c position seq ticket (level e.name c.past) (moment c.past) e call turn after; link = works-on (x ∷ c.past) turn.free.works })
+    (record {
+      malformed = λ awaits. awaits;
+      quota = not-over u c position seq ticket (level e.name c.past) (moment c.past) e call turn after;
+      link = works-on (x ∷ c.past) turn.free.works;
+    })
     (lets-after u c.past (x ∷ c.past) seq (level e.name c.past) (moment c.past) e (notes.Drawn window ticket) call (draw-note c.past seq e.name window ticket) is after)
 passed-noted u c position seq e notes.Counted call stays h turn entry first is calls after =
     let x : Happening = Counted seq e.name in

@@ -45,7 +45,8 @@ numbered-more last (first ∷ calls) call h next =
 
 pub numbered : (u : Under) (past : Behind) → IsPrefix u past → Numbered 0 (taken past)
 numbered u [] prefix = tt
-numbered u (Took call ∷ past) prefix = numbered-more 0 (taken past) call (numbered u past prefix.0) (let next : call.seq ≡ length (taken past) + 1 = prefix.1.numbered.number in omega (arith, next))
+numbered u (Took call ∷ past) prefix = numbered-more 0 (taken past) call (numbered u past prefix.0)
+    (let next : call.seq ≡ length (taken past) + 1 = prefix.1.numbered.number in omega (arith, next))
 numbered u (x ∷ past) prefix = numbered u past prefix.0
 
 -- each number is above the one before, and none is above this one
@@ -53,7 +54,8 @@ abbrev pub Rising : (below top : ℕ) → List Taken → Type 0
 Rising below top [] = Unit {0}
 Rising below top (call ∷ calls) = (below < call.seq) × (call.seq ≤ top) × Rising call.seq top calls
 
-pub rising-filter : (p : Taken → Bool) (below last top : ℕ) (calls : List Taken) → below ≤ last → last + length calls ≤ top → Numbered last calls → Rising below top (filter p calls)
+pub rising-filter : (p : Taken → Bool) (below last top : ℕ) (calls : List Taken) → below ≤ last
+    → last + length calls ≤ top → Numbered last calls → Rising below top (filter p calls)
 rising-filter p below last top [] le within h = tt
 rising-filter p below last top (call ∷ calls) le within h =
     elim (p call) as (λ b. Rising below top (cond b (call ∷ filter p calls) (filter p calls))) [

@@ -34,7 +34,9 @@ cleared_again u c position seq e call h turn is answers =
       );
       settled = record { malformed = λ awaits. awaits; quota = λ awaits. awaits; link = works-on new turn.free.works };
       row = row-begins u c.past new seq 0 (length (taken c.past)) (length (chain c.past).entries) c.row
-          (λ s p less. stands-still u c.past new s p refl (λ d. lets-still u c.past new s d (form-others u.conn seq s e.version e.name c.past (λ same. omega (arith, same, less))) refl)) h.row;
+          (λ s p less. stands-still u c.past new s p refl
+          (λ d. lets-still u c.past new s d
+          (form-others u.conn seq s e.version e.name c.past (λ same. omega (arith, same, less))) refl)) h.row;
       calls = numbers-same (λ call. cond (nat_lt call.0 seq) call.1 0) c.row ∙ h.calls;
       notes_ascend = h.notes_ascend;
       failed = h.failed;

@@ -3,7 +3,9 @@ use Rattle.std.proofs.Common.{◌≡◌, ◌≢◌, ℕ, ◌||◌, true, false, 
 use Rattle.std.specs.Prelude.{Contains, Some, slice_get}
 use Rattle.std.proofs.lemmas.Bool.{cases_eq, eq-eqb, ne_eqb}
 use Rattle.mrpc_table.specs.declared.call.Call.{Call}
-use Rattle.engine_core.specs.Answers.{Past, nothing, charged, drawn, counted, pass, deny, refuse, over, note, past_after, level_left, Answers, allows, denies, was_charged, charges, holds, refuses, is_within, is_over, draws, was_counted, counts, is_clear, redacts}
+use Rattle.engine_core.specs.Answers.{Past, nothing, charged, drawn, counted, pass, deny, refuse, over, note}
+use Rattle.engine_core.specs.Answers.{past_after, level_left, Answers, allows, denies, was_charged, charges, holds}
+use Rattle.engine_core.specs.Answers.{refuses, is_within, is_over, draws, was_counted, counts, is_clear, redacts}
 use Rattle.engine_core.specs.Chains.{Entry}
 use Rattle.engine_core.specs.Turns.{refusal}
 use Rattle.engine_core.specs.declared.outcome.Noted.{Noted}
@@ -33,11 +35,13 @@ use Rattle.call_history.proofs.Standing.{standing-refused, calls-without}
 
 -- ---- the others stay in the row
 
-pub row-left : (u : Under) (past new : Behind) (seq below top bound : ℕ) (row : Row) → KeepsOthers u past new seq → IsRow u past below top bound row → IsRow u new below top bound (without_call seq row)
+pub row-left : (u : Under) (past new : Behind) (seq below top bound : ℕ) (row : Row) → KeepsOthers u past new seq
+    → IsRow u past below top bound row → IsRow u new below top bound (without_call seq row)
 row-left u past new seq below top bound [] keeps h = tt
 row-left u past new seq below top bound (call ∷ row) keeps h = elim (cases_eq seq call.0) [
   | inl same ↦ subst (λ b. IsRow u new below top bound (cond (not b) (call ∷ without_call seq row) (without_call seq row))) (sym (eq-eqb seq call.0 same))
-      (row-weaker u new call.0 below top top call.1 bound (without_call seq row) (omega (arith, h.0.number)) (omega arith) (omega (arith, h.0.falls)) (row-left u past new seq call.0 top call.1 row keeps h.1))
+      (row-weaker u new call.0 below top top call.1 bound (without_call seq row) (omega (arith, h.0.number))
+      (omega arith) (omega (arith, h.0.falls)) (row-left u past new seq call.0 top call.1 row keeps h.1))
   | inr apart ↦ subst (λ b. IsRow u new below top bound (cond (not b) (call ∷ without_call seq row) (without_call seq row))) (sym (ne_eqb seq call.0 apart)) (
     record { number = h.0.number; few = h.0.few; falls = h.0.falls; stands = keeps call.0 call.1 (λ same. apart (sym same)) h.0.stands },
     row-left u past new seq call.0 top call.1 row keeps h.1,
@@ -154,7 +158,8 @@ record IsOverCap (policy : Policy) (past : Past) (why : Why) : Type 0 where
   is_cap : cap_of policy ≡ Some cap
   is_why : why ≡ Over ticket cap
 
-over-cap : (policy : Policy) (level moment : ℕ) (form : Call) (past : Past) (why : Why) → Notes policy → past ≢ nothing → Answers policy level moment form past (refusal why) → IsOverCap policy past why
+over-cap : (policy : Policy) (level moment : ℕ) (form : Call) (past : Past) (why : Why) → Notes policy
+    → past ≢ nothing → Answers policy level moment form past (refusal why) → IsOverCap policy past why
 over-cap policy level moment form past why noting some (allows p is allow answer) = absurd (subst Notes is noting)
 over-cap policy level moment form past why noting some (denies p is allow answer) = absurd (subst Notes is noting)
 over-cap policy level moment form past why noting some (was_charged r is was answer) = absurd (not-pass why answer)
@@ -192,7 +197,8 @@ may-over u c position seq window ticket cap e call h turn is caps answers = reco
       let_pass = front-lets u c.past drew seq e.name (notes.Drawn window ticket) turn.cut.front drawing (λ x. before-apart u c position seq e x turn) turn.lets;
     };
     gives = gives-by u drew seq e call (over ticket cap) is
-        (subst (λ (p : Past). Answers e.policy (level e.name c.past) (moment c.past) call p (over ticket cap)) (sym (noted-here c.past drew seq e.name (notes.Drawn window ticket) drawing)) answers);
+        (subst (λ (p : Past). Answers e.policy (level e.name c.past) (moment c.past) call p (over ticket cap))
+        (sym (noted-here c.past drew seq e.name (notes.Drawn window ticket) drawing)) answers);
   };
   link_end = (λ failed. (let wrong : false ≡ true = sym turn.free.works ∙ failed in absurd cc), tt);
 }

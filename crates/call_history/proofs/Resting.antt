@@ -1,5 +1,6 @@
 -- Where the first call at a position is held, it stays so whatever entries at later positions do.
-use Rattle.std.proofs.Common.{◌≡◌, ◌≢◌, ℕ, ◌+◌, ◌<◌, ◌≤◌, zero, suc, Bool, true, false, ◌==◌, cond, not, List, [], ◌∷◌, length, refl, sym, ap, ◌∙◌, subst, arith}
+use Rattle.std.proofs.Common.{◌≡◌, ◌≢◌, ℕ, ◌+◌, ◌<◌, ◌≤◌, zero, suc, Bool, true, false, ◌==◌, cond, not, List, []}
+use Rattle.std.proofs.Common.{◌∷◌, length, refl, sym, ap, ◌∙◌, subst, arith}
 use Rattle.std.specs.Prelude.{Contains, Option, Some, slice_get}
 use Rattle.std.proofs.lemmas.Bool.{ne_eqb, eqb-true}
 use Rattle.mrpc_table.specs.Valid.{AreDistinct}
@@ -134,7 +135,9 @@ only-there : (u : Under) (past : Behind) (below top bound seq position : ℕ) (r
     → StandsThere seq position row
 only-there u past below top bound seq position [] h is = tt
 only-there u past below top bound seq position (x ∷ row) h is =
-    let given : (b : Bool) → (x.1 == position) ≡ b → cond b (Some x) (first_at position row) ≡ Some (seq, position) → StandsThere seq position (x ∷ row) = λ b. elim b as (λ b. (x.1 == position) ≡ b → cond b (Some x) (first_at position row) ≡ Some (seq, position) → StandsThere seq position (x ∷ row)) [
+    let given : (b : Bool) → (x.1 == position) ≡ b → cond b (Some x) (first_at position row) ≡ Some (seq, position)
+    → StandsThere seq position (x ∷ row) = λ b. elim b as (λ b. (x.1 == position) ≡ b
+    → cond b (Some x) (first_at position row) ≡ Some (seq, position) → StandsThere seq position (x ∷ row)) [
       | true ↦ λ test first. here (eqb-true x.1 position test) (cc)
       | false ↦ λ test first. later (found u past x.0 top x.1 position row (seq, position) first h.1).placed.number (only-there u past x.0 top x.1 seq position row h.1 first)
     ] in
@@ -152,7 +155,9 @@ first-goes : (seq position q : ℕ) (row : Row) → StandsThere seq position row
 first-goes seq position q [] there apart further = refl
 first-goes seq position q (x ∷ row) there apart further =
     let rest : first_at q (goes_on seq row) ≡ first_at q row = first-goes seq position q row there.1 apart further in
-    let given : (b : Bool) → (x.0 == seq) ≡ b → first_at q ((x.0, cond b (x.1 + 1) x.1) ∷ goes_on seq row) ≡ first_at q (x ∷ row) = λ b. elim b as (λ b. (x.0 == seq) ≡ b → first_at q ((x.0, cond b (x.1 + 1) x.1) ∷ goes_on seq row) ≡ first_at q (x ∷ row)) [
+    let given : (b : Bool) → (x.0 == seq) ≡ b → first_at q ((x.0, cond b (x.1 + 1) x.1) ∷ goes_on seq row)
+    ≡ first_at q (x ∷ row) = λ b. elim b as (λ b. (x.0 == seq) ≡ b
+    → first_at q ((x.0, cond b (x.1 + 1) x.1) ∷ goes_on seq row) ≡ first_at q (x ∷ row)) [
       | true ↦ λ test.
           let at : x.1 ≡ position = there.0 (eqb-true x.0 seq test) in
           ap (λ b. cond b (Some (x.0, x.1 + 1)) (first_at q (goes_on seq row))) (ne_eqb (x.1 + 1) q (λ same. further (omega (arith, same, at))))
@@ -165,7 +170,10 @@ first-without : (seq position q : ℕ) (row : Row) → StandsThere seq position 
 first-without seq position q [] there apart = refl
 first-without seq position q (x ∷ row) there apart =
     let rest : first_at q (without_call seq row) ≡ first_at q row = first-without seq position q row there.1 apart in
-    let given : (b : Bool) → (seq == x.0) ≡ b → first_at q (cond (not b) (x ∷ without_call seq row) (without_call seq row)) ≡ first_at q (x ∷ row) = λ b. elim b as (λ b. (seq == x.0) ≡ b → first_at q (cond (not b) (x ∷ without_call seq row) (without_call seq row)) ≡ first_at q (x ∷ row)) [
+    let given : (b : Bool) → (seq == x.0) ≡ b
+    → first_at q (cond (not b) (x ∷ without_call seq row) (without_call seq row)) ≡ first_at q (x ∷ row) =
+    λ b. elim b as (λ b. (seq == x.0) ≡ b
+    → first_at q (cond (not b) (x ∷ without_call seq row) (without_call seq row)) ≡ first_at q (x ∷ row)) [
       | true ↦ λ test.
           let at : x.1 ≡ position = there.0 (sym (eqb-true seq x.0 test)) in
           rest ∙ ap (λ b. cond b (Some x) (first_at q row)) (sym (ne_eqb x.1 q (λ same. apart (omega (arith, same, at)))))
@@ -173,10 +181,13 @@ first-without seq position q (x ∷ row) there apart =
     ] in
     given (seq == x.0) refl
 
-first-turned : (u : Under) (c : Course) (position q seq : ℕ) (outcome : Outcome) (e : Entry) → Holds u c → first_at position c.row ≡ Some (seq, position) → q < position → IsDone outcome
+first-turned : (u : Under) (c : Course) (position q seq : ℕ) (outcome : Outcome) (e : Entry) → Holds u c
+    → first_at position c.row ≡ Some (seq, position) → q < position → IsDone outcome
     → first_at q (turned e seq outcome c).row ≡ first_at q c.row
 first-turned u c position q seq (Passed n) e h first less done =
-    first-goes seq position q c.row (only-there u c.past 0 (length (taken c.past)) (length (chain c.past).entries) seq position c.row h.row first) (λ same. omega (arith, same, less)) (λ same. omega (arith, same, less))
+    first-goes seq position q c.row
+    (only-there u c.past 0 (length (taken c.past)) (length (chain c.past).entries) seq position c.row h.row first)
+    (λ same. omega (arith, same, less)) (λ same. omega (arith, same, less))
 first-turned u c position q seq (Held left cost) e h first less done = absurd done
 first-turned u c position q seq (Refused n why) e h first less done =
     first-without seq position q c.row (only-there u c.past 0 (length (taken c.past)) (length (chain c.past).entries) seq position c.row h.row first) (λ same. omega (arith, same, less))
@@ -185,7 +196,8 @@ first-turned u c position q seq Redacted e h first less done = absurd done
 -- ---- it stays at rest
 
 -- behind a turn at a later position that is done with its call
-pub rests-on : (u : Under) (c : Course) (position q seq : ℕ) (outcome : Outcome) (e : Entry) → StaysChain → Holds u c → HasTurn u c position seq outcome e → IsDone outcome → q < position
+pub rests-on : (u : Under) (c : Course) (position q seq : ℕ) (outcome : Outcome) (e : Entry) → StaysChain → Holds u c
+    → HasTurn u c position seq outcome e → IsDone outcome → q < position
     → AtRest u c q → AtRest u (turned e seq outcome c) q
 rests-on u c position q seq outcome e chains h turn done less rest = record { held = λ s first. still s (sym (same-first) ∙ first) }
   where
@@ -219,7 +231,9 @@ pub rests-sent : (u : Under) (c : Course) (position q seq bytes : ℕ) → Holds
 rests-sent u c position q seq bytes h first less rest = record { held = λ s first. still s (sym same-first ∙ first) }
   where
     same-first : first_at q (without_call seq c.row) ≡ first_at q c.row
-    same-first = first-without seq position q c.row (only-there u c.past 0 (length (taken c.past)) (length (chain c.past).entries) seq position c.row h.row first) (λ same. omega (arith, same, less))
+    same-first = first-without seq position q c.row
+        (only-there u c.past 0 (length (taken c.past)) (length (chain c.past).entries) seq position c.row h.row first)
+        (λ same. omega (arith, same, less))
 
     still : (s : ℕ) → first_at q c.row ≡ Some (s, q) → IsHeldAt u (record c { past = Sent seq bytes ∷ c.past; row = without_call seq c.row }) q s
     still s first =

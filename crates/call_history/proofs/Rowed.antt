@@ -53,7 +53,8 @@ row-kept u past new below top bound (call ∷ row) keeps h = (
 )
 
 -- a new call at the front
-pub row-more : (u : Under) (past : Behind) (below top seq bound : ℕ) (row : Row) → top < seq → below < seq → IsRow u past below top bound row → IsRow u past below seq bound (row ++ (seq, 0) ∷ [])
+pub row-more : (u : Under) (past : Behind) (below top seq bound : ℕ) (row : Row) → top < seq → below < seq
+    → IsRow u past below top bound row → IsRow u past below seq bound (row ++ (seq, 0) ∷ [])
 row-more u past below top seq bound [] above over h = (record { number = over; few = omega arith; falls = omega arith; stands = stands-first u past seq }, tt)
 row-more u past below top seq bound (call ∷ row) above over h = (
   record { number = h.0.number; few = omega (arith, h.0.few, above); falls = h.0.falls; stands = h.0.stands },

@@ -52,7 +52,14 @@ abbrev pub where_equal : List ℕ → Bool → ℕ → ℕ → Rule
 where_equal name allow at v = record {
   name = name;
   allow = allow;
-  about = OfCalls (record { method = 0; sort = Request; test = Some (record { path = record { way = []; number = at; kind = Uint64; label = Plain }; condition = Compares Equal (Number v) }) });
+  about = OfCalls (record {
+    method = 0;
+    sort = Request;
+    test = Some (record {
+      path = record { way = []; number = at; kind = Uint64; label = Plain };
+      condition = Compares Equal (Number v);
+    });
+  });
 }
 
 abbrev pub acl : List ℕ

@@ -36,7 +36,9 @@ head-of u past below top bound [] calls call h is same = absurd cc
 head-of u past below top bound (x ∷ row) [] call h is same = absurd cc
 head-of u past below top bound (x ∷ row) (y ∷ calls) call h is same =
     let number : x.0 ≡ y.seq = cc in
-    let given : (b : Bool) → (x.1 == bound) ≡ b → cond b (Some x) (first_at bound row) ≡ Some call → IsHeadOf (x ∷ row) (y ∷ calls) call.0 = λ b. elim b as (λ b. (x.1 == bound) ≡ b → cond b (Some x) (first_at bound row) ≡ Some call → IsHeadOf (x ∷ row) (y ∷ calls) call.0) [
+    let given : (b : Bool) → (x.1 == bound) ≡ b → cond b (Some x) (first_at bound row) ≡ Some call
+    → IsHeadOf (x ∷ row) (y ∷ calls) call.0 = λ b. elim b as (λ b. (x.1 == bound) ≡ b
+    → cond b (Some x) (first_at bound row) ≡ Some call → IsHeadOf (x ∷ row) (y ∷ calls) call.0) [
       | true ↦ λ test first. (let here : x ≡ call = cc in record { call = y; others = calls; first = refl; number = sym number ∙ ap (λ (z : ℕ × ℕ). z.0) here })
       | false ↦ λ test first.
           let rest = found u past x.0 top x.1 bound row call first h.1 in
@@ -51,7 +53,11 @@ take-whole {X} (x ∷ xs) = ap (λ (ys : List X). x ∷ ys) (take-whole xs)
 sent-next : (u : Under) (c : Course) (seq bytes : ℕ) → Holds u c → IsReady u c seq bytes → IsSentNext u c.past seq bytes
 sent-next u c seq bytes h ready =
     let end : ℕ = length (chain c.past).entries in
-    let head : IsHeadOf c.row (standing c.past) seq = head-of u c.past 0 (length (taken c.past)) (length (chain c.past).entries) c.row (standing c.past) (seq, length (chain c.past).entries) h.row ready.first h.calls in
+    let head : IsHeadOf c.row (standing c.past) seq =
+    head-of u c.past 0 (length (taken c.past)) (length (chain c.past).entries) c.row (standing c.past) (
+      seq,
+      length (chain c.past).entries,
+    ) h.row ready.first h.calls in
     let call = found u c.past 0 (length (taken c.past)) (length (chain c.past).entries) (length (chain c.past).entries) c.row (seq, length (chain c.past).entries) ready.first h.row in
     record {
       call = head.call;

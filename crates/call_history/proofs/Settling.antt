@@ -1,5 +1,6 @@
 -- Behind a whole drain a connection is settled.
-use Rattle.std.proofs.Common.{◌≡◌, ◌≢◌, ℕ, ◌+◌, ◌<◌, ◌≤◌, zero, suc, Bool, true, false, ◌==◌, cond, inl, inr, List, [], ◌∷◌, length, map, refl, sym, ap, ◌∙◌, subst, arith}
+use Rattle.std.proofs.Common.{◌≡◌, ◌≢◌, ℕ, ◌+◌, ◌<◌, ◌≤◌, zero, suc, Bool, true, false, ◌==◌, cond, inl, inr, List}
+use Rattle.std.proofs.Common.{[], ◌∷◌, length, map, refl, sym, ap, ◌∙◌, subst, arith}
 use Rattle.std.specs.Prelude.{All, Option, Some, None, option_map, slice_get}
 use Rattle.std.proofs.lemmas.Bool.{cases_lt, eq-eqb, ne_eqb, eqb-false}
 use Rattle.std.proofs.lemmas.List.Elements.{All-nil, All-cons}
@@ -13,7 +14,9 @@ use Rattle.engine_core.specs.declared.outcome.Outcome.{Outcome}
 use Rattle.engine_core.specs.declared.outcome.Outcome.TheVariants.{Held, Redacted}
 use Rattle.engine_core.specs.declared.policy.Policy.{Policy}
 use Rattle.call_history.specs.Behind.{Behind, chain, taken, standing, form, level, moment, noted}
-use Rattle.call_history.specs.Draining.{Ending, at_rest, again, Turns, is_idle, is_held as holds_first, redacts, goes, Passes, is_over, next, begins_again, SendsSome, none, one, BeginsToDrain, Drains, FailsToDrain}
+use Rattle.call_history.specs.Draining.{Ending, at_rest, again, Turns, is_idle, is_held as holds_first, redacts, goes}
+use Rattle.call_history.specs.Draining.{Passes, is_over, next, begins_again, SendsSome, none, one, BeginsToDrain}
+use Rattle.call_history.specs.Draining.{Drains, FailsToDrain}
 use Rattle.call_history.specs.Events.{Course, Event, Comes, turns, sends, fails, takes, is_away, changes, rises, stays, has_turn, is_sent, link_failed, HasTurn, turned, IsCourse}
 use Rattle.call_history.specs.Places.{IsHeld, IsSettled}
 use Rattle.call_history.specs.Rules.{Under}
@@ -32,7 +35,8 @@ RestBefore u c position = (q : ℕ) → q < position → AtRest u c q
 
 -- ---- turns
 
-turn-holds : (u : Under) (c : Course) (position seq : ℕ) (outcome : Outcome) (e : Entry) → StaysChain → Holds u c → HasTurn u c position seq outcome e → Holds u (turned e seq outcome c)
+turn-holds : (u : Under) (c : Course) (position seq : ℕ) (outcome : Outcome) (e : Entry) → StaysChain → Holds u c
+    → HasTurn u c position seq outcome e → Holds u (turned e seq outcome c)
 turn-holds u c position seq outcome e chains h turn =
     event-holds u c (turned e seq outcome c) (turns position seq outcome) chains h (has_turn position seq outcome e refl turn refl)
 
@@ -138,10 +142,13 @@ fails-keep chains u old new h drain =
 -- ---- settled
 
 -- no call stands at the bound
-all-before : (u : Under) (past : Behind) (below top bound end : ℕ) (row : Row) → bound ≤ end → IsRow u past below top bound row → first_at end row ≡ None → All (λ p. p < end) (map (λ call. call.1) row)
+all-before : (u : Under) (past : Behind) (below top bound end : ℕ) (row : Row) → bound ≤ end
+    → IsRow u past below top bound row → first_at end row ≡ None → All (λ p. p < end) (map (λ call. call.1) row)
 all-before u past below top bound end [] within h is = All-nil (λ p. p < end)
 all-before u past below top bound end (x ∷ row) within h is =
-    let given : (b : Bool) → (x.1 == end) ≡ b → cond b (Some x) (first_at end row) ≡ None → All (λ p. p < end) (map (λ call. call.1) (x ∷ row)) = λ b. elim b as (λ b. (x.1 == end) ≡ b → cond b (Some x) (first_at end row) ≡ None → All (λ p. p < end) (map (λ call. call.1) (x ∷ row))) [
+    let given : (b : Bool) → (x.1 == end) ≡ b → cond b (Some x) (first_at end row) ≡ None
+    → All (λ p. p < end) (map (λ call. call.1) (x ∷ row)) = λ b. elim b as (λ b. (x.1 == end) ≡ b
+    → cond b (Some x) (first_at end row) ≡ None → All (λ p. p < end) (map (λ call. call.1) (x ∷ row))) [
       | true ↦ λ test none. absurd cc
       | false ↦ λ test none.
           let apart = eqb-false x.1 end test in
@@ -167,7 +174,8 @@ first-there (x ∷ row) (suc place) seq position number at before =
     ap (λ b. cond b (Some x) (first_at position row)) (ne_eqb x.1 position apart)
     ∙ first-there row place seq position number at (λ i p less there. before (suc i) p (omega (arith, less)) there)
 
-holds-by : (policy : Policy) (level moment : ℕ) (form : Call) (past : Past) (outcome : Outcome) (left cost : ℕ) → ComesOut policy level moment form past outcome → outcome ≡ Held left cost
+holds-by : (policy : Policy) (level moment : ℕ) (form : Call) (past : Past) (outcome : Outcome) (left cost : ℕ)
+    → ComesOut policy level moment form past outcome → outcome ≡ Held left cost
     → Answers policy level moment form past (hold left cost)
 holds-by policy level moment form past outcome left cost (passes answers outcome_is) is = absurd cc
 holds-by policy level moment form past outcome left cost (is_noted n notes after outcome_is) is = absurd cc
@@ -185,7 +193,9 @@ held-there u c call position held = (
     entry = held.entry;
     at = held.turn.entry;
     holds = gives-by u c.past call.seq held.entry held.turn.call (hold held.level held.cost) held.turn.is_form
-        (holds-by held.entry.policy (level held.entry.name c.past) (moment c.past) held.turn.call (noted held.entry.name call.seq c.past) (Held held.level held.cost) held.level held.cost held.turn.comes refl);
+        (holds-by held.entry.policy (level held.entry.name c.past) (moment c.past) held.turn.call
+        (noted held.entry.name call.seq c.past) (Held held.level held.cost) held.level held.cost held.turn.comes
+        refl);
   },
 )
 

@@ -1,5 +1,6 @@
 -- What is left of a tree has no longer encoding.
-use Rattle.std.proofs.Common.{◌≡◌, ℕ, zero, suc, ◌+◌, ◌/◌, ◌%◌, ◌<◌, ◌≤◌, Bool, true, false, cond, List, [], ◌∷◌, ◌++◌, length, refl, sym, ◌∙◌, arith, nat_lt}
+use Rattle.std.proofs.Common.{◌≡◌, ℕ, zero, suc, ◌+◌, ◌/◌, ◌%◌, ◌<◌, ◌≤◌, Bool, true, false, cond, List, [], ◌∷◌}
+use Rattle.std.proofs.Common.{◌++◌, length, refl, sym, ◌∙◌, arith, nat_lt}
 use Rattle.std.proofs.lemmas.Bool.{ltb-true, lt-ltb}
 use Rattle.std.proofs.lemmas.List.{length-append}
 use Rattle.mrpc_table.specs.Calls.{message_at}
@@ -25,7 +26,8 @@ unfolding groups
 groups-fall zero m n less = omega arith
 groups-fall (suc more) m n less =
     let fall : length (groups more (m / 128)) ≤ length (groups more (n / 128)) = groups-fall more (m / 128) (n / 128) (omega (arith, less)) in
-    let Falls : Bool → Bool → Type 0 = λ a b. length (cond a (m ∷ []) ((m % 128 + 128) ∷ groups more (m / 128))) ≤ length (cond b (n ∷ []) ((n % 128 + 128) ∷ groups more (n / 128))) in
+    let Falls : Bool → Bool → Type 0 = λ a b. length (cond a (m ∷ []) ((m % 128 + 128) ∷ groups more (m / 128)))
+    ≤ length (cond b (n ∷ []) ((n % 128 + 128) ∷ groups more (n / 128))) in
     let given : (a b : Bool) → nat_lt m 128 ≡ a → nat_lt n 128 ≡ b → Falls a b = λ a b. elim a as (λ a. nat_lt m 128 ≡ a → nat_lt n 128 ≡ b → Falls a b) [
       | true ↦ elim b as (λ b. nat_lt m 128 ≡ true → nat_lt n 128 ≡ b → Falls true b) [
         | true ↦ λ below too. omega arith
@@ -50,16 +52,21 @@ append-falls a b c d first second = omega (arith, length-append a b, length-appe
 
 -- ---- trees
 
-one-falls : (T : Table) (fs : List Field) (at : List ℕ → Bool) (n : ℕ) (i : Item) → length (item_bytes T (kind_at fs n) (item_without at i)) ≤ length (item_bytes T (kind_at fs n) i)
+one-falls : (T : Table) (fs : List Field) (at : List ℕ → Bool) (n : ℕ) (i : Item)
+    → length (item_bytes T (kind_at fs n) (item_without at i)) ≤ length (item_bytes T (kind_at fs n) i)
     → length (content_bytes T fs n (one (item_without at i))) ≤ length (content_bytes T fs n (one i))
-one-falls T fs at n i less = append-falls (tag n (wire_type_of (kind_at fs n))) (item_bytes T (kind_at fs n) (item_without at i)) (tag n (wire_type_of (kind_at fs n))) (item_bytes T (kind_at fs n) i) (omega arith) less
+one-falls T fs at n i less =
+    append-falls (tag n (wire_type_of (kind_at fs n))) (item_bytes T (kind_at fs n) (item_without at i))
+    (tag n (wire_type_of (kind_at fs n))) (item_bytes T (kind_at fs n) i) (omega arith) less
 
 field-falls : (T : Table) (fs : List Field) (at : List ℕ → Bool) (n : ℕ) (c : Content) (t : Node) (gone : Bool)
     → length (content_bytes T fs n (content_without (λ path. at (n ∷ path)) c)) ≤ length (content_bytes T fs n c)
     → length (fields_bytes T fs (without at t)) ≤ length (fields_bytes T fs t)
     → length (fields_bytes T fs (cond gone (without at t) (field n (content_without (λ path. at (n ∷ path)) c) (without at t)))) ≤ length (fields_bytes T fs (field n c t))
 field-falls T fs at n c t true first rest = omega (arith, length-append (content_bytes T fs n c) (fields_bytes T fs t), rest)
-field-falls T fs at n c t false first rest = append-falls (content_bytes T fs n (content_without (λ path. at (n ∷ path)) c)) (fields_bytes T fs (without at t)) (content_bytes T fs n c) (fields_bytes T fs t) first rest
+field-falls T fs at n c t false first rest =
+    append-falls (content_bytes T fs n (content_without (λ path. at (n ∷ path)) c)) (fields_bytes T fs (without at t))
+    (content_bytes T fs n c) (fields_bytes T fs t) first rest
 
 mutual
   pub fields-fall : (T : Table) (fs : List Field) (at : List ℕ → Bool) (t : Node) → length (fields_bytes T fs (without at t)) ≤ length (fields_bytes T fs t)
@@ -75,7 +82,8 @@ mutual
   item-falls : (T : Table) (k : Kind) (at : List ℕ → Bool) (i : Item) → length (item_bytes T k (item_without at i)) ≤ length (item_bytes T k i)
   item-falls T k at (number n) = omega arith
   item-falls T k at (run bytes) = omega arith
-  item-falls T k at (node t) = delimited-falls (fields_bytes T (fields_of T (message_of k)) (without at t)) (fields_bytes T (fields_of T (message_of k)) t) (fields-fall T (fields_of T (message_of k)) at t)
+  item-falls T k at (node t) = delimited-falls (fields_bytes T (fields_of T (message_of k)) (without at t))
+      (fields_bytes T (fields_of T (message_of k)) t) (fields-fall T (fields_of T (message_of k)) at t)
 
 -- what the clears leave of a call
 pub payload-falls : (T : Table) (clears : List Clear) (call : Call) → length (payload T (cleared_call clears call)) ≤ length (payload T call)

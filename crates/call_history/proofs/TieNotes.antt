@@ -268,7 +268,8 @@ module _ (conn : ℕ) (past : Behind) (es : List EngineParts) (n : ℕ) (calls :
       let other : attach ≢ w.engine.entry.attach = λ same. omega arith in
       let none : note_of w.met.marks attach ≡ None = w.keeps.gone attach (λ k d inside same. omega (
         arith,
-        attached-apart (map (λ (e : EngineParts). e.entry) es) n (get_or es k d).entry own-chain.numbered (contains-map (λ (e : EngineParts). e.entry) es (get_or es k d) (Contains-get_or es k d inside)),
+        attached-apart (map (λ (e : EngineParts). e.entry) es) n (get_or es k d).entry own-chain.numbered
+            (contains-map (λ (e : EngineParts). e.entry) es (get_or es k d) (Contains-get_or es k d inside)),
       )) in
       w.leaves_marks.others_none attach other none
 
@@ -276,7 +277,10 @@ module _ (conn : ℕ) (past : Behind) (es : List EngineParts) (n : ℕ) (calls :
   silent-met = All-at (λ (e : EngineParts). IsTrueFor e.entry w.met) es p w.engine true-met w.is_engine
 
   notes-left : All (λ e. past_of w.call'.marks e.entry.attach ≡ noted e.entry.name w.call.call.seq (worked w.engine.entry w.call.call.seq outcome past)) es'
-  notes-left = subst (λ (xs : List EngineParts). All (λ e. past_of w.call'.marks e.entry.attach ≡ noted e.entry.name w.call.call.seq (worked w.engine.entry w.call.call.seq outcome past)) xs) (sym w.others)
+  notes-left = subst
+      (λ (xs : List EngineParts).
+      All (λ e. past_of w.call'.marks e.entry.attach ≡ noted e.entry.name w.call.call.seq
+      (worked w.engine.entry w.call.call.seq outcome past)) xs) (sym w.others)
       (replaced (λ e. past_of w.met.marks e.entry.attach ≡ noted e.entry.name w.call.call.seq past)
       (λ e. past_of w.call'.marks e.entry.attach ≡ noted e.entry.name w.call.call.seq (worked w.engine.entry w.call.call.seq outcome past)) es p w.engine w.engine'
       own-chain.names own-chain.attachments w.is_engine own others met-kept)
@@ -297,7 +301,10 @@ module _ (conn : ℕ) (past : Behind) (es : List EngineParts) (n : ℕ) (calls :
     is_form = subst (λ (k : ℕ). form conn k (worked w.engine.entry w.call.call.seq outcome past) ≡ Some w.call'.call) (sym number-kept)
         (is.form_own conn w.call.call (policy-there past es n w.engine chained ties.same_chain (contains-at es p w.engine w.is_engine)) its-ties.is_form
         ∙ ap (λ (c : Call). Some c) (sym w.leaves_call.form));
-    notes = subst (λ (k : ℕ). All (λ e. past_of w.call'.marks e.entry.attach ≡ noted e.entry.name k (worked w.engine.entry w.call.call.seq outcome past)) es') (sym number-kept) notes-left;
+    notes = subst (λ (k : ℕ).
+        All (λ e. past_of w.call'.marks e.entry.attach
+        ≡ noted e.entry.name k (worked w.engine.entry w.call.call.seq outcome past)) es')
+        (sym number-kept) notes-left;
     marked = marked-left;
     true_for = entries-kept (λ (e : Entry). IsTrueFor e w.call') true-left;
   }

@@ -1,5 +1,7 @@
 -- A call is taken, an operator's step changes the engines, and the clock shows a later moment.
-use Rattle.std.proofs.Common.{◌≡◌, ◌≢◌, ℕ, ◌+◌, ◌-◌, ◌<◌, ◌≤◌, max, zero, suc, Bool, true, false, not, cond, ◌&&◌, ◌==◌, if◌then◌else◌, List, [], ◌∷◌, ◌++◌, length, map, filter, take, drop, set, insert, remove, get_or, slice_get, refl, sym, ap, ◌∙◌, subst, arith}
+use Rattle.std.proofs.Common.{◌≡◌, ◌≢◌, ℕ, ◌+◌, ◌-◌, ◌<◌, ◌≤◌, max, zero, suc, Bool, true, false, not, cond, ◌&&◌}
+use Rattle.std.proofs.Common.{◌==◌, if◌then◌else◌, List, [], ◌∷◌, ◌++◌, length, map, filter, take, drop, set, insert}
+use Rattle.std.proofs.Common.{remove, get_or, slice_get, refl, sym, ap, ◌∙◌, subst, arith}
 use Rattle.std.specs.Prelude.{All, Contains, Option, Some, None}
 use Rattle.std.specs.Str.{bytes_eq}
 use Rattle.std.proofs.lemmas.Bool.{and_right, ne_eqb}
@@ -56,7 +58,9 @@ unnoted : (past : Behind) (name : List ℕ) (seq : ℕ) → All (λ other. other
 unnoted [] name seq apart = refl
 unnoted (Op (Attach at other label policy) ∷ past) name seq apart = unnoted-new seq (bytes_eq other name) (noted_calls name past) (noted name seq past) apart (unnoted past name seq)
 unnoted (Charged call other left ∷ past) name seq apart = unnoted-one charged call seq (bytes_eq other name) (noted_calls name past) (noted name seq past) apart (unnoted past name seq)
-unnoted (Drawn call other window ticket ∷ past) name seq apart = unnoted-one (drawn ticket) call seq (bytes_eq other name) (noted_calls name past) (noted name seq past) apart (unnoted past name seq)
+unnoted (Drawn call other window ticket ∷ past) name seq apart =
+    unnoted-one (drawn ticket) call seq (bytes_eq other name) (noted_calls name past) (noted name seq past) apart
+    (unnoted past name seq)
 unnoted (Counted call other ∷ past) name seq apart = unnoted-one counted call seq (bytes_eq other name) (noted_calls name past) (noted name seq past) apart (unnoted past name seq)
 unnoted (x ∷ past) name seq apart = unnoted past name seq apart
 
@@ -119,7 +123,11 @@ attaches-on unmarked conn past es n calls at name label policy ties changes = re
     entries : map (λ e. e.entry) es ≡ (chain past).entries
     entries = ap (λ (c : Chain). c.entries) ties.same_chain
 
-    same : chain_of (insert es at (record { entry = new_entry name (n + 1) policy; level = first_level policy; last = moment past })) (n + 1) ≡ chain (Op (Attach at name label policy) ∷ past)
+    same : chain_of (insert es at (record {
+      entry = new_entry name (n + 1) policy;
+      level = first_level policy;
+      last = moment past;
+    })) (n + 1) ≡ chain (Op (Attach at name label policy) ∷ past)
     same = ap (λ (xs : List Entry). let c : Chain = record { entries = xs; attached = n + 1 } in c)
         (insert-map (λ (e : EngineParts). e.entry) es at (record { entry = new_entry name (n + 1) policy; level = first_level policy; last = moment past }))
         ∙ ap (λ (c : Chain). changed (Attach at name label policy) c) ties.same_chain
@@ -135,7 +143,12 @@ attaches-on unmarked conn past es n calls at name label policy ties changes = re
     other-engine e has was = record { level = was.level ∙ sym (level-attached_other past at name e.entry.name label policy (no-name e has)); last = was.last }
 
     call-kept : (s : StandingCall) → IsCallBehind conn past es n s
-        → IsCallBehind conn (Op (Attach at name label policy) ∷ past) (insert es at (record { entry = new_entry name (n + 1) policy; level = first_level policy; last = moment past })) (n + 1) s
+        → IsCallBehind conn (Op (Attach at name label policy) ∷ past)
+        (insert es at (record {
+          entry = new_entry name (n + 1) policy;
+          level = first_level policy;
+          last = moment past;
+        })) (n + 1) s
     call-kept s was =
         let none : note_of s.marks (n + 1) ≡ None = was.marked (n + 1) (omega arith) in
         record {
@@ -226,7 +239,8 @@ map-set f [] p x = refl
 map-set f (z ∷ zs) zero x = refl
 map-set {Y = Y} f (z ∷ zs) (suc p) x = ap (λ (ys : List Y). f z ∷ ys) (map-set f zs p x)
 
-pub upgrades-on : StaysChain → (u : Under) (past : Behind) (es : List EngineParts) (n : ℕ) (calls : List StandingCall) (name label : List ℕ) (policy : Policy) (p : ℕ) (e e' : EngineParts)
+pub upgrades-on : StaysChain → (u : Under) (past : Behind) (es : List EngineParts) (n : ℕ) (calls : List StandingCall)
+    (name label : List ℕ) (policy : Policy) (p : ℕ) (e e' : EngineParts)
     → IsPrefix u past → AreTied u.conn past es n calls → slice_get es p ≡ Some e → e.entry.name ≡ name
     → e'.entry ≡ upgraded e.entry policy → e'.level ≡ level_under e.entry.policy policy e.level → e'.last ≡ e.last
     → ((s : StandingCall) → IsTrueFor e.entry s → IsTrueFor e'.entry s)
@@ -234,7 +248,9 @@ pub upgrades-on : StaysChain → (u : Under) (past : Behind) (es : List EnginePa
 upgrades-on stays u past es n calls name label policy p e e' prefix ties is same entry_is level_is last_is true_still = record {
   same_chain =
       ap (λ (xs : List Entry). let c : Chain = record { entries = xs; attached = n } in c)
-      (map-set (λ (e : EngineParts). e.entry) es p e' ∙ (ap (λ (x : Entry). set (map (λ (e : EngineParts). e.entry) es) p x) entry_is ∙ sym (upgraded-named name policy es p e is_chain.names is same)))
+      (map-set (λ (e : EngineParts). e.entry) es p e'
+      ∙ (ap (λ (x : Entry). set (map (λ (e : EngineParts). e.entry) es) p x) entry_is
+      ∙ sym (upgraded-named name policy es p e is_chain.names is same)))
       ∙ ap (λ (c : Chain). changed (Upgrade name label policy) c) ties.same_chain;
   engines_behind = replaced (IsEngineBehind past) (IsEngineBehind (Op (Upgrade name label policy) ∷ past)) es p e e' is_chain.names is_chain.attachments is own other ties.engines_behind;
   calls_behind = λ k d inside. call-kept (get_or calls k d) (ties.calls_behind k d inside);

@@ -51,7 +51,8 @@ pub none-in : {X : Type 0} (x : X) → Contains [] x → ⊥
 none-in x has = omega (arith, has.1)
 
 -- a step that nothing stands against
-free-attach : (entries : List Entry) (at : ℕ) (name label : List ℕ) (policy : Policy) (refusal : Refusal) → (Contains (names_of entries) name → ⊥) → at ≤ length entries → length entries < 8
+free-attach : (entries : List Entry) (at : ℕ) (name label : List ℕ) (policy : Policy) (refusal : Refusal)
+    → (Contains (names_of entries) name → ⊥) → at ≤ length entries → length entries < 8
     → IsAgainst entries (Attach at name label policy) refusal → ⊥
 free-attach entries at name label policy refusal none within few (detaches_none n is not r) = cc
 free-attach entries at name label policy refusal none within few (upgrades_none n l p is not r) = cc
@@ -61,7 +62,8 @@ free-attach entries at name label policy refusal none within few (is_past a n l 
 free-attach entries at name label policy refusal none within few (is_full a n l p is full r) = omega (arith, full, few)
 free-attach entries at name label policy refusal none within few (is_other n l p e is there named differs r) = cc
 
-pub attached : (entries : List Entry) (many at : ℕ) (front back : List Entry) (name label : List ℕ) (policy : Policy) → (Contains (names_of entries) name → ⊥) → length entries < 8
+pub attached : (entries : List Entry) (many at : ℕ) (front back : List Entry) (name label : List ℕ) (policy : Policy)
+    → (Contains (names_of entries) name → ⊥) → length entries < 8
     → entries ≡ front ++ back → length front ≡ at
     → changed (Attach at name label policy) (record { entries = entries; attached = many })
     ≡ record { entries = front ++ new_entry name (many + 1) policy ∷ back; attached = many + 1 }

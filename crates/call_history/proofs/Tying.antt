@@ -1,5 +1,6 @@
 -- Engines and calls with their marks: lists with one item in another's place, and the entry of each engine.
-use Rattle.std.proofs.Common.{◌≡◌, ◌≢◌, ℕ, ◌+◌, ◌<◌, ◌≤◌, zero, suc, cond, inl, inr, List, [], ◌∷◌, ◌++◌, length, map, take, drop, set, insert, remove, get_or, slice_get, refl, sym, ap, ◌∙◌, subst, arith}
+use Rattle.std.proofs.Common.{◌≡◌, ◌≢◌, ℕ, ◌+◌, ◌<◌, ◌≤◌, zero, suc, cond, inl, inr, List, [], ◌∷◌, ◌++◌, length, map}
+use Rattle.std.proofs.Common.{take, drop, set, insert, remove, get_or, slice_get, refl, sym, ap, ◌∙◌, subst, arith}
 use Rattle.std.specs.Prelude.{All, Contains, find, option_map, Some}
 use Rattle.std.proofs.lemmas.List.{map-append, take-map, drop-map}
 use Rattle.std.proofs.lemmas.List.Elements.{All-append, All-cons, All-drop, All-head, All-nil, All-tail, All-take}
@@ -67,7 +68,8 @@ replaced P Q (x ∷ es) zero e e' names attaches is own others all =
     let there : x ≡ e = cc in
     All-cons Q e' es own (all-step P Q es (λ y has. others y
     (λ same. names.0 (subst (λ (n : List ℕ). Contains (names_of (map (λ e. e.entry) es)) n) (same ∙ ap (λ (e : EngineParts). e.entry.name) (sym there)) (named-in es y has)))
-    (λ same. attaches.0 (subst (λ (n : ℕ). Contains (attachments_of (map (λ e. e.entry) es)) n) (same ∙ ap (λ (e : EngineParts). e.entry.attach) (sym there)) (attached-in es y has))))
+    (λ same. attaches.0 (subst (λ (n : ℕ). Contains (attachments_of (map (λ e. e.entry) es)) n)
+    (same ∙ ap (λ (e : EngineParts). e.entry.attach) (sym there)) (attached-in es y has))))
     (All-tail P x es all))
 replaced P Q (x ∷ es) (suc p) e e' names attaches is own others all =
     let has = contains-at es p e is in
@@ -84,7 +86,10 @@ pub replaced-call : (P Q : StandingCall → Type 0) (calls : List StandingCall) 
 replaced-call P Q [] j s s' apart is own others all = absurd cc
 replaced-call P Q (x ∷ calls) zero s s' apart is own others all =
     let there : x ≡ s = cc in
-    All-cons Q s' calls own (λ k d inside. others (get_or calls k d) (λ same. apart.0 k d inside (same ∙ ap (λ (s : StandingCall). s.call.seq) (sym there))) (All-tail P x calls all k d inside))
+    All-cons Q s' calls own
+    (λ k d inside. others (get_or calls k d)
+    (λ same. apart.0 k d inside (same ∙ ap (λ (s : StandingCall). s.call.seq) (sym there)))
+    (All-tail P x calls all k d inside))
 replaced-call P Q (x ∷ calls) (suc j) s s' apart is own others all =
     All-cons Q x (set calls j s') (others x (λ same. All-at (λ (t : StandingCall). t.call.seq ≢ x.call.seq) calls j s apart.0 is (sym same)) (All-head P x calls all))
     (replaced-call P Q calls j s s' apart.1 is own others (All-tail P x calls all))

@@ -1,5 +1,6 @@
 -- An upgrade leaves the entries before it, and what was noted.
-use Rattle.std.proofs.Common.{◌≡◌, ℕ, ◌+◌, ◌≤◌, zero, suc, min, Bool, true, false, cond, if◌then◌else◌, List, [], ◌∷◌, length, map, take, refl, sym, ap, subst, arith}
+use Rattle.std.proofs.Common.{◌≡◌, ℕ, ◌+◌, ◌≤◌, zero, suc, min, Bool, true, false, cond, if◌then◌else◌, List, [], ◌∷◌}
+use Rattle.std.proofs.Common.{length, map, take, refl, sym, ap, subst, arith}
 use Rattle.std.specs.Prelude.{All}
 use Rattle.std.proofs.lemmas.List.Elements.{All-weaker}
 use Rattle.engine_core.specs.Chains.{Changes, Entry, upgraded}
@@ -28,7 +29,10 @@ front-same : (name : List ℕ) (policy : Policy) (es : List Entry) (k : ℕ) →
 front-same name policy [] k before = refl
 front-same name policy (e ∷ es) zero before = refl
 front-same name policy (e ∷ es) (suc k) before =
-    let given : (b : Bool) → suc k ≤ cond b 0 (place_of name es + 1) → cond b (upgraded e policy) e ∷ take k (with_upgraded name policy es) ≡ e ∷ take k es = λ b. elim b as (λ b. suc k ≤ cond b 0 (place_of name es + 1) → cond b (upgraded e policy) e ∷ take k (with_upgraded name policy es) ≡ e ∷ take k es) [
+    let given : (b : Bool) → suc k ≤ cond b 0 (place_of name es + 1)
+    → cond b (upgraded e policy) e ∷ take k (with_upgraded name policy es) ≡ e ∷ take k es =
+    λ b. elim b as (λ b. suc k ≤ cond b 0 (place_of name es + 1)
+    → cond b (upgraded e policy) e ∷ take k (with_upgraded name policy es) ≡ e ∷ take k es) [
       | true ↦ λ before. absurd (omega (arith, before))
       | false ↦ λ before. ap (λ (xs : List Entry). e ∷ xs) (front-same name policy es k (omega (arith, before)))
     ] in

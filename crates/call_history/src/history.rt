@@ -12,10 +12,19 @@ use std::marker::Model;
 
 /// What happened on a connection, in order. Clauses see the happenings, with the steps of operators among them and the
 /// room for more.
-#[derive(Drop)]
 pub struct History {
     steps: Vec<Op>,
     records: Vec<Record>,
+}
+
+// By hand, so that a drop is one call where it is needed, and not a drop of each part.
+impl Drop for History {
+    fn drop(self) {
+        let History {
+            steps: _steps,
+            records: _records,
+        } = self;
+    }
 }
 
 impl Model for History {

@@ -3,7 +3,6 @@
 use crate::happening::Taken;
 
 /// A happening as it is kept. An entry is named by the place, from 0, of the operator's step that put its policy there.
-#[derive(Drop)]
 pub enum Record {
     /// A call was accepted.
     Took(Taken),
@@ -55,6 +54,41 @@ pub enum Record {
         seq: u32,
         by: Refusal,
     },
+}
+
+// By hand, so that a drop is one call where it is needed, and not a drop of each part.
+impl Drop for Record {
+    fn drop(self) {
+        match self {
+            Record::Took(_a) => {}
+            Record::Away {
+                method: _,
+                number: _,
+                addr: _,
+            } => {}
+            Record::Op { step: _ } => {}
+            Record::Moment { ms: _ } => {}
+            Record::Charged {
+                seq: _,
+                step: _,
+                level: _,
+            } => {}
+            Record::Drawn {
+                seq: _,
+                step: _,
+                window: _,
+                ticket: _,
+            } => {}
+            Record::Counted { seq: _, step: _ } => {}
+            Record::Redacted {
+                seq: _,
+                step: _,
+                version: _,
+            } => {}
+            Record::Sent { seq: _, bytes: _ } => {}
+            Record::Refused { seq: _, by: _by } => {}
+        }
+    }
 }
 
 /// Why a call was refused, as it is kept.

@@ -1,5 +1,6 @@
 -- A chain after a turn of one of its engines.
-use Rattle.std.proofs.Common.{◌≡◌, ℕ, ◌+◌, ◌<◌, suc, nat_le, List, ◌∷◌, ◌++◌, length, filter, take, drop, get_or, remove, slice_get, Some, subst, refl, ap, sym, ◌∙◌, arith}
+use Rattle.std.proofs.Common.{◌≡◌, ℕ, ◌+◌, ◌<◌, suc, nat_le, List, ◌∷◌, ◌++◌, length, filter, take, drop, get_or}
+use Rattle.std.proofs.Common.{remove, slice_get, Some, subst, refl, ap, sym, ◌∙◌, arith}
 use Rattle.std.proofs.lemmas.List.{length-map, length-set}
 use Rattle.engine_core.specs.Engines.{EngineParts}
 use Rattle.engine_core.specs.Marks.{StandingCall}

@@ -1,5 +1,6 @@
 -- What a moment makes of engines.
-use Rattle.std.proofs.Common.{◌≡◌, ℕ, ◌+◌, ◌-◌, ◌<◌, max, zero, suc, List, [], ◌∷◌, ◌++◌, length, take, drop, set, get_or, map, slice_get, All, Some, refl, ap, sym, ◌∙◌, subst, arith, get_or-drop}
+use Rattle.std.proofs.Common.{◌≡◌, ℕ, ◌+◌, ◌-◌, ◌<◌, max, zero, suc, List, [], ◌∷◌, ◌++◌, length, take, drop, set}
+use Rattle.std.proofs.Common.{get_or, map, slice_get, All, Some, refl, ap, sym, ◌∙◌, subst, arith, get_or-drop}
 use Rattle.std.proofs.lemmas.List.{drop-drop, drop-set-lt, length-map, map_more, take_at, take_more_set}
 use Rattle.std.proofs.lemmas.List.Elements.{All-map}
 use Rattle.policy_rate.specs.Level.{BucketHappening, moment}

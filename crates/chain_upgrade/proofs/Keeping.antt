@@ -1,5 +1,7 @@
 -- A chain's own fields stay as they are to be.
-use Rattle.std.proofs.Common.{◌≡◌, ℕ, ◌+◌, ◌-◌, ◌<◌, ◌≤◌, zero, suc, List, [], ◌∷◌, ◌++◌, length, filter, nat_le, subst, take, drop, get_or, replicate, insert, remove, All, None, refl, ap, ◌∙◌, arith, length-append, length-take, length-drop}
+use Rattle.std.proofs.Common.{◌≡◌, ℕ, ◌+◌, ◌-◌, ◌<◌, ◌≤◌, zero, suc, List, [], ◌∷◌, ◌++◌, length, filter, nat_le}
+use Rattle.std.proofs.Common.{subst, take, drop, get_or, replicate, insert, remove, All, None, refl, ap, ◌∙◌, arith}
+use Rattle.std.proofs.Common.{length-append, length-take, length-drop}
 use Rattle.std.proofs.lemmas.List.{length-map, map-append}
 use Rattle.engine_core.specs.Chains.{Entry}
 use Rattle.engine_core.specs.Engines.{EngineParts}
@@ -9,7 +11,9 @@ use Rattle.chain_upgrade.specs.Chains.{ChainParts, StandsOn, IsStandingChain, nu
 use Rattle.chain_upgrade.specs.Cuts.{row_from, cut_at, IsFalling, zeroed, closed_up, raised, taken_out, lowered}
 use Rattle.chain_upgrade.specs.Kept.{IsKept}
 use Rattle.chain_upgrade.proofs.CutLaws.{cut-low, position-short}
-use Rattle.chain_upgrade.proofs.KeepLaws.{falls-more, falls-zeroed, falls-closed, falls-raised, falls-out, falls-lowered, falls-none, falls-new, short-new, short-more, short-zeroed, short-closed, short-raised, short-out, short-lowered}
+use Rattle.chain_upgrade.proofs.KeepLaws.{falls-more, falls-zeroed, falls-closed, falls-raised, falls-out}
+use Rattle.chain_upgrade.proofs.KeepLaws.{falls-lowered, falls-none, falls-new, short-new, short-more, short-zeroed}
+use Rattle.chain_upgrade.proofs.KeepLaws.{short-closed, short-raised, short-out, short-lowered}
 use Rattle.chain_upgrade.proofs.RowLaws.{all-count, cut-count, row-numbers, row-falls, row-push}
 use Rattle.chain_upgrade.proofs.Stands.{stands-none, stands-push, stands-without, stands-cleared}
 
@@ -141,7 +145,12 @@ pushed es n calls calls' cuts s v seen new falls =
     let numbers : numbers_of (calls ++ s ∷ []) ≡ numbers_of calls ++ s.call.seq ∷ [] = map-append (λ (s : StandingCall). s.call.seq) calls (s ∷ []) in
     let row : row_from 0 cuts (numbers_of (calls ++ s ∷ [])) ≡ row_from 0 cuts (numbers_of calls) ++ (s.call.seq, 0) ∷ [] =
     ap (λ (seqs : List ℕ). row_from 0 cuts seqs) numbers ∙ row-push cuts (numbers_of calls) s.call.seq (same-fall calls cuts falls) in
-    let core : seen-of es n (calls ++ s ∷ []) cuts ≡ record { engines = es; attached = n; calls = calls ++ s ∷ []; row = row_from 0 cuts (numbers_of calls) ++ (s.call.seq, 0) ∷ [] } =
+    let core : seen-of es n (calls ++ s ∷ []) cuts ≡ record {
+      engines = es;
+      attached = n;
+      calls = calls ++ s ∷ [];
+      row = row_from 0 cuts (numbers_of calls) ++ (s.call.seq, 0) ∷ [];
+    } =
     ap {B = ChainParts} (λ (row : Row). record { engines = es; attached = n; calls = calls ++ s ∷ []; row = row }) row in
     subst (λ (v : ChainParts). seen-of es n calls' cuts ≡ record { engines = v.engines; attached = v.attached; calls = v.calls ++ s ∷ []; row = v.row ++ (s.call.seq, 0) ∷ [] }) seen
     (ap (λ (calls : List StandingCall). seen-of es n calls cuts) new ∙ core)

@@ -1,5 +1,7 @@
 -- What is read of a chain by its cuts.
-use Rattle.std.proofs.Common.{◌≡◌, ℕ, ◌+◌, ◌-◌, ◌<◌, ◌≤◌, ◌==◌, zero, suc, true, false, inl, inr, List, [], ◌∷◌, length, filter, nat_le, get_or, remove, slice_get, Contains, Some, None, subst, refl, ap, sym, ◌∙◌, arith}
+use Rattle.std.proofs.Common.{◌≡◌, ℕ, ◌+◌, ◌-◌, ◌<◌, ◌≤◌, ◌==◌, zero, suc, true, false, inl, inr, List, [], ◌∷◌}
+use Rattle.std.proofs.Common.{length, filter, nat_le, get_or, remove, slice_get, Contains, Some, None, subst, refl}
+use Rattle.std.proofs.Common.{ap, sym, ◌∙◌, arith}
 use Rattle.std.proofs.lemmas.Bool.{cases_eq, cases_lt}
 use Rattle.std.proofs.lemmas.Bool.Decides.{nat_tests}
 use Rattle.std.proofs.lemmas.List.{length-map}

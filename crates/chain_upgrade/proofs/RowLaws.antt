@@ -1,12 +1,17 @@
 -- How moves of cuts move a row.
-use Rattle.std.proofs.Common.{◌≡◌, ◌≢◌, ℕ, ◌+◌, ◌-◌, ◌<◌, ◌≤◌, ◌==◌, zero, suc, nat_lt, nat_le, min, Bool, true, false, not, if◌then◌else◌, inl, inr, List, [], ◌∷◌, ◌++◌, length, map, filter, find, get_or, Some, None, slice_get, remove, refl, ap, sym, ◌∙◌, arith}
+use Rattle.std.proofs.Common.{◌≡◌, ◌≢◌, ℕ, ◌+◌, ◌-◌, ◌<◌, ◌≤◌, ◌==◌, zero, suc, nat_lt, nat_le, min, Bool, true}
+use Rattle.std.proofs.Common.{false, not, if◌then◌else◌, inl, inr, List, [], ◌∷◌, ◌++◌, length, map, filter, find}
+use Rattle.std.proofs.Common.{get_or, Some, None, slice_get, remove, refl, ap, sym, ◌∙◌, arith}
 use Rattle.std.proofs.lemmas.Bool.{cases_lt, cases_eq}
 use Rattle.std.proofs.lemmas.Bool.Decides.{nat_tests}
 use Rattle.std.proofs.lemmas.Grind.{common_steps}
 use Rattle.engine_core.specs.Moves.{Row, first_at, back_to, moved_up, goes_on, begin_again, without_call}
 use Rattle.chain_upgrade.specs.Chains.{IsAbove, IsAscending, IsFallingFrom}
 use Rattle.chain_upgrade.specs.Cuts.{position_at, row_from, cut_at, IsFalling, zeroed, closed_up, raised, taken_out, lowered}
-use Rattle.chain_upgrade.proofs.CutLaws.{bottom, position-falls, position-over, position-under, position-between, position-zeroed, position-behind, position-before, position-raised, position-unraised, position-front, position-back, position-kept, position-lowered}
+use Rattle.chain_upgrade.proofs.CutLaws.{bottom, position-falls, position-over, position-under, position-between}
+use Rattle.chain_upgrade.proofs.CutLaws.{position-zeroed, position-behind, position-before, position-raised}
+use Rattle.chain_upgrade.proofs.CutLaws.{position-unraised, position-front, position-back, position-kept}
+use Rattle.chain_upgrade.proofs.CutLaws.{position-lowered}
 
 -- ---- numbers that ascend
 
@@ -65,7 +70,8 @@ row-by : (g : ℕ → ℕ → ℕ) (k : ℕ) (cs ds seqs : List ℕ)
 row-by g k cs ds [] moves = refl
 row-by g k cs ds (s ∷ ss) moves =
     let here : position_at k ds ≡ g s (position_at k cs) = moves 0 k (omega arith) (omega arith) in
-    let rest : row_from (k + 1) ds ss ≡ map (λ call. (call.0, g call.0 call.1)) (row_from (k + 1) cs ss) = row-by g (k + 1) cs ds ss (λ i place within is. moves (suc i) place (omega arith) (omega arith)) in
+    let rest : row_from (k + 1) ds ss ≡ map (λ call. (call.0, g call.0 call.1)) (row_from (k + 1) cs ss) =
+    row-by g (k + 1) cs ds ss (λ i place within is. moves (suc i) place (omega arith) (omega arith)) in
     cc
 
 pub row-back : (p : ℕ) (cs seqs : List ℕ) → row_from 0 (zeroed p cs) seqs ≡ back_to p (row_from 0 cs seqs)

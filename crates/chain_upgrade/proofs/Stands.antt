@@ -1,5 +1,7 @@
 -- What stands on a chain still stands there after a step.
-use Rattle.std.proofs.Common.{◌≡◌, ℕ, ◌+◌, ◌<◌, zero, suc, List, [], ◌∷◌, ◌++◌, length, map, take, drop, set, get_or, insert, remove, slice_get, All, Option, Some, None, IfSome, IfNone, refl, ap, sym, ◌∙◌, arith, length-append, length-take, length-drop}
+use Rattle.std.proofs.Common.{◌≡◌, ℕ, ◌+◌, ◌<◌, zero, suc, List, [], ◌∷◌, ◌++◌, length, map, take, drop, set, get_or}
+use Rattle.std.proofs.Common.{insert, remove, slice_get, All, Option, Some, None, IfSome, IfNone, refl, ap, sym, ◌∙◌}
+use Rattle.std.proofs.Common.{arith, length-append, length-take, length-drop}
 use Rattle.std.proofs.lemmas.List.{map-append, take-map, drop-map}
 use Rattle.std.proofs.lemmas.List.Elements.{All-append, All-cons, All-drop, All-head, All-push, All-set, All-tail, All-take, All-weaker}
 use Rattle.std.proofs.lemmas.Option.{slice_get-get_or}
@@ -48,7 +50,8 @@ stands-push es n calls s law st few none less = record {
   chain = st.chain;
   policies = st.policies;
   few = omega (arith, length-append calls (s ∷ []));
-  ascend = rw (map-append (λ (t : StandingCall). t.call.seq) calls (s ∷ [])) (ascends-end (numbers_of calls) s.call.seq st.ascend (λ i inside. number-below calls i s.call.seq less inside));
+  ascend = rw (map-append (λ (t : StandingCall). t.call.seq) calls (s ∷ []))
+      (ascends-end (numbers_of calls) s.call.seq st.ascend (λ i inside. number-below calls i s.call.seq less inside));
   marks = All-push (λ t. HasMarksUpTo n t) calls s st.marks (λ attach above. rw none refl);
   true_for = λ k d inside. All-push (λ t. IsTrueFor (get_or es k d).entry t) calls s (st.true_for k d inside) (law (get_or es k d).entry s (rw none refl));
 }

@@ -1,11 +1,15 @@
 -- What stands against a step of an operator, and what it makes of the engines.
-use Rattle.std.proofs.Common.{subst, ◌≡◌, ◌≢◌, ℕ, ◌+◌, ◌<◌, ◌≤◌, zero, suc, true, false, not, if◌then◌else◌, ◌⊎◌, inl, inr, List, [], ◌∷◌, length, map, filter, set, get_or, insert, remove, slice_get, Contains, Some, refl, ap, sym, ◌∙◌, arith}
+use Rattle.std.proofs.Common.{subst, ◌≡◌, ◌≢◌, ℕ, ◌+◌, ◌<◌, ◌≤◌, zero, suc, true, false, not, if◌then◌else◌, ◌⊎◌, inl}
+use Rattle.std.proofs.Common.{inr, List, [], ◌∷◌, length, map, filter, set, get_or, insert, remove, slice_get}
+use Rattle.std.proofs.Common.{Contains, Some, refl, ap, sym, ◌∙◌, arith}
 use Rattle.std.proofs.lemmas.Grind.{common_steps}
 use Rattle.std.proofs.lemmas.Slice.Eq.{bytes_eq-Decides}
 use Rattle.mrpc_table.specs.Valid.{AreDistinct}
 use Rattle.chain_upgrade.proofs.Stands.{insert-map}
 use Rattle.engine_core.specs.Policies.{is_same_kind}
-use Rattle.engine_core.specs.Chains.{IsChain, new_entry, Changes, changed, Entry, Chain, Refusal, no_such, taken, no_place, full, other_kind, order_of, IsAgainst, detaches_none, upgrades_none, is_taken, is_past, is_full, is_other, Refuses, names_of, upgraded, is_named}
+use Rattle.engine_core.specs.Chains.{IsChain, new_entry, Changes, changed, Entry, Chain, Refusal, no_such, taken}
+use Rattle.engine_core.specs.Chains.{no_place, full, other_kind, order_of, IsAgainst, detaches_none, upgrades_none}
+use Rattle.engine_core.specs.Chains.{is_taken, is_past, is_full, is_other, Refuses, names_of, upgraded, is_named}
 use Rattle.engine_core.specs.Engines.{EngineParts}
 use Rattle.engine_core.specs.Moves.{place_of}
 use Rattle.engine_core.specs.declared.policy.Policy.{Policy}

@@ -1,5 +1,6 @@
 -- What a turn makes of a chain.
-use Rattle.std.proofs.Common.{◌≡◌, ◌≢◌, ℕ, ◌<◌, ◌≤◌, zero, suc, true, List, [], ◌∷◌, length, map, get_or, slice_get, All, Contains, Some, None, refl, ap, sym, ◌∙◌, arith}
+use Rattle.std.proofs.Common.{◌≡◌, ◌≢◌, ℕ, ◌<◌, ◌≤◌, zero, suc, true, List, [], ◌∷◌, length, map, get_or, slice_get}
+use Rattle.std.proofs.Common.{All, Contains, Some, None, refl, ap, sym, ◌∙◌, arith}
 use Rattle.std.proofs.lemmas.List.{length-set}
 use Rattle.std.proofs.lemmas.List.Elements.{All-head, All-set, All-tail}
 use Rattle.mrpc_table.specs.Valid.{AreDistinct}
@@ -106,7 +107,8 @@ module _ (es : List EngineParts) (n p j moment : ℕ) (calls : List StandingCall
   same-entries = ap (λ (xs : List EngineParts). map (λ e. e.entry) xs) w.others ∙ same-map (λ (e : EngineParts). e.entry) es p w.engine w.engine' w.is_engine w.leaves_engine.entry
 
   pub same-numbers : numbers_of calls' ≡ numbers_of calls
-  same-numbers = ap numbers_of w.other_calls ∙ same-map (λ (s : StandingCall). s.call.seq) calls j w.call w.call' w.is_call (number-kept w.engine.entry.policy outcome w.call.call w.call'.call w.leaves_call)
+  same-numbers = ap numbers_of w.other_calls ∙ same-map (λ (s : StandingCall). s.call.seq) calls j w.call w.call'
+      w.is_call (number-kept w.engine.entry.policy outcome w.call.call w.call'.call w.leaves_call)
 
   policy-left : IsPolicy w.engine'.entry.policy
   policy-left = rw w.leaves_engine.entry (All-at (λ e. IsPolicy e.entry.policy) es p w.engine st.policies w.is_engine)

@@ -5,7 +5,9 @@ use Rattle.mrpc_table.specs.declared.call.Call.{Call}
 use Rattle.policy_rate.specs.declared.rate.Rate.{Rate as RatePolicy}
 use Rattle.policy_redact.specs.Redacting.{cleared, cleared_call}
 use Rattle.policy_redact.specs.declared.redact.Clear.{Clear}
-use Rattle.engine_core.specs.Answers.{Answers, Past, note, redact, nothing, charged, drawn, counted, past_after, allows, denies, was_charged, charges, holds, refuses, is_within, is_over, draws, was_counted, counts, is_clear, redacts}
+use Rattle.engine_core.specs.Answers.{Answers, Past, note, redact, nothing, charged, drawn, counted, past_after}
+use Rattle.engine_core.specs.Answers.{allows, denies, was_charged, charges, holds, refuses, is_within, is_over, draws}
+use Rattle.engine_core.specs.Answers.{was_counted, counts, is_clear, redacts}
 use Rattle.engine_core.specs.Chains.{Entry}
 use Rattle.engine_core.specs.Marks.{StandingCall, past_of}
 use Rattle.engine_core.specs.Turns.{ComesOut, passes, is_noted, is_held, is_refused, is_noted_and_refused, is_redacted, noted_in}

@@ -7,7 +7,8 @@ use Rattle.engine_core.specs.declared.outcome.Outcome.{Outcome}
 use Rattle.engine_core.specs.declared.outcome.Outcome.TheVariants as outcomes
 use Rattle.call_history.specs.Behind.{Behind, standing}
 use Rattle.call_history.specs.Draining.{at_rest, again, BeginsToDrain, Ending, Passes, SendsSome, Turns, begins_again, goes, is_held, is_idle, is_over, next, none, one, redacts}
-use Rattle.call_history.specs.Events.{Comes, Course, Event, accepted, accepts, changes, has_turn, is_away, is_sent, link_failed, note_behind, refused_for_link, rises, sends, stays, takes, turned}
+use Rattle.call_history.specs.Events.{Comes, Course, Event, accepted, accepts, changes, has_turn, is_away, is_sent}
+use Rattle.call_history.specs.Events.{link_failed, note_behind, refused_for_link, rises, sends, stays, takes, turned}
 use Rattle.call_history.specs.Loads.{AreSpelled, IsLoaded, Loads}
 use Rattle.call_history.specs.Rules.{Under}
 use Rattle.call_history.specs.declared.happening.Cause.TheVariants as cause

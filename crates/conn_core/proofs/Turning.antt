@@ -22,7 +22,8 @@ use Rattle.call_history.specs.Rules.{Under}
 use Rattle.conn_core.proofs.Apart.{all-after, all-keyed, calls-apart, policy-at}
 use Rattle.conn_core.proofs.Fitting.{Fits}
 use Rattle.conn_core.proofs.Lists.{all-at, all-back, all-both, all-front, all-of-map, all-set, map-at, map-set-same, map-map}
-use Rattle.conn_core.proofs.Turned.{chain-turned, form-turned, form-turned_another, level-turned, level-turned_other, moment-turned, noted-turned, noted-turned_another, noted-turned_elsewhere}
+use Rattle.conn_core.proofs.Turned.{chain-turned, form-turned, form-turned_another, level-turned, level-turned_other}
+use Rattle.conn_core.proofs.Turned.{moment-turned, noted-turned, noted-turned_another, noted-turned_elsewhere}
 
 -- ---- the turn, as what is behind says it
 

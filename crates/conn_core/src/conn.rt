@@ -24,7 +24,7 @@ use std::alloc::Global;
 use std::marker::Model;
 use wire_encode::Output;
 
-/// The most records that a call which stands may still have: one of each engine, and its fate.
+// The most records that a call which stands may still have: one of each engine, and its fate.
 const RECORDS: usize = MAX_ENGINES + 1;
 
 /// A connection, which one thread holds by value. Contracts see it as `Connection` of `specs/Connections.antt`.

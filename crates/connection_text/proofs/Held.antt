@@ -1,5 +1,6 @@
 -- Which call is the first at a position, and for what it is held.
-use Rattle.std.proofs.Common.{◌≡◌, ◌≢◌, ℕ, zero, suc, ◌+◌, ◌<◌, ◌≤◌, ◌⊎◌, inl, inr, Bool, true, false, nat_lt, nat_le, List, [], ◌∷◌, All, length, map, Option, Some, None, refl, sym, ap, ◌∙◌, subst, arith}
+use Rattle.std.proofs.Common.{◌≡◌, ◌≢◌, ℕ, zero, suc, ◌+◌, ◌<◌, ◌≤◌, ◌⊎◌, inl, inr, Bool, true, false, nat_lt, nat_le}
+use Rattle.std.proofs.Common.{List, [], ◌∷◌, All, length, map, Option, Some, None, refl, sym, ap, ◌∙◌, subst, arith}
 use Rattle.std.specs.Prelude.{◌==◌, ◌&&◌, filter, slice_get}
 use Rattle.std.specs.List.{Contains}
 use Rattle.std.specs.Option.{option_and_then, option_map_or}
@@ -8,7 +9,9 @@ use Rattle.std.proofs.lemmas.Bool.Decides.{nat_tests}
 use Rattle.std.proofs.lemmas.List.Elements.{All-head, All-tail}
 use Rattle.mrpc_table.specs.declared.call.Call.{Call}
 use Rattle.policy_rate.specs.declared.rate.Rate.{Rate as RatePolicy}
-use Rattle.engine_core.specs.Answers.{Answers, Past, allows, charged, charges, counted, counts, denies, draws, drawn, hold, holds, is_clear, is_over, is_within, nothing, redacts, refuses, was_charged, was_counted}
+use Rattle.engine_core.specs.Answers.{Answers, Past, allows, charged, charges, counted, counts, denies, draws, drawn}
+use Rattle.engine_core.specs.Answers.{hold, holds, is_clear, is_over, is_within, nothing, redacts, refuses}
+use Rattle.engine_core.specs.Answers.{was_charged, was_counted}
 use Rattle.engine_core.specs.Chains.{Chain}
 use Rattle.engine_core.specs.Engines.{EngineParts}
 use Rattle.engine_core.specs.Marks.{StandingCall, past_of}
@@ -163,7 +166,8 @@ ascends-tail : (low : ℕ) (ns : List ℕ) → IsAbove low ns → IsAscending ns
 ascends-tail low [] above = tt
 ascends-tail low (n ∷ ns) above = above.1
 
-ascending-at : (i j : ℕ) (x y : ℕ × ℕ) (row : Row) → IsAscending (map (λ (call : ℕ × ℕ). call.0) row) → i < j → slice_get row i ≡ Some x → slice_get row j ≡ Some y → x.0 < y.0
+ascending-at : (i j : ℕ) (x y : ℕ × ℕ) (row : Row) → IsAscending (map (λ (call : ℕ × ℕ). call.0) row) → i < j
+    → slice_get row i ≡ Some x → slice_get row j ≡ Some y → x.0 < y.0
 ascending-at i j x y [] ascends low is there = cc
 ascending-at i zero x y (call ∷ row) ascends low is there = absurd (omega arith)
 ascending-at zero (suc j) x y (call ∷ row) ascends low is there =
@@ -269,7 +273,8 @@ module _ (c : Calls) (sound : IsConnection c) (place seq at : ℕ) (is : slice_g
 
   -- what a chain answers of the first call at a position
   abbrev pub Meets : ChainParts → (EngineParts → StandingCall → ℕ → Type 0) → Type 0
-  Meets ch Holds = (e : EngineParts) (s : StandingCall) (moment : ℕ) → slice_get ch.engines at ≡ Some e → first_at at ch.row ≡ Some (s.call.seq, at) → Contains ch.calls s → Holds e s moment
+  Meets ch Holds = (e : EngineParts) (s : StandingCall) (moment : ℕ) → slice_get ch.engines at ≡ Some e
+      → first_at at ch.row ≡ Some (s.call.seq, at) → Contains ch.calls s → Holds e s moment
 
   pub held-some : (ch : ChainParts) (low cost : ℕ) → ch ≡ c.chain → place ≡ behind_of at c.chain.row → at < length c.chain.engines
       → Meets ch (λ e s moment. Answers e.entry.policy e.level moment s.call (past_of s.marks e.entry.attach) (hold low cost))

@@ -6,7 +6,7 @@ use audit_text::{Holding, append_stands_line};
 use conn_core::Conn;
 use mrpc_table::{Bytes, Memory};
 
-/// The name of the queue for transport.
+// The name of the queue for transport.
 const TRANSPORT: &[u8] = b"-";
 
 /// Appends the line of the call at a place among those that stand, by ascending number, from 0. The only error is

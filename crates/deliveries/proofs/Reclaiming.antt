@@ -1,5 +1,6 @@
 -- Numbers of blocks that are judged, one by one.
-use Rattle.std.proofs.Common.{◌≡◌, ℕ, List, [], ◌∷◌, ◌++◌, refl, sym, ap, subst, ◌∙◌, append_assoc, append-nil, IsPermutation, Result, Ok, Err, OnOk, OnErr, is_err, true, false}
+use Rattle.std.proofs.Common.{◌≡◌, ℕ, List, [], ◌∷◌, ◌++◌, refl, sym, ap, subst, ◌∙◌, append_assoc, append-nil}
+use Rattle.std.proofs.Common.{IsPermutation, Result, Ok, Err, OnOk, OnErr, is_err, true, false}
 use Rattle.std.proofs.lemmas.List.Sorted.{IsPermutation-append, IsPermutation-append_comm, IsPermutation-refl, IsPermutation-trans}
 use Rattle.std.proofs.lemmas.Bool.{true≢false}
 use Rattle.receive_heap.specs.Layout.{IsWithout}

@@ -1,5 +1,7 @@
 -- Each move keeps the rule of a ring.
-use Rattle.std.proofs.Common.{◌≡◌, ◌≢◌, inl, inr, ⊎_elim, ℕ, zero, suc, ◌<◌, ◌≤◌, Bool, true, false, true≢false, List, [], ◌∷◌, ◌++◌, All, length, set, refl, sym, ap, ◌∙◌, subst, arith, append_assoc, append-nil, length-append}
+use Rattle.std.proofs.Common.{◌≡◌, ◌≢◌, inl, inr, ⊎_elim, ℕ, zero, suc, ◌<◌, ◌≤◌, Bool, true, false, true≢false, List}
+use Rattle.std.proofs.Common.{[], ◌∷◌, ◌++◌, All, length, set, refl, sym, ap, ◌∙◌, subst, arith, append_assoc}
+use Rattle.std.proofs.Common.{append-nil, length-append}
 use mathlib.Core.Option.{some, some-injective, some-ne-none}
 use mathlib.Core.List.{IsPrefix}
 use lib.ListN.{get_elem?}
@@ -10,7 +12,8 @@ use Rattle.descriptor_ring.specs.declared.line.Slip.{Slip}
 use Rattle.descriptor_ring.specs.declared.line.Slip.TheVariants.{Item, Closing}
 use Rattle.descriptor_ring.specs.declared.line.View.{View}
 use Rattle.descriptor_ring.specs.Heaps.{no_heap}
-use Rattle.descriptor_ring.specs.Line.{slips, queued, first, sender, receiver, nobody, knowing, longer, told_sent, told_taken, both, Agree, IsInOrder, put, got, Put, Fits, Got, Knows, IsLine}
+use Rattle.descriptor_ring.specs.Line.{slips, queued, first, sender, receiver, nobody, knowing, longer, told_sent}
+use Rattle.descriptor_ring.specs.Line.{told_taken, both, Agree, IsInOrder, put, got, Put, Fits, Got, Knows, IsLine}
 use Rattle.descriptor_ring.specs.Rings.{Held}
 use Rattle.descriptor_ring.proofs.Passes.{each_set, each_snoc_at, other_pass}
 
@@ -168,7 +171,8 @@ module _ {T : Type 0} (fits : HeapId → T → Type 0) (most : ℕ) where
           some_closed = k.some_closed;
         })
 
-  pub puts_item : (n pass : ℕ) (v : View T) (x : T) → v.sends ≡ true → v.closed ≡ false → fits v.heap x → length v.sent < most → Pushes Line n pass v (Item x) (Put v (Item x))
+  pub puts_item : (n pass : ℕ) (v : View T) (x : T) → v.sends ≡ true → v.closed ≡ false → fits v.heap x
+      → length v.sent < most → Pushes Line n pass v (Item x) (Put v (Item x))
   puts_item n pass v x may unclosed fit few items views room h at =
       let m = mine pass v items views h at in
       let s = m.sends may in

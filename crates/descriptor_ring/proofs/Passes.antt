@@ -8,7 +8,8 @@ module _ {V : Type 0} where
   abbrev pub AtEach : (ℕ → V → Type 0) → List V → Type 0
   AtEach F views = (pass : ℕ) (v : V) → get_elem? views pass ≡ some v → F pass v
 
-  pub each_set : (F : ℕ → V → Type 0) (views : List V) (pass : ℕ) (w : V) → F pass w → ((j : ℕ) (u : V) → j ≢ pass → get_elem? views j ≡ some u → F j u) → AtEach F (set views pass w)
+  pub each_set : (F : ℕ → V → Type 0) (views : List V) (pass : ℕ) (w : V) → F pass w
+      → ((j : ℕ) (u : V) → j ≢ pass → get_elem? views j ≡ some u → F j u) → AtEach F (set views pass w)
   each_set F views pass w mine others j u e = ⊎_elim (λ (x : (j ≡ pass) × (w ≡ u)). subst (λ (y : ℕ × V). F y.0 y.1) (λ i. (sym x.0 i, x.1 i)) mine)
       (λ (x : (j ≢ pass) × (get_elem? views j ≡ some u)). others j u x.0 x.1) (at_set views pass j w u e)
 
@@ -25,4 +26,5 @@ module _ {V : Type 0} where
 
   -- of two passes with different numbers, a write to one leaves the other
   pub other_pass : (views : List V) (pass other : ℕ) (w u : V) → (other ≡ pass → ⊥) → get_elem? (set views pass w) other ≡ some u → get_elem? views other ≡ some u
-  other_pass views pass other w u apart e = ⊎_elim (λ (x : (other ≡ pass) × (w ≡ u)). absurd (apart x.0)) (λ (x : (other ≢ pass) × (get_elem? views other ≡ some u)). x.1) (at_set views pass other w u e)
+  other_pass views pass other w u apart e = ⊎_elim (λ (x : (other ≡ pass) × (w ≡ u)). absurd (apart x.0))
+      (λ (x : (other ≢ pass) × (get_elem? views other ≡ some u)). x.1) (at_set views pass other w u e)

@@ -1,4 +1,4 @@
--- What the fields of a ring's ends keep.
+-- The code's own: what the fields of a ring's ends keep.
 use Rattle.std.specs.Prelude.{◌≡◌, ℕ, ◌≤◌, Bool, true, false, length}
 use mathlib.Core.List.{IsPrefix}
 use Rattle.descriptor_ring.specs.declared.line.View.{View}

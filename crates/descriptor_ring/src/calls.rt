@@ -1,4 +1,5 @@
-// The moves of a ring's two ends.
+//! The moves of a ring's two ends.
+
 ghost use Rattle.std.specs.Prelude.{◌≡◌, ◌<◌, ◌≤◌, true, false, [], length, OnOk, IfErr, IfSome, IfNone};
 ghost use Rattle.std.specs.Bool.{OnFalse, OnTrue};
 ghost use mathlib.Core.List.{IsPrefix};

@@ -1,5 +1,6 @@
-// What goes through a ring, what each pass of it knows, and what its steps tell. No value of `View` or `HeapName` is
-// made.
+//! What goes through a ring, what each pass of it knows, and what its steps tell. No value of `View` or `HeapName` is
+//! made.
+
 use crossbeam_queue::protocol::{Join, Lesson, Outcome, Protocol, Split};
 use crossbeam_queue::{Pass, RuledArrayQueue};
 use std::collections::LinkedList;

@@ -19,10 +19,19 @@ use std::sync::{Arc, Wait};
 
 /// The sending end of a ring of descriptors. Contracts see it as a `Sending`: which ring it is, of which heap, how
 /// many items the ring holds, the descriptors that were sent, and those that it was told were taken.
-#[derive(Drop)]
 pub struct Sender {
     line: Arc<Line<Descriptor>, Global>,
     pass: LinePass<Descriptor>,
+}
+
+// By hand, so that a drop is one call where it is needed, and not a drop of each part.
+impl Drop for Sender {
+    fn drop(self) {
+        let Sender {
+            line: _line,
+            pass: _pass,
+        } = self;
+    }
 }
 
 impl Model for Sender {
@@ -46,11 +55,21 @@ impl Model for Sender {
 
 /// The receiving end of a ring of descriptors. Contracts see it as a `Receiving`: which ring it is, of which heap,
 /// the descriptors that were taken, whether the closing was, and what it was told was sent.
-#[derive(Drop)]
 pub struct Receiver {
     line: Arc<Line<Descriptor>, Global>,
     pass: LinePass<Descriptor>,
     closed: bool,
+}
+
+// By hand, so that a drop is one call where it is needed, and not a drop of each part.
+impl Drop for Receiver {
+    fn drop(self) {
+        let Receiver {
+            line: _line,
+            pass: _pass,
+            closed: _,
+        } = self;
+    }
 }
 
 impl Model for Receiver {

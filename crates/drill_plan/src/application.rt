@@ -13,13 +13,13 @@ use std::alloc::Global;
 /// How many clients there are, each with an echo.
 pub(crate) const CLIENTS: u32 = 4;
 
-/// The words of an application's heap.
+// The words of an application's heap.
 const HEAP: u64 = 64;
 
-/// The words of the heap of what it is delivered.
+// The words of the heap of what it is delivered.
 const RECEIVE: u64 = 1024;
 
-/// How many items its rings hold.
+// How many items its rings hold.
 const RING: u64 = 4;
 
 /// The applications, each client before its echo.

@@ -14,10 +14,10 @@ use std::alloc::Global;
 /// How many calls each client submits at most.
 pub const MAX_CALLS: u64 = 2048;
 
-/// How many loads a copy makes at most.
+// How many loads a copy makes at most.
 const LOADS: u64 = 1024;
 
-/// How many threads serve the connections.
+// How many threads serve the connections.
 const WORKERS: u64 = 2;
 
 /// The plan of the drill, in which each client submits so many calls, at most 2048. The only error is `Memory`.

@@ -10,10 +10,10 @@ use policy_access::{Access, read_access};
 use policy_blocks::{Declarations, Item, NamedPolicy};
 use std::alloc::Global;
 
-/// The rule that denies what is large.
+// The rule that denies what is large.
 const BIG: &[u8] = b"rule big deny method 0 where 1 gt 49";
 
-/// All else is allowed.
+// All else is allowed.
 const DEFAULT: &[u8] = b"default allow";
 
 /// What the plan declares: no tenant, and this policy alone.

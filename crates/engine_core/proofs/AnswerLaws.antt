@@ -1,5 +1,6 @@
 -- An entry has one answer.
-use Rattle.std.proofs.Common.{◌≡◌, ◌≢◌, ℕ, ◌-◌, ◌/◌, ◌<◌, ◌≤◌, ◌==◌, nat_lt, min, Bool, true, false, cond, ◌⊎◌, inl, inr, List, length, Some, None, refl, ap, subst, arith}
+use Rattle.std.proofs.Common.{◌≡◌, ◌≢◌, ℕ, ◌-◌, ◌/◌, ◌<◌, ◌≤◌, ◌==◌, nat_lt, min, Bool, true, false, cond, ◌⊎◌, inl}
+use Rattle.std.proofs.Common.{inr, List, length, Some, None, refl, ap, subst, arith}
 use Rattle.std.specs.Prelude.{unwrap_or}
 use Rattle.std.specs.List.{position_or_len}
 use Rattle.std.proofs.lemmas.Bool.{cases_lt}
@@ -15,7 +16,9 @@ use Rattle.policy_rate.specs.declared.rate.Rate.{Rate as RatePolicy}
 use Rattle.policy_redact.specs.Redacting.{cleared}
 use Rattle.policy_redact.specs.declared.redact.Clear.{Clear}
 use Rattle.engine_core.specs.Policies.{IsNoting}
-use Rattle.engine_core.specs.Answers.{Past, nothing, charged, drawn, counted, Answer, pass, deny, hold, refuse, over, note, redact, ticket_in, Answers, allows, denies, was_charged, charges, holds, refuses, is_within, is_over, draws, was_counted, counts, is_clear, redacts}
+use Rattle.engine_core.specs.Answers.{Past, nothing, charged, drawn, counted, Answer, pass, deny, hold, refuse, over}
+use Rattle.engine_core.specs.Answers.{note, redact, ticket_in, Answers, allows, denies, was_charged, charges, holds}
+use Rattle.engine_core.specs.Answers.{refuses, is_within, is_over, draws, was_counted, counts, is_clear, redacts}
 use Rattle.engine_core.specs.declared.policy.Policy.{Policy}
 use Rattle.engine_core.specs.declared.policy.Policy.TheVariants.{Access, Rate, Quota, Count, Redact}
 use Rattle.engine_core.specs.declared.outcome.Noted.TheVariants.{Charged, Drawn, Counted}
@@ -52,7 +55,8 @@ same-tree t u = elim (same-code (node_code.code t) (node_code.code u)) [ inl sam
 
 -- ---- there is an answer
 
-by-verdict : (p : AccessPolicy) (level moment : ℕ) (form : Call) (past : Past) (b : Bool) → (verdict p form).allow ≡ b → (answer : Answer) × Answers (Access p) level moment form past answer
+by-verdict : (p : AccessPolicy) (level moment : ℕ) (form : Call) (past : Past) (b : Bool) → (verdict p form).allow ≡ b
+    → (answer : Answer) × Answers (Access p) level moment form past answer
 by-verdict p level moment form past true is = (pass, allows p refl is refl)
 by-verdict p level moment form past false is = (deny (verdict p form).rule, denies p refl is refl)
 
@@ -68,7 +72,8 @@ by-ticket : (tenant per cap level moment ticket : ℕ) (form : Call) → (answer
 by-ticket tenant per cap level moment ticket form = elim (cases_lt ticket cap)
     [ inl less ↦ (pass, is_within tenant per cap ticket refl refl less refl) | inr more ↦ (over ticket cap, is_over tenant per cap ticket refl refl more refl) ]
 
-by-draw : (tenant per cap level moment : ℕ) (form : Call) (past : Past) → ((t : ℕ) → past ≢ drawn t) → (answer : Answer) × Answers (Quota tenant per cap) level moment form past answer
+by-draw : (tenant per cap level moment : ℕ) (form : Call) (past : Past) → ((t : ℕ) → past ≢ drawn t)
+    → (answer : Answer) × Answers (Quota tenant per cap) level moment form past answer
 by-draw tenant per cap level moment form past none = (note (Drawn (min (moment / per) 1023) 0), draws tenant per cap 0 refl none refl)
 
 by-clears : (clears : List Clear) (level moment : ℕ) (form : Call) (past : Past) → (answer : Answer) × Answers (Redact clears) level moment form past answer
@@ -136,7 +141,8 @@ denied-within p level moment rule form past (counts is none at) = absurd cc
 denied-within p level moment rule form past (is_clear clears is left at) = absurd cc
 denied-within p level moment rule form past (redacts clears is other at) = absurd cc
 
-pub allows_at_any_time : (policy : Policy) (level moment other later : ℕ) (form : Call) (past : Past) → Answers policy level moment form past pass → Answers policy other later form past pass
+pub allows_at_any_time : (policy : Policy) (level moment other later : ℕ) (form : Call) (past : Past)
+    → Answers policy level moment form past pass → Answers policy other later form past pass
 allows_at_any_time policy level moment other later form past (allows p is allow at) = allows p is allow at
 allows_at_any_time policy level moment other later form past (denies p is denied at) = absurd cc
 allows_at_any_time policy level moment other later form past (was_charged r is some at) = was_charged r is some at
@@ -151,7 +157,8 @@ allows_at_any_time policy level moment other later form past (counts is none at)
 allows_at_any_time policy level moment other later form past (is_clear clears is left at) = is_clear clears is left at
 allows_at_any_time policy level moment other later form past (redacts clears is differs at) = absurd cc
 
-pub allows_by_notes : (policy : Policy) (level moment other later : ℕ) (form another : Call) (past : Past) → IsNoting policy → Answers policy level moment form past pass → Answers policy other later another past pass
+pub allows_by_notes : (policy : Policy) (level moment other later : ℕ) (form another : Call) (past : Past)
+    → IsNoting policy → Answers policy level moment form past pass → Answers policy other later another past pass
 allows_by_notes policy level moment other later form another past noting (allows p is allow at) = absurd (rw is at noting)
 allows_by_notes policy level moment other later form another past noting (denies p is denied at) = absurd cc
 allows_by_notes policy level moment other later form another past noting (was_charged r is some at) = was_charged r is some at

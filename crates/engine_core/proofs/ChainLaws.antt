@@ -1,5 +1,8 @@
 -- What a step makes of a chain, and why it is refused.
-use Rattle.std.proofs.Common.{◌≡◌, ◌≢◌, ℕ, ◌+◌, ◌<◌, ◌≤◌, ◌==◌, zero, suc, Bool, true, false, not, if◌then◌else◌, ◌⊎◌, inl, inr, List, [], ◌∷◌, ◌++◌, length, map, filter, take, drop, All, Contains, slice_index_or, refl, ap, sym, ◌∙◌, subst, arith, take-append-drop, length-append, length-take-le}
+use Rattle.std.proofs.Common.{◌≡◌, ◌≢◌, ℕ, ◌+◌, ◌<◌, ◌≤◌, ◌==◌, zero, suc, Bool, true, false, not, if◌then◌else◌, ◌⊎◌}
+use Rattle.std.proofs.Common.{inl, inr, List, [], ◌∷◌, ◌++◌, length, map, filter, take, drop, All, Contains}
+use Rattle.std.proofs.Common.{slice_index_or, refl, ap, sym, ◌∙◌, subst, arith, take-append-drop, length-append}
+use Rattle.std.proofs.Common.{length-take-le}
 use Rattle.std.proofs.lemmas.Bool.{cases_lt}
 use Rattle.std.proofs.lemmas.Grind.{common_steps}
 use Rattle.std.proofs.lemmas.List.{map-append}
@@ -8,7 +11,10 @@ use Rattle.std.proofs.lemmas.List.Elements.{All-contains, All-contains_itself, A
 use Rattle.std.proofs.lemmas.Slice.Eq.{bytes_eq-Decides}
 use Rattle.mrpc_table.specs.Valid.{AreDistinct}
 use Rattle.engine_core.specs.Policies.{is_same_kind}
-use Rattle.engine_core.specs.Chains.{Entry, Chain, IsChain, Refusal, no_such, taken, no_place, full, other_kind, order_of, IsAgainst, detaches_none, upgrades_none, is_taken, is_past, is_full, is_other, Refuses, Makes, attaches, detaches, upgrades, Changes, names_of, attachments_of, new_entry, upgraded, is_named, changed}
+use Rattle.engine_core.specs.Chains.{Entry, Chain, IsChain, Refusal, no_such, taken, no_place, full, other_kind}
+use Rattle.engine_core.specs.Chains.{order_of, IsAgainst, detaches_none, upgrades_none, is_taken, is_past, is_full}
+use Rattle.engine_core.specs.Chains.{is_other, Refuses, Makes, attaches, detaches, upgrades, Changes, names_of}
+use Rattle.engine_core.specs.Chains.{attachments_of, new_entry, upgraded, is_named, changed}
 use Rattle.engine_core.specs.declared.policy.Policy.{Policy}
 use Rattle.engine_core.specs.declared.op.Op.{Op}
 use Rattle.engine_core.specs.declared.op.Op.TheVariants.{Attach, Detach, Upgrade}
@@ -59,13 +65,25 @@ Contains-cons : {X : Type 0} (x : X) (xs : List X) (y : X) → Contains xs y →
 Contains-cons x xs y has = (suc has.0, omega (arith, has.1), has.2)
 
 contained : {X : Type 0} (x : X) (xs : List X) (y : X) → Contains (x ∷ xs) y → (x ≡ y) ⊎ Contains xs y
-contained x xs y has = elim (Contains-append_cases (x ∷ []) xs y has) [ inl first ↦ elim (Contains-push_cases [] x y first) [ inl none ↦ absurd (Contains-nil y none) | inr same ↦ inl same ] | inr rest ↦ inr rest ]
+contained x xs y has =
+    elim (Contains-append_cases (x ∷ []) xs y has) [
+      | inl first ↦ elim (Contains-push_cases [] x y first) [
+        | inl none ↦ absurd (Contains-nil y none)
+        | inr same ↦ inl
+            same
+      ]
+      | inr rest ↦ inr rest
+    ]
 
 named : (name : List ℕ) (names : List (List ℕ)) → Contains names name ⊎ (Contains names name → ⊥)
 named name [] = inr (Contains-nil name)
 named name (x ∷ xs) = elim (same-text x name) [
   | inl same ↦ inl (0, omega arith, same)
-  | inr other ↦ elim (named name xs) [ inl has ↦ inl (Contains-cons x xs name has) | inr none ↦ inr (λ has. elim (contained x xs name has) [ inl same ↦ other same | inr has' ↦ none has' ]) ]
+  | inr other ↦ elim (named name xs) [
+    | inl has ↦ inl (Contains-cons x xs name has)
+    | inr none ↦ inr
+        (λ has. elim (contained x xs name has) [ inl same ↦ other same | inr has' ↦ none has' ])
+  ]
 ]
 
 -- ---- one chain
@@ -159,7 +177,8 @@ against-attach entries at name label policy other (is_past a n l p is past r) =
 against-attach entries at name label policy other (is_full a n l p is more r) = inr (inr (ap order_of r, more))
 against-attach entries at name label policy other (is_other n l p e is there named differs r) = absurd cc
 
-attach-changes : (before : Chain) (at : ℕ) (name label : List ℕ) (policy : Policy) → (Contains (names_of before.entries) name → ⊥) → at ≤ length before.entries → length before.entries < 8
+attach-changes : (before : Chain) (at : ℕ) (name label : List ℕ) (policy : Policy)
+    → (Contains (names_of before.entries) name → ⊥) → at ≤ length before.entries → length before.entries < 8
     → (after : Chain) × Changes before (Attach at name label policy) after
 attach-changes before at name label policy none within few = (
   record { entries = take at before.entries ++ new_entry name (before.attached + 1) policy ∷ drop at before.entries; attached = before.attached + 1 },
@@ -177,14 +196,17 @@ attach-taken before at name label policy some = record {
       [ inl taken' ↦ omega (arith, taken'.0) | inr rest ↦ elim rest [ inl past ↦ omega (arith, past.0) | inr more ↦ omega (arith, more.0) ] ];
 }
 
-attach-past : (before : Chain) (at : ℕ) (name label : List ℕ) (policy : Policy) → (Contains (names_of before.entries) name → ⊥) → length before.entries < at → Refuses before (Attach at name label policy) (no_place at)
+attach-past : (before : Chain) (at : ℕ) (name label : List ℕ) (policy : Policy)
+    → (Contains (names_of before.entries) name → ⊥) → length before.entries < at
+    → Refuses before (Attach at name label policy) (no_place at)
 attach-past before at name label policy none past = record {
   against = is_past at name label policy refl past refl;
   first = λ other less against. elim (against-attach before.entries at name label policy other against)
       [ inl taken' ↦ none taken'.1 | inr rest ↦ elim rest [ inl past' ↦ omega (arith, past'.0) | inr more ↦ omega (arith, more.0) ] ];
 }
 
-attach-full : (before : Chain) (at : ℕ) (name label : List ℕ) (policy : Policy) → (Contains (names_of before.entries) name → ⊥) → at ≤ length before.entries → 8 ≤ length before.entries
+attach-full : (before : Chain) (at : ℕ) (name label : List ℕ) (policy : Policy)
+    → (Contains (names_of before.entries) name → ⊥) → at ≤ length before.entries → 8 ≤ length before.entries
     → Refuses before (Attach at name label policy) (full (length before.entries))
 attach-full before at name label policy none within more = record {
   against = is_full at name label policy refl more refl;
@@ -218,10 +240,17 @@ either-detach : (before : Chain) (name : List ℕ)
     → ((after : Chain) × Changes before (Detach name) after) ⊎ ((refusal : Refusal) × Refuses before (Detach name) refusal)
 either-detach before name = elim (named name (names_of before.entries)) [
   | inl some ↦ inl (detach-changes (split before.entries name some))
-  | inr none ↦ inr (no_such name, record { against = detaches_none name refl none refl; first = λ other less against. omega (arith, (against-detach before.entries name other against).0) })
+  | inr none ↦ inr (
+    no_such name,
+    record {
+      against = detaches_none name refl none refl;
+      first = λ other less against. omega (arith, (against-detach before.entries name other against).0);
+    },
+  )
 ]
   where
-    detach-changes : (front : List Entry) × (e : Entry) × (back : List Entry) × (before.entries ≡ front ++ e ∷ back) × (e.name ≡ name) → (after : Chain) × Changes before (Detach name) after
+    detach-changes : (front : List Entry) × (e : Entry) × (back : List Entry) × (before.entries ≡ front ++ e ∷ back)
+        × (e.name ≡ name) → (after : Chain) × Changes before (Detach name) after
     detach-changes cut = (
       record { entries = cut.0 ++ cut.2; attached = before.attached },
       record {
@@ -246,7 +275,9 @@ one_entry es front back e f apart whole has named =
     sym same.1
 
 against-upgrade : (entries : List Entry) (name label : List ℕ) (policy : Policy) (other : Refusal) → IsAgainst entries (Upgrade name label policy) other
-    → ((order_of other ≡ 1) × (Contains (names_of entries) name → ⊥)) ⊎ ((order_of other ≡ 5) × ((e : Entry) × Contains entries e × (e.name ≡ name) × (is_same_kind e.policy policy ≡ false)))
+    → ((order_of other ≡ 1) × (Contains (names_of entries) name → ⊥))
+    ⊎ ((order_of other ≡ 5)
+    × ((e : Entry) × Contains entries e × (e.name ≡ name) × (is_same_kind e.policy policy ≡ false)))
 against-upgrade entries name label policy other (detaches_none n is none r) = absurd cc
 against-upgrade entries name label policy other (upgrades_none n l p is none r) =
     let names : n ≡ name = cc in inl (ap order_of r, λ has. none (subst (λ (m : List ℕ). Contains (names_of entries) m) (sym names) has))
@@ -293,12 +324,14 @@ either-upgrade before name label policy chain = elim (named name (names_of befor
     no_such name,
     record {
       against = upgrades_none name label policy refl none refl;
-      first = λ other less against. elim (against-upgrade before.entries name label policy other against) [ inl none' ↦ omega (arith, none'.0) | inr differs ↦ omega (arith, differs.0) ];
+      first = λ other less against. elim (against-upgrade before.entries name label policy other against)
+          [ inl none' ↦ omega (arith, none'.0) | inr differs ↦ omega (arith, differs.0) ];
     },
   )
 ]
   where
-    by-cut : Contains (names_of before.entries) name → (front : List Entry) × (e : Entry) × (back : List Entry) × (before.entries ≡ front ++ e ∷ back) × (e.name ≡ name) → Upgraded before name label policy
+    by-cut : Contains (names_of before.entries) name → (front : List Entry) × (e : Entry) × (back : List Entry)
+        × (before.entries ≡ front ++ e ∷ back) × (e.name ≡ name) → Upgraded before name label policy
     by-cut some cut = upgrade-by before name label policy cut.0 cut.2 cut.1 (is_same_kind cut.1.policy policy) refl chain cut.3 cut.4 some
 
 pub either : (before : Chain) (op : Op) → IsChain before → ((after : Chain) × Changes before op after) ⊎ ((refusal : Refusal) × Refuses before op refusal)
@@ -327,7 +360,8 @@ distinct-remove (y ∷ front) back x apart = (
 )
 
 -- the same of what a map makes of a list
-distinct-map-insert : {X Y : Type 0} (f : X → Y) (front back : List X) (x : X) → AreDistinct (map f (front ++ back)) → (Contains (map f (front ++ back)) (f x) → ⊥) → AreDistinct (map f (front ++ x ∷ back))
+distinct-map-insert : {X Y : Type 0} (f : X → Y) (front back : List X) (x : X) → AreDistinct (map f (front ++ back))
+    → (Contains (map f (front ++ back)) (f x) → ⊥) → AreDistinct (map f (front ++ x ∷ back))
 distinct-map-insert f front back x apart new =
     rw (map-append f front (x ∷ back)) (distinct-insert (map f front) (map f back) (f x) (rw (map-append f front back) at apart) (λ has. new (rw (map-append f front back) has)))
 
@@ -345,7 +379,10 @@ Contains-insert front back x y has = elim (Contains-append_cases front back y ha
 
 -- numbers of which each of a list is no more
 numbers-insert : (front back : List ℕ) (n m k : ℕ) → n ≤ k → m ≤ k → All (λ a. a ≤ n) (front ++ back) → All (λ a. a ≤ k) (front ++ m ∷ back)
-numbers-insert front back n m k more last few = All-weaker (Contains (front ++ m ∷ back)) (λ a. a ≤ k) (λ a has. small a (Contains-append_cases front (m ∷ back) a has)) (front ++ m ∷ back) (All-contains_itself (front ++ m ∷ back))
+numbers-insert front back n m k more last few =
+    All-weaker (Contains (front ++ m ∷ back)) (λ a. a ≤ k)
+    (λ a has. small a (Contains-append_cases front (m ∷ back) a has)) (front ++ m ∷ back)
+    (All-contains_itself (front ++ m ∷ back))
   where
     below : (a : ℕ) → Contains (front ++ back) a → a ≤ k
     below a has = omega (arith, All-contains (λ b. b ≤ n) (front ++ back) a few has)
@@ -355,7 +392,9 @@ numbers-insert front back n m k more last few = All-weaker (Contains (front ++ m
     small a (inr behind) = elim (contained m back a behind) [ inl same ↦ omega arith | inr there ↦ below a (Contains-append_right front back a there) ]
 
 numbers-remove : (front back : List ℕ) (n m : ℕ) → All (λ a. a ≤ n) (front ++ m ∷ back) → All (λ a. a ≤ n) (front ++ back)
-numbers-remove front back n m few = All-weaker (Contains (front ++ back)) (λ a. a ≤ n) (λ a has. All-contains (λ b. b ≤ n) (front ++ m ∷ back) a few (Contains-insert front back m a has)) (front ++ back) (All-contains_itself (front ++ back))
+numbers-remove front back n m few =
+    All-weaker (Contains (front ++ back)) (λ a. a ≤ n) (λ a has. All-contains (λ b. b ≤ n) (front ++ m ∷ back) a few
+    (Contains-insert front back m a has)) (front ++ back) (All-contains_itself (front ++ back))
 
 above-all : (ns : List ℕ) (n : ℕ) → All (λ a. a ≤ n) ns → Contains ns (n + 1) → ⊥
 above-all ns n few has = omega (arith, All-contains (λ a. a ≤ n) ns (n + 1) few has)
@@ -364,7 +403,12 @@ stays-attached : (before : Chain) (at : ℕ) (name label : List ℕ) (policy : P
     → ((refusal : Refusal) → IsAgainst before.entries (Attach at name label policy) refusal → ⊥) → before.entries ≡ front ++ back
     → IsChain (record { entries = front ++ new_entry name (before.attached + 1) policy ∷ back; attached = before.attached + 1 })
 stays-attached before at name label policy front back chain free whole =
-    let few : length before.entries < 8 = elim (cases_lt (length before.entries) 8) [ inl less ↦ less | inr more ↦ absurd (free (full (length before.entries)) (is_full at name label policy refl more refl)) ] in
+    let few : length before.entries < 8 =
+    elim (cases_lt (length before.entries) 8) [
+      | inl less ↦ less
+      | inr more ↦ absurd
+          (free (full (length before.entries)) (is_full at name label policy refl more refl))
+    ] in
     record {
       few = omega (arith, ap length whole, length-append front back, length-append front (new_entry name (before.attached + 1) policy ∷ back));
       names = distinct-map-insert (λ (e : Entry). e.name) front back (new_entry name (before.attached + 1) policy) (rw whole at chain.names)
@@ -376,7 +420,8 @@ stays-attached before at name label policy front back chain free whole =
           (rw (whole, map-append (λ (e : Entry). e.attach) front back) at chain.numbered));
     }
 
-stays-detached : (before : Chain) (e : Entry) (front back : List Entry) → IsChain before → before.entries ≡ front ++ e ∷ back → IsChain (record { entries = front ++ back; attached = before.attached })
+stays-detached : (before : Chain) (e : Entry) (front back : List Entry) → IsChain before
+    → before.entries ≡ front ++ e ∷ back → IsChain (record { entries = front ++ back; attached = before.attached })
 stays-detached before e front back chain whole = record {
   few = omega (arith, chain.few, ap length whole, length-append front back, length-append front (e ∷ back));
   names = distinct-map-remove (λ (f : Entry). f.name) front back e (rw whole at chain.names);

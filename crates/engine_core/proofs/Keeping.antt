@@ -1,5 +1,6 @@
 -- The marks that are left of a call where those of some engines are kept.
-use Rattle.std.proofs.Common.{◌≡◌, ◌≢◌, ℕ, ◌+◌, ◌≤◌, ◌<◌, ◌==◌, Bool, true, false, not, List, [], ◌∷◌, filter, length, All, None, refl, arith, length-append}
+use Rattle.std.proofs.Common.{◌≡◌, ◌≢◌, ℕ, ◌+◌, ◌≤◌, ◌<◌, ◌==◌, Bool, true, false, not, List, [], ◌∷◌, filter, length}
+use Rattle.std.proofs.Common.{All, None, refl, arith, length-append}
 use Rattle.std.proofs.lemmas.Grind.{common_steps}
 use Rattle.std.proofs.lemmas.Bool.Decides.{nat_tests}
 use Rattle.std.proofs.lemmas.List.Folds.{list_any_none, list_any-append}
@@ -87,5 +88,7 @@ length-marks (e ∷ es) ms one known =
 
 pub length-kept : (es : List EngineParts) (a : ℕ) (ms : List Mark) → IsOneEach ms → has_engine es a ≡ true → length (other_marks a (kept es ms)) < length es
 length-kept es a ms one known =
-    let few = length-marks es (marked a Counted (kept es ms)) (IsOneEach-marked a Counted (kept es ms) (IsOneEach-filter (λ m. has_engine es m.attach) ms one)) (λ b has. known-marked es a b ms Counted known has) in
+    let few = length-marks es (marked a Counted (kept es ms))
+    (IsOneEach-marked a Counted (kept es ms) (IsOneEach-filter (λ m. has_engine es m.attach) ms one))
+    (λ b has. known-marked es a b ms Counted known has) in
     omega (arith, few, length-append (other_marks a (kept es ms)) (record { attach = a; note = Counted } ∷ []))

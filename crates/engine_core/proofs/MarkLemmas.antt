@@ -1,5 +1,7 @@
 -- What marks tell after one was set, and after some were taken away.
-use Rattle.std.proofs.Common.{◌≡◌, ◌≢◌, ℕ, ◌≤◌, ◌==◌, Bool, true, false, not, ◌||◌, cond, if◌then◌else◌, List, [], ◌∷◌, ◌++◌, filter, find, length, Option, Some, None, option_map, refl, arith, length-append}
+use Rattle.std.proofs.Common.{◌≡◌, ◌≢◌, ℕ, ◌≤◌, ◌==◌, Bool, true, false, not, ◌||◌, cond, if◌then◌else◌, List, []}
+use Rattle.std.proofs.Common.{◌∷◌, ◌++◌, filter, find, length, Option, Some, None, option_map, refl, arith}
+use Rattle.std.proofs.Common.{length-append}
 use Rattle.std.proofs.lemmas.Grind.{common_steps}
 use Rattle.std.proofs.lemmas.Bool.Decides.{nat_tests}
 use Rattle.std.proofs.lemmas.List.Elements.{filter-append}
@@ -28,7 +30,13 @@ note_of-marked a n ms = grind (arith, nat_tests, common_steps, find-kept (λ b. 
 
 -- the marks of the others
 pub note_of-marked-other : (a b : ℕ) (n : Note) (ms : List Mark) → b ≢ a → note_of (marked a n ms) b ≡ note_of ms b
-note_of-marked-other a b n ms other = grind (arith, nat_tests, common_steps, find-kept (λ c. not (c == a)) b ms, find-front (λ m. m.attach == b) (other_marks a ms) (record { attach = a; note = n }))
+note_of-marked-other a b n ms other = grind (
+  arith,
+  nat_tests,
+  common_steps,
+  find-kept (λ c. not (c == a)) b ms,
+  find-front (λ m. m.attach == b) (other_marks a ms) (record { attach = a; note = n }),
+)
 
 -- ---- one mark for each attachment
 
@@ -124,7 +132,11 @@ pub other_marks-marked : (a : ℕ) (n : Note) (ms : List Mark) → length (other
 other_marks-marked a n ms =
     let last : filter (λ (m : Mark). not (m.attach == a)) (record { attach = a; note = n } ∷ []) ≡ [] = grind (arith, nat_tests, common_steps) in
     rw (filter-append (λ (m : Mark). not (m.attach == a)) (other_marks a ms) (record { attach = a; note = n } ∷ []), last)
-    (omega (arith, length-append (filter (λ (m : Mark). not (m.attach == a)) (other_marks a ms)) [], length-filter_filter (λ (m : Mark). not (m.attach == a)) (λ (m : Mark). not (m.attach == a)) ms))
+    (omega (
+      arith,
+      length-append (filter (λ (m : Mark). not (m.attach == a)) (other_marks a ms)) [],
+      length-filter_filter (λ (m : Mark). not (m.attach == a)) (λ (m : Mark). not (m.attach == a)) ms,
+    ))
 
 unmarked-unallowed : (b : ℕ) (ms : List Mark) → note_of ms b ≡ None → note_of (filter (λ m. not (is_allowing m.note)) ms) b ≡ None
 unmarked-unallowed b ms none = rw (none-kept b ms (no_note (find (λ (m : Mark). m.attach == b) ms) none)) refl where
@@ -133,4 +145,9 @@ unmarked-unallowed b ms none = rw (none-kept b ms (no_note (find (λ (m : Mark).
   no_note (Some m) is = absurd cc
 
 pub unallowed : (ms : List Mark) → IsOneEach ms → IsUnallowed ms (filter (λ m. not (is_allowing m.note)) ms)
-unallowed ms one = record { pasts = λ b. past-unallowed b ms one; none = λ b v. none-allowed b v ms; unmarked = λ b none. unmarked-unallowed b ms none; no_more = λ b. length-filter_filter (λ m. not (m.attach == b)) (λ m. not (is_allowing m.note)) ms }
+unallowed ms one = record {
+  pasts = λ b. past-unallowed b ms one;
+  none = λ b v. none-allowed b v ms;
+  unmarked = λ b none. unmarked-unallowed b ms none;
+  no_more = λ b. length-filter_filter (λ m. not (m.attach == b)) (λ m. not (is_allowing m.note)) ms;
+}

@@ -55,9 +55,12 @@ parts policy level moment form past a (is_held l cost first out) = alone (hold l
 parts policy level moment form past a (is_refused (Denied rule) first out) = alone (deny rule) first first refl out
 parts policy level moment form past a (is_refused (Short l cost) first out) = alone (refuse l cost) first first refl out
 parts policy level moment form past a (is_refused (Over ticket cap) first out) = alone (over ticket cap) first first refl out
-parts policy level moment form past a (is_noted_and_refused n (Denied rule) first last out) = record { first = note n; last = deny rule; answers = first; then = last; no_draw = refl; is = out }
-parts policy level moment form past a (is_noted_and_refused n (Short l cost) first last out) = record { first = note n; last = refuse l cost; answers = first; then = last; no_draw = refl; is = out }
-parts policy level moment form past a (is_noted_and_refused n (Over ticket cap) first last out) = record { first = note n; last = over ticket cap; answers = first; then = last; no_draw = refl; is = out }
+parts policy level moment form past a (is_noted_and_refused n (Denied rule) first last out) =
+    record { first = note n; last = deny rule; answers = first; then = last; no_draw = refl; is = out }
+parts policy level moment form past a (is_noted_and_refused n (Short l cost) first last out) =
+    record { first = note n; last = refuse l cost; answers = first; then = last; no_draw = refl; is = out }
+parts policy level moment form past a (is_noted_and_refused n (Over ticket cap) first last out) =
+    record { first = note n; last = over ticket cap; answers = first; then = last; no_draw = refl; is = out }
 parts policy level moment form past a (is_redacted first out) = alone redact first first refl out
 
 -- the ticket of the first answer
@@ -84,7 +87,9 @@ pub one_outcome : (policy : Policy) (level moment : ℕ) (form : Call) (past : P
 one_outcome policy level moment form past a b left right same =
     let p = parts policy level moment form past a left in
     let q = parts policy level moment form past b right in
-    let tickets : ticket_in p.first ≡ ticket_in q.first = sym (ticket-first p.first p.last) ∙ (ap (λ (o : Outcome). ticket_in (note (noted_in o))) (sym p.is) ∙ (same ∙ (ap (λ (o : Outcome). ticket_in (note (noted_in o))) q.is ∙ ticket-first q.first q.last))) in
+    let tickets : ticket_in p.first ≡ ticket_in q.first = sym (ticket-first p.first p.last)
+    ∙ (ap (λ (o : Outcome). ticket_in (note (noted_in o))) (sym p.is)
+    ∙ (same ∙ (ap (λ (o : Outcome). ticket_in (note (noted_in o))) q.is ∙ ticket-first q.first q.last))) in
     let firsts : p.first ≡ q.first = one_answer policy level moment form past p.first q.first p.answers q.answers tickets in
     let lasts : p.last ≡ q.last = one_answer policy (level_by q.first level) moment form (past_by q.first past) p.last q.last
     (subst (λ (x : Answer). Answers policy (level_by x level) moment form (past_by x past) p.last) firsts p.then) q.then (p.no_draw ∙ sym q.no_draw) in

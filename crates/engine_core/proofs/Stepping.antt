@@ -30,7 +30,11 @@ pub ticket_again : (tenant per cap attach version level moment ticket : ℕ) (s 
     → (ticket < cap → outcome ≡ Passed Nothing) → (cap ≤ ticket → outcome ≡ Refused Nothing (Over ticket cap))
     → Steps (Quota tenant per cap) attach version level moment s s level outcome
 ticket_again tenant per cap attach version level moment ticket s outcome past within over =
-    elim (cases_lt ticket cap) [ inl less ↦ is_within tenant per cap ticket refl past less (within less) refl refl | inr more ↦ is_over tenant per cap ticket refl past more (over more) refl refl ]
+    elim (cases_lt ticket cap) [
+      | inl less ↦ is_within tenant per cap ticket refl past less
+          (within less) refl refl
+      | inr more ↦ is_over tenant per cap ticket refl past more (over more) refl refl
+    ]
 
 -- a call whose ticket is drawn now
 pub ticket_now : (tenant per cap attach version level moment ticket : ℕ) (old new : StandingCall) (outcome : Outcome) → ((t : ℕ) → past_of old.marks attach ≢ drawn t)
@@ -38,4 +42,8 @@ pub ticket_now : (tenant per cap attach version level moment ticket : ℕ) (old 
     → (ticket < cap → outcome ≡ Passed (Drawn (min (moment / per) 1023) ticket)) → (cap ≤ ticket → outcome ≡ Refused (Drawn (min (moment / per) 1023) ticket) (Over ticket cap))
     → Steps (Quota tenant per cap) attach version level moment old new level outcome
 ticket_now tenant per cap attach version level moment ticket old new outcome past is within over =
-    elim (cases_lt ticket cap) [ inl less ↦ draws_within tenant per cap ticket refl past less (within less) is refl | inr more ↦ draws_over tenant per cap ticket refl past more (over more) is refl ]
+    elim (cases_lt ticket cap) [
+      | inl less ↦ draws_within tenant per cap ticket refl past less
+          (within less) is refl
+      | inr more ↦ draws_over tenant per cap ticket refl past more (over more) is refl
+    ]

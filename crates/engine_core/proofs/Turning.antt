@@ -1,5 +1,6 @@
 -- What follows from what an engine does.
-use Rattle.std.proofs.Common.{◌≡◌, ◌≢◌, ℕ, ◌<◌, ◌≤◌, ◌-◌, ◌/◌, min, ◌==◌, Bool, true, false, if◌then◌else◌, List, ◌∷◌, length, None, Some, refl, ap, sym, ◌∙◌, subst, arith}
+use Rattle.std.proofs.Common.{◌≡◌, ◌≢◌, ℕ, ◌<◌, ◌≤◌, ◌-◌, ◌/◌, min, ◌==◌, Bool, true, false, if◌then◌else◌, List, ◌∷◌}
+use Rattle.std.proofs.Common.{length, None, Some, refl, ap, sym, ◌∙◌, subst, arith}
 use Rattle.std.specs.Cmp.{nat_eq_equiv}
 use Rattle.std.proofs.lemmas.Grind.{common_steps}
 use Rattle.std.proofs.lemmas.Bool.Decides.{nat_tests}
@@ -19,7 +20,9 @@ use Rattle.engine_core.specs.Answers as answers
 use Rattle.engine_core.specs.Marks.{StandingCall, IsAllowing, IsSilent, IsTrueFor, is_allowed, is_allowed_by, note_of, other_marks, past_by, past_of}
 use Rattle.engine_core.specs.Turns.{ComesOut, form_after, is_redacted_by, noted_in}
 use Rattle.engine_core.specs.Turns as turns
-use Rattle.engine_core.specs.Steps.{IsUnallowed, Steps, with_mark, was_allowed, allows, denies, was_charged, charges, holds, refuses, is_within, is_over, draws_within, draws_over, was_counted, counts, is_clear, redacts}
+use Rattle.engine_core.specs.Steps.{IsUnallowed, Steps, with_mark, was_allowed, allows, denies, was_charged, charges}
+use Rattle.engine_core.specs.Steps.{holds, refuses, is_within, is_over, draws_within, draws_over, was_counted, counts}
+use Rattle.engine_core.specs.Steps.{is_clear, redacts}
 use Rattle.engine_core.specs.declared.policy.Policy.{Policy}
 use Rattle.engine_core.specs.declared.policy.Policy.TheVariants.{Access, Rate, Quota, Count, Redact}
 use Rattle.engine_core.specs.declared.outcome.Noted.{Noted}
@@ -79,19 +82,35 @@ pub comes-step : (policy : Policy) (attach version level moment : ℕ) (old new 
     → ComesOut policy level moment old.call (past_of old.marks attach) outcome
 comes-step policy attach version level moment old new left outcome (was_allowed p is marked out same l) true_for = turns.passes (answers.allows p is (rw is at (true_for marked)) refl) out
 comes-step policy attach version level moment old new left outcome (allows p is unmarked allow out same l) true_for = turns.passes (answers.allows p is allow refl) out
-comes-step policy attach version level moment old new left outcome (denies p is unmarked deny out same l) true_for = turns.is_refused (Denied (verdict p old.call).rule) (answers.denies p is deny refl) out
+comes-step policy attach version level moment old new left outcome (denies p is unmarked deny out same l) true_for =
+    turns.is_refused (Denied (verdict p old.call).rule) (answers.denies p is deny refl) out
 comes-step policy attach version level moment old new left outcome (was_charged r is past out same l) true_for = turns.passes (answers.was_charged r is past refl) out
-comes-step policy attach version level moment old new left outcome (charges r is past enough out same l) true_for = turns.is_noted (Charged (level - r.per)) (answers.charges r is past enough refl) (answers.was_charged r is (λ none. cc) refl) out
+comes-step policy attach version level moment old new left outcome (charges r is past enough out same l) true_for =
+    turns.is_noted (Charged (level - r.per)) (answers.charges r is past enough refl)
+    (answers.was_charged r is (λ none. cc) refl) out
 comes-step policy attach version level moment old new left outcome (holds r is past less mode out same l) true_for = turns.is_held level r.per (answers.holds r is past less mode refl) out
-comes-step policy attach version level moment old new left outcome (refuses r is past less mode out same l) true_for = turns.is_refused (Short level r.per) (answers.refuses r is past less mode refl) out
-comes-step policy attach version level moment old new left outcome (is_within t per cap ticket is past less out same l) true_for = turns.passes (answers.is_within t per cap ticket is past less refl) out
-comes-step policy attach version level moment old new left outcome (is_over t per cap ticket is past more out same l) true_for = turns.is_refused (Over ticket cap) (answers.is_over t per cap ticket is past more refl) out
-comes-step policy attach version level moment old new left outcome (draws_within t per cap ticket is past less out same l) true_for = turns.is_noted (Drawn (min (moment / per) 1023) ticket) (answers.draws t per cap ticket is past refl) (answers.is_within t per cap ticket is refl less refl) out
-comes-step policy attach version level moment old new left outcome (draws_over t per cap ticket is past more out same l) true_for = turns.is_noted_and_refused (Drawn (min (moment / per) 1023) ticket) (Over ticket cap) (answers.draws t per cap ticket is past refl) (answers.is_over t per cap ticket is refl more refl) out
+comes-step policy attach version level moment old new left outcome (refuses r is past less mode out same l) true_for =
+    turns.is_refused (Short level r.per) (answers.refuses r is past less mode refl) out
+comes-step policy attach version level moment old new left outcome
+    (is_within t per cap ticket is past less out same l) true_for =
+    turns.passes (answers.is_within t per cap ticket is past less refl) out
+comes-step policy attach version level moment old new left outcome (is_over t per cap ticket is past more out same l)
+    true_for = turns.is_refused (Over ticket cap) (answers.is_over t per cap ticket is past more refl) out
+comes-step policy attach version level moment old new left outcome
+    (draws_within t per cap ticket is past less out same l) true_for =
+    turns.is_noted (Drawn (min (moment / per) 1023) ticket) (answers.draws t per cap ticket is past refl)
+    (answers.is_within t per cap ticket is refl less refl) out
+comes-step policy attach version level moment old new left outcome
+    (draws_over t per cap ticket is past more out same l) true_for =
+    turns.is_noted_and_refused (Drawn (min (moment / per) 1023) ticket) (Over ticket cap)
+    (answers.draws t per cap ticket is past refl) (answers.is_over t per cap ticket is refl more refl) out
 comes-step policy attach version level moment old new left outcome (was_counted is past out same l) true_for = turns.passes (answers.was_counted is past refl) out
-comes-step policy attach version level moment old new left outcome (counts is past out same l) true_for = turns.is_noted Counted (answers.counts is past refl) (answers.was_counted is (λ none. cc) refl) out
+comes-step policy attach version level moment old new left outcome (counts is past out same l) true_for =
+    turns.is_noted Counted (answers.counts is past refl) (answers.was_counted is (λ none. cc) refl) out
 comes-step policy attach version level moment old new left outcome (is_clear clears is same_tree out same l) true_for = turns.passes (answers.is_clear clears is same_tree refl) out
-comes-step policy attach version level moment old new left outcome (redacts clears is other_tree out form less fits taken l) true_for = turns.is_redacted (answers.redacts clears is other_tree refl) out
+comes-step policy attach version level moment old new left outcome
+    (redacts clears is other_tree out form less fits taken l) true_for =
+    turns.is_redacted (answers.redacts clears is other_tree refl) out
 
 -- a call that the policy has allowed passes
 pub allowed-step : (policy : Policy) (attach version level moment : ℕ) (old new : StandingCall) (left : ℕ) (outcome : Outcome)
@@ -158,7 +177,8 @@ pub noted-step : (policy : Policy) (attach version level moment : ℕ) (old new 
     → Steps policy attach version level moment old new left outcome
     → IsSilent policy (past_of old.marks attach) → past_of new.marks attach ≡ past_after (noted_in outcome) (past_of old.marks attach)
 noted-step policy attach version level moment old new left outcome (was_allowed p is marked out same l) silent = rw (out, same) refl
-noted-step policy attach version level moment old new left outcome (allows p is unmarked allow out same l) silent = rw (out, same, note_of-marked attach (marks.Allowed version) old.marks) (sym (rw is at silent))
+noted-step policy attach version level moment old new left outcome (allows p is unmarked allow out same l) silent =
+    rw (out, same, note_of-marked attach (marks.Allowed version) old.marks) (sym (rw is at silent))
 noted-step policy attach version level moment old new left outcome (denies p is unmarked deny out same l) silent = rw (out, same) refl
 noted-step policy attach version level moment old new left outcome (was_charged r is past out same l) silent = rw (out, same) refl
 noted-step policy attach version level moment old new left outcome (charges r is past enough out same l) silent = rw (out, same, note_of-marked attach marks.Charged old.marks) refl
@@ -166,8 +186,12 @@ noted-step policy attach version level moment old new left outcome (holds r is p
 noted-step policy attach version level moment old new left outcome (refuses r is past less mode out same l) silent = rw (out, same) refl
 noted-step policy attach version level moment old new left outcome (is_within t per cap ticket is past less out same l) silent = rw (out, same) refl
 noted-step policy attach version level moment old new left outcome (is_over t per cap ticket is past more out same l) silent = rw (out, same) refl
-noted-step policy attach version level moment old new left outcome (draws_within t per cap ticket is past less out same l) silent = rw (out, same, note_of-marked attach (marks.Drawn ticket) old.marks) refl
-noted-step policy attach version level moment old new left outcome (draws_over t per cap ticket is past more out same l) silent = rw (out, same, note_of-marked attach (marks.Drawn ticket) old.marks) refl
+noted-step policy attach version level moment old new left outcome
+    (draws_within t per cap ticket is past less out same l) silent =
+    rw (out, same, note_of-marked attach (marks.Drawn ticket) old.marks) refl
+noted-step policy attach version level moment old new left outcome
+    (draws_over t per cap ticket is past more out same l) silent =
+    rw (out, same, note_of-marked attach (marks.Drawn ticket) old.marks) refl
 noted-step policy attach version level moment old new left outcome (was_counted is past out same l) silent = rw (out, same) refl
 noted-step policy attach version level moment old new left outcome (counts is past out same l) silent = rw (out, same, note_of-marked attach marks.Counted old.marks) refl
 noted-step policy attach version level moment old new left outcome (is_clear clears is same_tree out same l) silent = rw (out, same) refl
@@ -178,16 +202,22 @@ pub others-step : (policy : Policy) (attach version level moment : ℕ) (old new
     → Steps policy attach version level moment old new left outcome
     → (a : ℕ) → a ≢ attach → past_of new.marks a ≡ past_of old.marks a
 others-step policy attach version level moment old new left outcome (was_allowed p is marked out same l) a other = rw same refl
-others-step policy attach version level moment old new left outcome (allows p is unmarked allow out same l) a other = rw (same, note_of-marked-other attach a (marks.Allowed version) old.marks other) refl
+others-step policy attach version level moment old new left outcome (allows p is unmarked allow out same l) a other =
+    rw (same, note_of-marked-other attach a (marks.Allowed version) old.marks other) refl
 others-step policy attach version level moment old new left outcome (denies p is unmarked deny out same l) a other = rw same refl
 others-step policy attach version level moment old new left outcome (was_charged r is past out same l) a other = rw same refl
-others-step policy attach version level moment old new left outcome (charges r is past enough out same l) a other = rw (same, note_of-marked-other attach a marks.Charged old.marks other) refl
+others-step policy attach version level moment old new left outcome (charges r is past enough out same l) a other =
+    rw (same, note_of-marked-other attach a marks.Charged old.marks other) refl
 others-step policy attach version level moment old new left outcome (holds r is past less mode out same l) a other = rw same refl
 others-step policy attach version level moment old new left outcome (refuses r is past less mode out same l) a other = rw same refl
 others-step policy attach version level moment old new left outcome (is_within t per cap ticket is past less out same l) a other = rw same refl
 others-step policy attach version level moment old new left outcome (is_over t per cap ticket is past more out same l) a other = rw same refl
-others-step policy attach version level moment old new left outcome (draws_within t per cap ticket is past less out same l) a other = rw (same, note_of-marked-other attach a (marks.Drawn ticket) old.marks other) refl
-others-step policy attach version level moment old new left outcome (draws_over t per cap ticket is past more out same l) a other = rw (same, note_of-marked-other attach a (marks.Drawn ticket) old.marks other) refl
+others-step policy attach version level moment old new left outcome
+    (draws_within t per cap ticket is past less out same l) a other =
+    rw (same, note_of-marked-other attach a (marks.Drawn ticket) old.marks other) refl
+others-step policy attach version level moment old new left outcome
+    (draws_over t per cap ticket is past more out same l) a other =
+    rw (same, note_of-marked-other attach a (marks.Drawn ticket) old.marks other) refl
 others-step policy attach version level moment old new left outcome (was_counted is past out same l) a other = rw same refl
 others-step policy attach version level moment old new left outcome (counts is past out same l) a other = rw (same, note_of-marked-other attach a marks.Counted old.marks other) refl
 others-step policy attach version level moment old new left outcome (is_clear clears is same_tree out same l) a other = rw same refl
@@ -198,7 +228,8 @@ pub allowing-step : (policy : Policy) (attach version level moment : ℕ) (old n
     → Steps policy attach version level moment old new left outcome
     → IsAccess policy → outcome ≡ Passed Nothing → is_allowed new.marks attach version ≡ true
 allowing-step policy attach version level moment old new left outcome (was_allowed p is marked out same l) access passed = rw same marked
-allowing-step policy attach version level moment old new left outcome (allows p is unmarked allow out same l) access passed = rw (same, note_of-marked attach (marks.Allowed version) old.marks) (nat_eq_equiv.refl version)
+allowing-step policy attach version level moment old new left outcome (allows p is unmarked allow out same l) access
+    passed = rw (same, note_of-marked attach (marks.Allowed version) old.marks) (nat_eq_equiv.refl version)
 allowing-step policy attach version level moment old new left outcome (denies p is unmarked deny out same l) access passed = absurd cc
 allowing-step policy attach version level moment old new left outcome (was_charged r is past out same l) access passed = absurd (rw is at access)
 allowing-step policy attach version level moment old new left outcome (charges r is past enough out same l) access passed = absurd (rw is at access)
@@ -218,18 +249,25 @@ pub others_allowing-step : (policy : Policy) (attach version level moment : ℕ)
     → Steps policy attach version level moment old new left outcome
     → (a v : ℕ) → a ≢ attach → is_allowed new.marks a v ≡ (if is_redacted_by outcome then false else is_allowed old.marks a v)
 others_allowing-step policy attach version level moment old new left outcome (was_allowed p is marked out same l) a v other = rw (out, same) refl
-others_allowing-step policy attach version level moment old new left outcome (allows p is unmarked allow out same l) a v other = rw (out, same, note_of-marked-other attach a (marks.Allowed version) old.marks other) refl
+others_allowing-step policy attach version level moment old new left outcome (allows p is unmarked allow out same l) a
+    v other = rw (out, same, note_of-marked-other attach a (marks.Allowed version) old.marks other) refl
 others_allowing-step policy attach version level moment old new left outcome (denies p is unmarked deny out same l) a v other = rw (out, same) refl
 others_allowing-step policy attach version level moment old new left outcome (was_charged r is past out same l) a v other = rw (out, same) refl
-others_allowing-step policy attach version level moment old new left outcome (charges r is past enough out same l) a v other = rw (out, same, note_of-marked-other attach a marks.Charged old.marks other) refl
+others_allowing-step policy attach version level moment old new left outcome (charges r is past enough out same l) a v
+    other = rw (out, same, note_of-marked-other attach a marks.Charged old.marks other) refl
 others_allowing-step policy attach version level moment old new left outcome (holds r is past less mode out same l) a v other = rw (out, same) refl
 others_allowing-step policy attach version level moment old new left outcome (refuses r is past less mode out same l) a v other = rw (out, same) refl
 others_allowing-step policy attach version level moment old new left outcome (is_within t per cap ticket is past less out same l) a v other = rw (out, same) refl
 others_allowing-step policy attach version level moment old new left outcome (is_over t per cap ticket is past more out same l) a v other = rw (out, same) refl
-others_allowing-step policy attach version level moment old new left outcome (draws_within t per cap ticket is past less out same l) a v other = rw (out, same, note_of-marked-other attach a (marks.Drawn ticket) old.marks other) refl
-others_allowing-step policy attach version level moment old new left outcome (draws_over t per cap ticket is past more out same l) a v other = rw (out, same, note_of-marked-other attach a (marks.Drawn ticket) old.marks other) refl
+others_allowing-step policy attach version level moment old new left outcome
+    (draws_within t per cap ticket is past less out same l) a v other =
+    rw (out, same, note_of-marked-other attach a (marks.Drawn ticket) old.marks other) refl
+others_allowing-step policy attach version level moment old new left outcome
+    (draws_over t per cap ticket is past more out same l) a v other =
+    rw (out, same, note_of-marked-other attach a (marks.Drawn ticket) old.marks other) refl
 others_allowing-step policy attach version level moment old new left outcome (was_counted is past out same l) a v other = rw (out, same) refl
-others_allowing-step policy attach version level moment old new left outcome (counts is past out same l) a v other = rw (out, same, note_of-marked-other attach a marks.Counted old.marks other) refl
+others_allowing-step policy attach version level moment old new left outcome (counts is past out same l) a v other =
+    rw (out, same, note_of-marked-other attach a marks.Counted old.marks other) refl
 others_allowing-step policy attach version level moment old new left outcome (is_clear clears is same_tree out same l) a v other = rw (out, same) refl
 others_allowing-step policy attach version level moment old new left outcome (redacts clears is other_tree out form less fits taken l) a v other = rw out (taken.none a v)
 
@@ -310,18 +348,26 @@ pub stays_true-step : (entry : Entry) (level moment : ℕ) (old new : StandingCa
     → Steps entry.policy entry.attach entry.version level moment old new left outcome
     → (e : Entry) → (e.attach ≡ entry.attach → e ≡ entry) → IsTrueFor e old → IsTrueFor e new
 stays_true-step entry level moment old new left outcome (was_allowed p is marked out same l) e one h = same-true e old new same h
-stays_true-step entry level moment old new left outcome (allows p is unmarked allow out same l) e one h = marked-true entry e (marks.Allowed entry.version) old new same one (own-allowed entry old (rw is refl) (rw is allow)) h
+stays_true-step entry level moment old new left outcome (allows p is unmarked allow out same l) e one h =
+    marked-true entry e (marks.Allowed entry.version) old new same one
+    (own-allowed entry old (rw is refl) (rw is allow)) h
 stays_true-step entry level moment old new left outcome (denies p is unmarked deny out same l) e one h = same-true e old new same h
 stays_true-step entry level moment old new left outcome (was_charged r is past out same l) e one h = same-true e old new same h
-stays_true-step entry level moment old new left outcome (charges r is past enough out same l) e one h = marked-true entry e marks.Charged old new same one (own-noted entry marks.Charged old (λ v. refl) (rw is tt)) h
+stays_true-step entry level moment old new left outcome (charges r is past enough out same l) e one h =
+    marked-true entry e marks.Charged old new same one (own-noted entry marks.Charged old (λ v. refl) (rw is tt)) h
 stays_true-step entry level moment old new left outcome (holds r is past less mode out same l) e one h = same-true e old new same h
 stays_true-step entry level moment old new left outcome (refuses r is past less mode out same l) e one h = same-true e old new same h
 stays_true-step entry level moment old new left outcome (is_within t per cap ticket is past less out same l) e one h = same-true e old new same h
 stays_true-step entry level moment old new left outcome (is_over t per cap ticket is past more out same l) e one h = same-true e old new same h
-stays_true-step entry level moment old new left outcome (draws_within t per cap ticket is past less out same l) e one h = marked-true entry e (marks.Drawn ticket) old new same one (own-noted entry (marks.Drawn ticket) old (λ v. refl) (rw is tt)) h
-stays_true-step entry level moment old new left outcome (draws_over t per cap ticket is past more out same l) e one h = marked-true entry e (marks.Drawn ticket) old new same one (own-noted entry (marks.Drawn ticket) old (λ v. refl) (rw is tt)) h
+stays_true-step entry level moment old new left outcome (draws_within t per cap ticket is past less out same l) e one
+    h = marked-true entry e (marks.Drawn ticket) old new same one
+    (own-noted entry (marks.Drawn ticket) old (λ v. refl) (rw is tt)) h
+stays_true-step entry level moment old new left outcome (draws_over t per cap ticket is past more out same l) e one
+    h = marked-true entry e (marks.Drawn ticket) old new same one
+    (own-noted entry (marks.Drawn ticket) old (λ v. refl) (rw is tt)) h
 stays_true-step entry level moment old new left outcome (was_counted is past out same l) e one h = same-true e old new same h
-stays_true-step entry level moment old new left outcome (counts is past out same l) e one h = marked-true entry e marks.Counted old new same one (own-noted entry marks.Counted old (λ v. refl) (rw is tt)) h
+stays_true-step entry level moment old new left outcome (counts is past out same l) e one h =
+    marked-true entry e marks.Counted old new same one (own-noted entry marks.Counted old (λ v. refl) (rw is tt)) h
 stays_true-step entry level moment old new left outcome (is_clear clears is same_tree out same l) e one h = same-true e old new same h
 stays_true-step entry level moment old new left outcome (redacts clears is other_tree out form less fits taken l) e one h = redacted-true e old new taken h
 
@@ -330,7 +376,8 @@ stays_true-step entry level moment old new left outcome (redacts clears is other
 -- they stay, or the engine's own is set, by a note or since its access policy allows the call, or a redaction takes away those of access engines
 data Became (policy : Policy) (attach version : ℕ) (old new : StandingCall) (outcome : Outcome) : Type 0 where
   stays : new ≡ old → Became policy attach version old new outcome
-  noted : (n : Note) → new ≡ with_mark attach n old → ((v : ℕ) → is_allowed_by v (Some n) ≡ false) → noted_in outcome ≢ Nothing → Became policy attach version old new outcome
+  noted : (n : Note) → new ≡ with_mark attach n old → ((v : ℕ) → is_allowed_by v (Some n) ≡ false)
+      → noted_in outcome ≢ Nothing → Became policy attach version old new outcome
   allowed : new ≡ with_mark attach (marks.Allowed version) old → IsAccess policy → outcome ≡ Passed Nothing → Became policy attach version old new outcome
   unallowed : IsUnallowed old.marks new.marks → Became policy attach version old new outcome
 
@@ -346,8 +393,12 @@ became-step policy attach version level moment old new left outcome (holds r is 
 became-step policy attach version level moment old new left outcome (refuses r is past less mode out same l) = stays same
 became-step policy attach version level moment old new left outcome (is_within t per cap ticket is past less out same l) = stays same
 became-step policy attach version level moment old new left outcome (is_over t per cap ticket is past more out same l) = stays same
-became-step policy attach version level moment old new left outcome (draws_within t per cap ticket is past less out same l) = noted (marks.Drawn ticket) same (λ v. refl) (rw out (λ none. cc))
-became-step policy attach version level moment old new left outcome (draws_over t per cap ticket is past more out same l) = noted (marks.Drawn ticket) same (λ v. refl) (rw out (λ none. cc))
+became-step policy attach version level moment old new left outcome
+    (draws_within t per cap ticket is past less out same l) =
+    noted (marks.Drawn ticket) same (λ v. refl) (rw out (λ none. cc))
+became-step policy attach version level moment old new left outcome
+    (draws_over t per cap ticket is past more out same l) =
+    noted (marks.Drawn ticket) same (λ v. refl) (rw out (λ none. cc))
 became-step policy attach version level moment old new left outcome (was_counted is past out same l) = stays same
 became-step policy attach version level moment old new left outcome (counts is past out same l) = noted marks.Counted same (λ v. refl) (rw out (λ none. cc))
 became-step policy attach version level moment old new left outcome (is_clear clears is same_tree out same l) = stays same
@@ -363,7 +414,8 @@ allowing_alone-became : (policy : Policy) (attach version : ℕ) (old new : Stan
     → (v : ℕ) → is_allowed old.marks attach v ≡ false → is_allowed new.marks attach v ≡ true → IsAllowance policy outcome × (v ≡ version)
 allowing_alone-became policy attach version old new outcome (stays same) v before after = apart before (rw same at after)
 allowing_alone-became policy attach version old new outcome (noted n same none some) v before after = apart (none v) (rw (same, note_of-marked attach n old.marks) at after)
-allowing_alone-became policy attach version old new outcome (allowed same access passed) v before after = ((access, passed), equal version v (rw (same, note_of-marked attach (marks.Allowed version) old.marks) at after))
+allowing_alone-became policy attach version old new outcome (allowed same access passed) v before after =
+    ((access, passed), equal version v (rw (same, note_of-marked attach (marks.Allowed version) old.marks) at after))
 allowing_alone-became policy attach version old new outcome (unallowed taken) v before after = apart (taken.none attach v) after
 
 none-became : (policy : Policy) (attach version : ℕ) (old new : StandingCall) (outcome : Outcome) → Became policy attach version old new outcome
@@ -436,21 +488,35 @@ past-step : (before after : EngineParts) (moment : ℕ) (old new : StandingCall)
     → Steps before.entry.policy before.entry.attach before.entry.version before.level moment old new after.level outcome
     → after.last ≡ before.last → after.entry ≡ before.entry
     → (first : RatePolicy) (start : ℕ) (past : List BucketHappening) → HasPast before first start past → HasPast after first start (past_behind (noted_in outcome) past)
-past-step before after moment old new outcome (was_allowed p is marked out same l) last entry first start past h = kept-past before after outcome first start past h l last entry (rw out refl)
-past-step before after moment old new outcome (allows p is unmarked allow out same l) last entry first start past h = kept-past before after outcome first start past h l last entry (rw out refl)
-past-step before after moment old new outcome (denies p is unmarked deny out same l) last entry first start past h = kept-past before after outcome first start past h l last entry (rw out refl)
-past-step before after moment old new outcome (was_charged r is noted_before out same l) last entry first start past h = kept-past before after outcome first start past h l last entry (rw out refl)
-past-step before after moment old new outcome (charges r is none enough out same l) last entry first start past h = rw out (charged-past before after r first start past h is enough l last entry)
-past-step before after moment old new outcome (holds r is noted_before less mode out same l) last entry first start past h = kept-past before after outcome first start past h l last entry (rw out refl)
-past-step before after moment old new outcome (refuses r is noted_before less mode out same l) last entry first start past h = kept-past before after outcome first start past h l last entry (rw out refl)
-past-step before after moment old new outcome (is_within t per cap ticket is noted_before less out same l) last entry first start past h = kept-past before after outcome first start past h l last entry (rw out refl)
-past-step before after moment old new outcome (is_over t per cap ticket is noted_before more out same l) last entry first start past h = kept-past before after outcome first start past h l last entry (rw out refl)
-past-step before after moment old new outcome (draws_within t per cap ticket is noted_before less out same l) last entry first start past h = kept-past before after outcome first start past h l last entry (rw out refl)
-past-step before after moment old new outcome (draws_over t per cap ticket is noted_before more out same l) last entry first start past h = kept-past before after outcome first start past h l last entry (rw out refl)
-past-step before after moment old new outcome (was_counted is noted_before out same l) last entry first start past h = kept-past before after outcome first start past h l last entry (rw out refl)
+past-step before after moment old new outcome (was_allowed p is marked out same l) last entry first start past h =
+    kept-past before after outcome first start past h l last entry (rw out refl)
+past-step before after moment old new outcome (allows p is unmarked allow out same l) last entry first start past h =
+    kept-past before after outcome first start past h l last entry (rw out refl)
+past-step before after moment old new outcome (denies p is unmarked deny out same l) last entry first start past h =
+    kept-past before after outcome first start past h l last entry (rw out refl)
+past-step before after moment old new outcome (was_charged r is noted_before out same l) last entry first start past
+    h = kept-past before after outcome first start past h l last entry (rw out refl)
+past-step before after moment old new outcome (charges r is none enough out same l) last entry first start past h =
+    rw out (charged-past before after r first start past h is enough l last entry)
+past-step before after moment old new outcome (holds r is noted_before less mode out same l) last entry first start
+    past h = kept-past before after outcome first start past h l last entry (rw out refl)
+past-step before after moment old new outcome (refuses r is noted_before less mode out same l) last entry first start
+    past h = kept-past before after outcome first start past h l last entry (rw out refl)
+past-step before after moment old new outcome (is_within t per cap ticket is noted_before less out same l) last entry
+    first start past h = kept-past before after outcome first start past h l last entry (rw out refl)
+past-step before after moment old new outcome (is_over t per cap ticket is noted_before more out same l) last entry
+    first start past h = kept-past before after outcome first start past h l last entry (rw out refl)
+past-step before after moment old new outcome (draws_within t per cap ticket is noted_before less out same l) last
+    entry first start past h = kept-past before after outcome first start past h l last entry (rw out refl)
+past-step before after moment old new outcome (draws_over t per cap ticket is noted_before more out same l) last entry
+    first start past h = kept-past before after outcome first start past h l last entry (rw out refl)
+past-step before after moment old new outcome (was_counted is noted_before out same l) last entry first start past h =
+    kept-past before after outcome first start past h l last entry (rw out refl)
 past-step before after moment old new outcome (counts is noted_before out same l) last entry first start past h = kept-past before after outcome first start past h l last entry (rw out refl)
-past-step before after moment old new outcome (is_clear clears is same_tree out same l) last entry first start past h = kept-past before after outcome first start past h l last entry (rw out refl)
-past-step before after moment old new outcome (redacts clears is other_tree out form less fits taken l) last entry first start past h = kept-past before after outcome first start past h l last entry (rw out refl)
+past-step before after moment old new outcome (is_clear clears is same_tree out same l) last entry first start past
+    h = kept-past before after outcome first start past h l last entry (rw out refl)
+past-step before after moment old new outcome (redacts clears is other_tree out form less fits taken l) last entry
+    first start past h = kept-past before after outcome first start past h l last entry (rw out refl)
 
 -- ---- together
 

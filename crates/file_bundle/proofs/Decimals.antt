@@ -1,5 +1,7 @@
 -- The decimal digits of a number of any size, and what reads them.
-use Rattle.std.proofs.Common.{◌≡◌, ◌≢◌, ℕ, zero, suc, ◌+◌, ◌*◌, ◌/◌, ◌%◌, ◌^◌, ◌<◌, ◌≤◌, ◌==◌, ◌&&◌, ◌||◌, not, Bool, true, false, cond, List, [], ◌∷◌, ◌++◌, length, get_or, take, map, Some, None, inl, inr, refl, ap, sym, subst, ◌∙◌, arith}
+use Rattle.std.proofs.Common.{◌≡◌, ◌≢◌, ℕ, zero, suc, ◌+◌, ◌*◌, ◌/◌, ◌%◌, ◌^◌, ◌<◌, ◌≤◌, ◌==◌, ◌&&◌, ◌||◌, not, Bool}
+use Rattle.std.proofs.Common.{true, false, cond, List, [], ◌∷◌, ◌++◌, length, get_or, take, map, Some, None, inl, inr}
+use Rattle.std.proofs.Common.{refl, ap, sym, subst, ◌∙◌, arith}
 use Rattle.std.specs.List.{list_all, AllByRecursion}
 use Rattle.std.specs.Char.{is_ascii_digit, digit_value}
 use Rattle.std.specs.Fmt.{decimal}
@@ -77,7 +79,12 @@ back ds (suc i) h first within =
     let d = get_or ds i 0 in
     let small : d < 10 = below_at ds i h (omega arith) in
     let value : number_from_digits 10 (take (i + 1) ds) ≡ v * 10 + d = number_more 10 ds i (omega arith) in
-    let some : 0 < v * 10 + d = elim (cases_lt 0 i) [ inl later ↦ omega (arith, so_far.1 later) | inr start ↦ let zero_i : i ≡ 0 = omega arith in let here : 0 < d = subst (λ (k : ℕ). 0 < get_or ds k 0) (sym zero_i) first in omega arith ] in
+    let some : 0 < v * 10 + d =
+    elim (cases_lt 0 i) [
+      | inl later ↦ omega (arith, so_far.1 later)
+      | inr start ↦ let zero_i : i ≡ 0 =
+          omega arith in let here : 0 < d = subst (λ (k : ℕ). 0 < get_or ds k 0) (sym zero_i) first in omega arith
+    ] in
     let next : suc i ≡ i + 1 = omega arith in
     let goal : (digits_of 10 (number_from_digits 10 (take (i + 1) ds)) ≡ take (i + 1) ds) × (0 < i + 1 → 0 < number_from_digits 10 (take (i + 1) ds)) = (
       ap (digits_of 10) value ∙ step v d small some ∙ ap (λ (t : List ℕ). t ++ d ∷ []) so_far.0 ∙ sym (take_more ds i 0 (omega arith)),
@@ -123,7 +130,8 @@ number_of-decimal_word n = elim (cases_lt 0 n) [
   | inr none ↦ let e : n ≡ 0 = omega arith in subst (λ (k : ℕ). number_of (decimal_word k) ≡ Some k) (sym e) refl
 ]
 
-word_from : (c : ℕ) (cs : List ℕ) (b : Bool) → (c == 48) ≡ b → list_all is_ascii_digit (c ∷ cs) ≡ true → (not b || length cs == 0) ≡ true → c ∷ cs ≡ decimal_word (digits_value 10 (c ∷ cs))
+word_from : (c : ℕ) (cs : List ℕ) (b : Bool) → (c == 48) ≡ b → list_all is_ascii_digit (c ∷ cs) ≡ true
+    → (not b || length cs == 0) ≡ true → c ∷ cs ≡ decimal_word (digits_value 10 (c ∷ cs))
 word_from c [] true is all first = let e : c ≡ 48 = eqb-true c 48 is in subst (λ (k : ℕ). k ∷ [] ≡ decimal_word (digits_value 10 (k ∷ []))) (sym e) refl
 word_from c (d ∷ ds) true is all first = let none : length (d ∷ ds) ≡ 0 = eqb-true (length (d ∷ ds)) 0 first in absurd (omega arith)
 word_from c cs false is all first =

@@ -1,5 +1,6 @@
 -- The files at the front of an input, and what stands behind them.
-use Rattle.std.proofs.Common.{◌≡◌, ℕ, zero, suc, ◌+◌, ◌<◌, ◌≤◌, List, [], ◌∷◌, ◌++◌, length, take, drop, ◌⊎◌, inl, inr, refl, ap, sym, subst, ◌∙◌, arith, append_assoc, length-append}
+use Rattle.std.proofs.Common.{◌≡◌, ℕ, zero, suc, ◌+◌, ◌<◌, ◌≤◌, List, [], ◌∷◌, ◌++◌, length, take, drop, ◌⊎◌, inl}
+use Rattle.std.proofs.Common.{inr, refl, ap, sym, subst, ◌∙◌, arith, append_assoc, length-append}
 use Rattle.std.specs.Prelude.{All, codes}
 use Rattle.std.specs.List.{flat_map, AllByRecursion}
 use Rattle.std.proofs.lemmas.Bool.{cases_lt}
@@ -180,7 +181,8 @@ never_both input files k s (Faults.no_line_feed e n) = none_unended input files 
 
 behind_once : (input : List ℕ) (k j : ℕ) → BreaksBehind input k → BreaksBehind input j → k ≡ j
 behind_once input k j a b =
-    let same = (front_once input a.files b.files a.rest b.rest (are_words a.files a.words) (are_words b.files b.words) (no_further a.files a.rest a.ends) (no_further b.files b.rest b.ends) a.text b.text).0 in
+    let same = (front_once input a.files b.files a.rest b.rest (are_words a.files a.words) (are_words b.files b.words)
+    (no_further a.files a.rest a.ends) (no_further b.files b.rest b.ends) a.text b.text).0 in
     a.number ∙ ap (λ (fs : List File). length fs + 1) same ∙ sym b.number
 
 pub breaks_once : (input : List ℕ) (k j : ℕ) → IsBundleFault input k → IsBundleFault input j → k ≡ j
@@ -201,7 +203,8 @@ ended : (input : List ℕ) (files : List File) → input ≡ bundle_text files +
 ended input [] e w few = break_at input [] [] e w (no_file refl refl)
 ended input (f ∷ fs) e w few = inl (f ∷ fs, record { text = e ∙ append-nil (bundle_text (f ∷ fs)); words = all_words (f ∷ fs) w; some = omega arith; few = few })
 
-go_on : (left : ℕ) (input : List ℕ) (files : List File) (rest : List ℕ) → left + length files ≡ 64 → input ≡ bundle_text files ++ rest → AreWords files → SpelledOrBroken input
+go_on : (left : ℕ) (input : List ℕ) (files : List File) (rest : List ℕ) → left + length files ≡ 64
+    → input ≡ bundle_text files ++ rest → AreWords files → SpelledOrBroken input
 go_on left input files [] n e w = ended input files e w (omega (arith, n))
 go_on zero input files (c ∷ cs) n e w = break_at input files (c ∷ cs) e w (too_many (omega (arith, n)) (λ d. cc))
 go_on (suc left) input files (c ∷ cs) n e w = elim (header_or_none (c ∷ cs)) [

@@ -1,5 +1,6 @@
 -- Header lines at the front of bytes.
-use Rattle.std.proofs.Common.{◌≡◌, ◌≢◌, ℕ, ◌==◌, Bool, true, false, List, [], ◌∷◌, ◌++◌, length, take, drop, codes, Option, Some, None, ◌⊎◌, inl, inr, refl, ap, sym, subst, ◌∙◌, arith, append_assoc}
+use Rattle.std.proofs.Common.{◌≡◌, ◌≢◌, ℕ, ◌==◌, Bool, true, false, List, [], ◌∷◌, ◌++◌, length, take, drop, codes}
+use Rattle.std.proofs.Common.{Option, Some, None, ◌⊎◌, inl, inr, refl, ap, sym, subst, ◌∙◌, arith, append_assoc}
 use Rattle.std.specs.Prelude.{option_map}
 use Rattle.std.specs.List.{AllByRecursion}
 use Rattle.std.specs.Cmp.Lexicographic.{pointwise}
@@ -41,7 +42,11 @@ words_lack : (path : List ℕ) (size : ℕ) → IsWord path → Lacks 10 (words 
 words_lack path size w = Lacks-append 10 path (32 ∷ decimal_word size) (word_lacks path w).1 ((λ e. omega (arith, e)), decimal_word-lacks 10 size refl)
 
 line_lacks : (path : List ℕ) (size : ℕ) → IsWord path → Lacks 10 (codes "file " ++ words path size)
-line_lacks path size w = Lacks-append 10 (codes "file ") (words path size) ((λ e. omega (arith, e)), ((λ e. omega (arith, e)), ((λ e. omega (arith, e)), ((λ e. omega (arith, e)), ((λ e. omega (arith, e)), tt))))) (words_lack path size w)
+line_lacks path size w = Lacks-append 10 (codes "file ") (words path size) (
+  (λ e. omega (arith, e)),
+  ((λ e. omega (arith, e)), ((λ e. omega (arith, e)), ((λ e. omega (arith, e)), ((λ e. omega (arith, e)), tt)))),
+)
+    (words_lack path size w)
 
 -- bytes have one header line at their front at most
 pub header_once : (path other : List ℕ) (size count : ℕ) (rest more : List ℕ) → IsWord path → IsWord other
@@ -80,10 +85,12 @@ words_are bytes line behind found path size rest k is w e =
     cc (same)
 
 -- the parts of the words, and so a path and its size
-pub path_is : (found word digits path : List ℕ) (size : ℕ) → IsCut 32 found word digits → IsWord path → found ≡ words path size → (word ≡ path) × (digits ≡ decimal_word size)
+pub path_is : (found word digits path : List ℕ) (size : ℕ) → IsCut 32 found word digits → IsWord path
+    → found ≡ words path size → (word ≡ path) × (digits ≡ decimal_word size)
 path_is found word digits path size k w e = cut_once 32 word path digits (decimal_word size) k.lacks (word_lacks path w).0 (sym k.text_is ∙ e)
 
-pub header_from : (bytes line behind found word digits : List ℕ) (size : ℕ) → IsCut 10 bytes line behind → line ≡ codes "file " ++ found → IsCut 32 found word digits → word ≢ []
+pub header_from : (bytes line behind found word digits : List ℕ) (size : ℕ) → IsCut 10 bytes line behind
+    → line ≡ codes "file " ++ found → IsCut 32 found word digits → word ≢ []
     → number_of digits ≡ Some size → IsWord word × (bytes ≡ header_line word size ++ behind)
 header_from bytes line behind found word digits size k is j some number =
     let digits_are : digits ≡ decimal_word size = decimal_word-from digits size number in
@@ -107,11 +114,13 @@ pub none_without_space : (bytes line behind found : List ℕ) → IsCut 10 bytes
 none_without_space bytes line behind found k is none path size rest w e =
     cut_nowhere 32 found path (decimal_word size) none (words_are bytes line behind found path size rest k is w e)
 
-pub none_without_path : (bytes line behind found word digits : List ℕ) → IsCut 10 bytes line behind → line ≡ codes "file " ++ found → IsCut 32 found word digits → word ≡ [] → HasNoHeader bytes
+pub none_without_path : (bytes line behind found word digits : List ℕ) → IsCut 10 bytes line behind
+    → line ≡ codes "file " ++ found → IsCut 32 found word digits → word ≡ [] → HasNoHeader bytes
 none_without_path bytes line behind found word digits k is j none path size rest w e =
     w.some (sym (path_is found word digits path size j w (words_are bytes line behind found path size rest k is w e)).0 ∙ none)
 
-pub none_without_number : (bytes line behind found word digits : List ℕ) → IsCut 10 bytes line behind → line ≡ codes "file " ++ found → IsCut 32 found word digits → number_of digits ≡ None → HasNoHeader bytes
+pub none_without_number : (bytes line behind found word digits : List ℕ) → IsCut 10 bytes line behind
+    → line ≡ codes "file " ++ found → IsCut 32 found word digits → number_of digits ≡ None → HasNoHeader bytes
 none_without_number bytes line behind found word digits k is j none path size rest w e =
     let same = (path_is found word digits path size j w (words_are bytes line behind found path size rest k is w e)).1 in
     let read : Some size ≡ None = sym (number_of-decimal_word size) ∙ ap number_of (sym same) ∙ none in absurd cc
@@ -150,7 +159,9 @@ header_or_none bytes = elim (cut_or_not 10 bytes) [
   | inl cut ↦ in_line cut.0 cut.1 cut.2 (pointwise (λ a b. a == b) (codes "file ") (take (length (codes "file ")) cut.0)) refl
 ]
   where
-    in_line : (line behind : List ℕ) → IsCut 10 bytes line behind → (b : Bool) → b ≡ pointwise (λ a b. a == b) (codes "file ") (take (length (codes "file ")) line) → Header bytes ⊎ HasNoHeader bytes
+    in_line : (line behind : List ℕ) → IsCut 10 bytes line behind → (b : Bool)
+        → b ≡ pointwise (λ a b. a == b) (codes "file ") (take (length (codes "file ")) line)
+        → Header bytes ⊎ HasNoHeader bytes
     in_line line behind k true e = header_behind bytes line behind (drop (length (codes "file ")) line) k ((starts_is Decides-eqb line (codes "file ") true e).0 refl)
     in_line line behind k false e = inr (none_without_file bytes line behind k (λ found is. let yes = (starts_is Decides-eqb line (codes "file ") false e).1 found is in cc))
 
@@ -163,7 +174,8 @@ pub not_counted : (o : Option ℕ) → option_map in_64_bits o ≡ None → o �
 not_counted None e = refl
 not_counted (Some size) e = absurd cc
 
-pub header_found : (bytes line behind found word digits : List ℕ) (count : Decimal) → IsCut 10 bytes line behind → line ≡ codes "file " ++ found → IsCut 32 found word digits → word ≢ []
+pub header_found : (bytes line behind found word digits : List ℕ) (count : Decimal) → IsCut 10 bytes line behind
+    → line ≡ codes "file " ++ found → IsCut 32 found word digits → word ≢ []
     → option_map in_64_bits (number_of digits) ≡ Some count → HasHeader bytes word count behind
 header_found bytes line behind found word digits count k is j some e =
     let n = counted (number_of digits) count e in

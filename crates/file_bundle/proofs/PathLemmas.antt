@@ -1,5 +1,7 @@
 -- Paths that are right, and the first that is refused.
-use Rattle.std.proofs.Common.{◌≡◌, ◌≢◌, ℕ, zero, suc, ◌+◌, ◌-◌, ◌<◌, ◌||◌, Bool, true, false, List, [], ◌∷◌, ◌++◌, length, get_or, take, drop, ◌⊎◌, inl, inr, refl, ap, sym, subst, ◌∙◌, arith, append_assoc, length-append}
+use Rattle.std.proofs.Common.{◌≡◌, ◌≢◌, ℕ, zero, suc, ◌+◌, ◌-◌, ◌<◌, ◌||◌, Bool, true, false, List, [], ◌∷◌, ◌++◌}
+use Rattle.std.proofs.Common.{length, get_or, take, drop, ◌⊎◌, inl, inr, refl, ap, sym, subst, ◌∙◌, arith}
+use Rattle.std.proofs.Common.{append_assoc, length-append}
 use Rattle.std.specs.Prelude.{All, AllPairs, Contains, IsTrue, ◌↔◌}
 use Rattle.std.specs.List.{list_all, list_any}
 use Rattle.std.specs.Str.{bytes_eq}
@@ -23,15 +25,20 @@ right_push files f r is new =
     let paths : paths_of (files ++ f ∷ []) ≡ paths_of files ++ f.0 ∷ [] = map-append (λ (g : File). g.0) files (f ∷ []) in record {
       each = subst (All IsPath) (sym paths) (All-push IsPath (paths_of files) f.0 r.each is);
       distinct = subst (AllPairs (λ (path later : List ℕ). later ≢ path)) (sym paths)
-          (all_pairs_push (λ (path later : List ℕ). later ≢ path) (paths_of files) f.0 r.distinct (λ k d within same. new (k, within, get_or_default (paths_of files) k f.0 d within ∙ sym same)));
+          (all_pairs_push (λ (path later : List ℕ). later ≢ path) (paths_of files) f.0 r.distinct
+          (λ k d within same. new (k, within, get_or_default (paths_of files) k f.0 d within ∙ sym same)));
     }
 
 -- ---- a path that is refused isn't right
 
-refused_here : (before later : List (List ℕ)) (path : List ℕ) → All IsPath (before ++ path ∷ later) → AllPairs (λ (path later : List ℕ). later ≢ path) (before ++ path ∷ later)
+refused_here : (before later : List (List ℕ)) (path : List ℕ) → All IsPath (before ++ path ∷ later)
+    → AllPairs (λ (path later : List ℕ). later ≢ path) (before ++ path ∷ later)
     → IsPath path × (Contains before path → ⊥)
 refused_here before later path each distinct =
-    let here : get_or (before ++ path ∷ later) (length before) path ≡ path = get_or-append_right before (path ∷ later) (length before) (length before) path refl (omega arith) ∙ ap (λ (i : ℕ). get_or (path ∷ later) i path) (let none : length before - length before ≡ 0 = omega arith in none) in
+    let here : get_or (before ++ path ∷ later) (length before) path ≡ path =
+    get_or-append_right before (path ∷ later) (length before) (length before) path refl (omega arith)
+    ∙ ap (λ (i : ℕ). get_or (path ∷ later) i path) (let none : length before - length before ≡ 0 = omega arith in
+    none) in
     let within : length before < length (before ++ path ∷ later) = omega (arith, length-append before (path ∷ later)) in (
       subst IsPath here (each (length before) path within),
       λ c. distinct c.0 (length before) path c.1 within (here ∙ sym (get_or_append_left before (path ∷ later) path c.0 c.1 ∙ c.2)),
@@ -99,11 +106,14 @@ pub path_or_not : (path : List ℕ) → IsPath path ⊎ (IsPath path → ⊥)
 path_or_not path = form_or_not path (list_all is_path_byte path) refl
 
 -- a test of each path finds the one that stands there
-pub found_or_not : (paths : List (List ℕ)) (path : List ℕ) → (list_any (λ p. bytes_eq p path) paths ≡ true → Contains paths path) × (Contains paths path → list_any (λ p. bytes_eq p path) paths ≡ true)
+pub found_or_not : (paths : List (List ℕ)) (path : List ℕ)
+    → (list_any (λ p. bytes_eq p path) paths ≡ true → Contains paths path) × (Contains paths path
+    → list_any (λ p. bytes_eq p path) paths ≡ true)
 found_or_not [] path = (λ e. absurd cc, λ c. absurd (omega (arith, c.1)))
 found_or_not (p ∷ ps) path = in_cases (bytes_eq p path) refl (found_or_not ps path)
   where
-    in_cases : (b : Bool) → bytes_eq p path ≡ b → (list_any (λ p. bytes_eq p path) ps ≡ true → Contains ps path) × (Contains ps path → list_any (λ p. bytes_eq p path) ps ≡ true)
+    in_cases : (b : Bool) → bytes_eq p path ≡ b → (list_any (λ p. bytes_eq p path) ps ≡ true → Contains ps path)
+        × (Contains ps path → list_any (λ p. bytes_eq p path) ps ≡ true)
         → ((b || list_any (λ p. bytes_eq p path) ps) ≡ true → Contains (p ∷ ps) path) × (Contains (p ∷ ps) path → (b || list_any (λ p. bytes_eq p path) ps) ≡ true)
     in_cases true e rest = (λ _. (0, omega arith, (bytes_eq-Decides p path).0 e), λ _. refl)
     in_cases false e rest = (λ found. let c = rest.0 found in (suc c.0, omega (arith, c.1), c.2), there)
@@ -143,10 +153,13 @@ any_path (p ∷ ps) path = ap (λ (b : Bool). bytes_eq p.path.now path || b) (an
 parted : (ps : List Packed) (i : ℕ) (d : Packed) → i < length ps → files_of ps ≡ files_of (take i ps) ++ file_of (get_or ps i d) ∷ files_of (drop (i + 1) ps)
 parted ps i d within =
     let whole : take i ps ++ get_or ps i d ∷ drop (i + 1) ps ≡ ps =
-    sym (append_assoc (take i ps) (get_or ps i d ∷ []) (drop (i + 1) ps)) ∙ ap (λ (t : List Packed). t ++ drop (i + 1) ps) (sym (take_more ps i d within)) ∙ take-append-drop (i + 1) ps in
+    sym (append_assoc (take i ps) (get_or ps i d ∷ []) (drop (i + 1) ps))
+    ∙ ap (λ (t : List Packed). t ++ drop (i + 1) ps) (sym (take_more ps i d within))
+    ∙ take-append-drop (i + 1) ps in
     ap files_of (sym whole) ∙ map-append file_of (take i ps) (get_or ps i d ∷ drop (i + 1) ps)
 
-refused_first : (ps : List Packed) (i : ℕ) (d : Packed) → i < length ps → HaveRightPaths (files_of (take i ps)) → IsRefused (files_of (take i ps)) (get_or ps i d).path.now → IsFirstRefused (files_of ps) i
+refused_first : (ps : List Packed) (i : ℕ) (d : Packed) → i < length ps → HaveRightPaths (files_of (take i ps))
+    → IsRefused (files_of (take i ps)) (get_or ps i d).path.now → IsFirstRefused (files_of ps) i
 refused_first ps i d within right refused = record {
   before = files_of (take i ps);
   file = file_of (get_or ps i d);
@@ -157,18 +170,24 @@ refused_first ps i d within right refused = record {
   number = let long : length (files_of (take i ps)) ≡ i = length-map (take i ps) file_of ∙ length-take-le i ps (omega (arith, within)) in omega (arith, long);
 }
 
-pub no_path_first : (ps : List Packed) (i : ℕ) (d : Packed) (r : Bool) → i < length ps → HaveRightPaths (files_of (take i ps)) → (IsTrue r ↔ IsPath (get_or ps i d).path.now) → r ≡ false → IsFirstRefused (files_of ps) i
+pub no_path_first : (ps : List Packed) (i : ℕ) (d : Packed) (r : Bool) → i < length ps
+    → HaveRightPaths (files_of (take i ps)) → (IsTrue r ↔ IsPath (get_or ps i d).path.now) → r ≡ false
+    → IsFirstRefused (files_of ps) i
 no_path_first ps i d r within right tells is = refused_first ps i d within right (no_path (λ p. let yes : r ≡ true = tells.1 p in cc))
 
-pub second_first : (ps : List Packed) (i : ℕ) (d : Packed) → i < length ps → HaveRightPaths (files_of (take i ps)) → true ≡ list_any (λ f. bytes_eq f.path.now (get_or ps i d).path.now) (take i ps)
+pub second_first : (ps : List Packed) (i : ℕ) (d : Packed) → i < length ps → HaveRightPaths (files_of (take i ps))
+    → true ≡ list_any (λ f. bytes_eq f.path.now (get_or ps i d).path.now) (take i ps)
     → IsFirstRefused (files_of ps) i
 second_first ps i d within right found =
-    refused_first ps i d within right (second ((found_or_not (paths_of (files_of (take i ps))) (get_or ps i d).path.now).0 (sym (any_path (take i ps) (get_or ps i d).path.now) ∙ sym found)))
+    refused_first ps i d within right
+    (second ((found_or_not (paths_of (files_of (take i ps))) (get_or ps i d).path.now).0
+    (sym (any_path (take i ps) (get_or ps i d).path.now) ∙ sym found)))
 
 pub right_more : (ps : List Packed) (i : ℕ) (d : Packed) → i < length ps → HaveRightPaths (files_of (take i ps)) → IsPath (get_or ps i d).path.now
     → false ≡ list_any (λ f. bytes_eq f.path.now (get_or ps i d).path.now) (take i ps) → HaveRightPaths (files_of (take (i + 1) ps))
 right_more ps i d within right is none =
-    let files : files_of (take (i + 1) ps) ≡ files_of (take i ps) ++ file_of (get_or ps i d) ∷ [] = ap files_of (take_more ps i d within) ∙ map-append file_of (take i ps) (get_or ps i d ∷ []) in
+    let files : files_of (take (i + 1) ps) ≡ files_of (take i ps) ++ file_of (get_or ps i d) ∷ [] =
+    ap files_of (take_more ps i d within) ∙ map-append file_of (take i ps) (get_or ps i d ∷ []) in
     subst HaveRightPaths (sym files)
     (right_push (files_of (take i ps)) (file_of (get_or ps i d)) right is
     (λ c. let yes = (found_or_not (paths_of (files_of (take i ps))) (get_or ps i d).path.now).1 c in let no = any_path (take i ps) (get_or ps i d).path.now in cc))

@@ -19,7 +19,8 @@ pub record StandInFront (input : List ℕ) (files : List File) (rest : List ℕ)
 pub length-files : (packed : List Packed) → length (files_of packed) ≡ length packed
 length-files packed = length-map packed file_of
 
-breaks : (input : List ℕ) (packed : List Packed) (rest : List ℕ) (n : ℕ) → StandInFront input (files_of packed) rest → BreaksOff (files_of packed) rest → n ≡ length packed → IsBundleFault input (n + 1)
+breaks : (input : List ℕ) (packed : List Packed) (rest : List ℕ) (n : ℕ) → StandInFront input (files_of packed) rest
+    → BreaksOff (files_of packed) rest → n ≡ length packed → IsBundleFault input (n + 1)
 breaks input packed rest n s ends is = breaks_off (record {
   files = files_of packed;
   rest = rest;
@@ -29,10 +30,13 @@ breaks input packed rest n s ends is = breaks_off (record {
   number = ap (λ (k : ℕ). k + 1) (is ∙ sym (length-files packed));
 })
 
-pub breaks_full : (input : List ℕ) (packed : List Packed) (rest : List ℕ) (n : ℕ) → StandInFront input (files_of packed) rest → rest ≢ [] → n ≡ length packed → n ≡ 64 → IsBundleFault input (n + 1)
+pub breaks_full : (input : List ℕ) (packed : List Packed) (rest : List ℕ) (n : ℕ)
+    → StandInFront input (files_of packed) rest → rest ≢ [] → n ≡ length packed → n ≡ 64 → IsBundleFault input (n + 1)
 breaks_full input packed rest n s some is all = breaks input packed rest n s (too_many (length-files packed ∙ sym is ∙ all) some) is
 
-pub breaks_here : (input : List ℕ) (packed : List Packed) (rest : List ℕ) (n : ℕ) → StandInFront input (files_of packed) rest → rest ≢ [] → HasNoFile rest → n ≡ length packed → n ≢ 64 → IsBundleFault input (n + 1)
+pub breaks_here : (input : List ℕ) (packed : List Packed) (rest : List ℕ) (n : ℕ)
+    → StandInFront input (files_of packed) rest → rest ≢ [] → HasNoFile rest → n ≡ length packed → n ≢ 64
+    → IsBundleFault input (n + 1)
 breaks_here input packed rest n s some none is other =
     let fewer : length (files_of packed) < 64 = omega (arith, s.few, length-files packed, is, other) in
     elim none [

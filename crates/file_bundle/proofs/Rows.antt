@@ -132,14 +132,43 @@ first_at_fault : (rest : List ℕ) → rest ≢ [] → HasNoHeader rest → IsBu
 first_at_fault rest some none = breaks_off (record { files = []; rest = rest; text = refl; words = All-nil IsWord; ends = no_header (omega arith) some none; number = refl })
 
 lacks_10_in_a : Lacks 10 (codes "file a ")
-lacks_10_in_a =
-    ((λ e. omega (arith, e)), ((λ e. omega (arith, e)), ((λ e. omega (arith, e)), ((λ e. omega (arith, e)), ((λ e. omega (arith, e)), ((λ e. omega (arith, e)), ((λ e. omega (arith, e)), tt)))))))
+lacks_10_in_a = (
+  (λ e. omega (arith, e)),
+  (
+    (λ e. omega (arith, e)),
+    (
+      (λ e. omega (arith, e)),
+      (
+        (λ e. omega (arith, e)),
+        ((λ e. omega (arith, e)), ((λ e. omega (arith, e)), ((λ e. omega (arith, e)), tt))),
+      ),
+    ),
+  ),
+)
 
 -- its number has a leading zero
 two_zeros : IsBundleFault (codes "mrpc-files 1\nfile a 00\n") 1
 two_zeros =
     let line : IsCut 10 (codes "file a 00\n") (codes "file a 00") [] = record {
-      lacks = ((λ e. omega (arith, e)), ((λ e. omega (arith, e)), ((λ e. omega (arith, e)), ((λ e. omega (arith, e)), ((λ e. omega (arith, e)), ((λ e. omega (arith, e)), ((λ e. omega (arith, e)), ((λ e. omega (arith, e)), ((λ e. omega (arith, e)), tt)))))))));
+      lacks = (
+        (λ e. omega (arith, e)),
+        (
+          (λ e. omega (arith, e)),
+          (
+            (λ e. omega (arith, e)),
+            (
+              (λ e. omega (arith, e)),
+              (
+                (λ e. omega (arith, e)),
+                (
+                  (λ e. omega (arith, e)),
+                  ((λ e. omega (arith, e)), ((λ e. omega (arith, e)), ((λ e. omega (arith, e)), tt))),
+                ),
+              ),
+            ),
+          ),
+        ),
+      );
       text_is = refl;
     } in
     let words : IsCut 32 (codes "a 00") (codes "a") (codes "00") = record { lacks = ((λ e. omega (arith, e)), tt); text_is = refl } in
@@ -149,7 +178,19 @@ two_zeros =
 empty_path : IsBundleFault (codes "mrpc-files 1\nfile  0\n") 1
 empty_path =
     let line : IsCut 10 (codes "file  0\n") (codes "file  0") [] = record {
-      lacks = ((λ e. omega (arith, e)), ((λ e. omega (arith, e)), ((λ e. omega (arith, e)), ((λ e. omega (arith, e)), ((λ e. omega (arith, e)), ((λ e. omega (arith, e)), ((λ e. omega (arith, e)), tt)))))));
+      lacks = (
+        (λ e. omega (arith, e)),
+        (
+          (λ e. omega (arith, e)),
+          (
+            (λ e. omega (arith, e)),
+            (
+              (λ e. omega (arith, e)),
+              ((λ e. omega (arith, e)), ((λ e. omega (arith, e)), ((λ e. omega (arith, e)), tt))),
+            ),
+          ),
+        ),
+      );
       text_is = refl;
     } in
     let words : IsCut 32 (codes " 0") [] (codes "0") = record { lacks = tt; text_is = refl } in
@@ -159,8 +200,22 @@ empty_path =
 feed_lacks : IsBundleFault (codes "mrpc-files 1\nfile a 0") 1
 feed_lacks =
     first_at_fault (codes "file a 0") (λ e. cc)
-    (none_without_feed (codes "file a 0")
-    ((λ e. omega (arith, e)), ((λ e. omega (arith, e)), ((λ e. omega (arith, e)), ((λ e. omega (arith, e)), ((λ e. omega (arith, e)), ((λ e. omega (arith, e)), ((λ e. omega (arith, e)), ((λ e. omega (arith, e)), tt)))))))))
+    (none_without_feed (codes "file a 0") (
+      (λ e. omega (arith, e)),
+      (
+        (λ e. omega (arith, e)),
+        (
+          (λ e. omega (arith, e)),
+          (
+            (λ e. omega (arith, e)),
+            (
+              (λ e. omega (arith, e)),
+              ((λ e. omega (arith, e)), ((λ e. omega (arith, e)), ((λ e. omega (arith, e)), tt))),
+            ),
+          ),
+        ),
+      ),
+    ))
 
 -- it has two words
 no_number : IsBundleFault (codes "mrpc-files 1\nfile a\n") 1

@@ -1,4 +1,4 @@
--- What the parts of the reader find: a header line and a file at the front of bytes.
+-- The code's own: what the parts of the reader find: a header line and a file at the front of bytes.
 use Rattle.std.specs.Prelude.{◌≡◌, ◌⊎◌, ℕ, List, ◌++◌}
 use Rattle.mrpc_table.specs.Lines.{in_64_bits}
 use Rattle.mrpc_table.specs.declared.words.Decimal.{Decimal}

@@ -9,10 +9,10 @@ ghost use Rattle.file_bundle.specs.Parts.{HasHeader, HasFile, HasNoFile};
 use crate::packed::Packed;
 use mrpc_table::{Decimal, cut, number_of};
 
-/// What a header line begins with.
+// What a header line begins with.
 const FILE: &[u8] = b"file ";
 
-/// A header line where it stands, and what stands behind it.
+// A header line where it stands, and what stands behind it.
 #[derive(Clone, Copy)]
 struct Header<'a> {
     path: &'a [u8],
@@ -50,7 +50,7 @@ fn first_header(bytes: &[u8]) -> Option<Header<'_>>
     Some(Header { path, size, behind })
 }
 
-/// The count as a number of bytes, where so many are there.
+// The count as a number of bytes, where so many are there.
 fn within(count: Decimal, bytes: usize) -> Option<usize>
     ensures { (n : ℕ) → count ≡ in_64_bits n → MatchOption result (bytes < n) (λ size. (size ≡ n) × (n ≤ bytes)) }
 {

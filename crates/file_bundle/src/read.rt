@@ -13,10 +13,10 @@ use crate::packed::Packed;
 use mrpc_table::MAX_FILES;
 use std::alloc::Global;
 
-/// The first line of a set of files.
+// The first line of a set of files.
 const FIRST_LINE: &[u8] = b"mrpc-files 1\n";
 
-/// The first line without its line feed.
+// The first line without its line feed.
 const UNENDED_LINE: &[u8] = b"mrpc-files 1";
 
 /// Whether an input is meant as a set of files: whether its first line is `mrpc-files 1`, with its line feed, or as all

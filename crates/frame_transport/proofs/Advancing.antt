@@ -1,5 +1,6 @@
 -- How what is kept goes on with what was found.
-use Rattle.std.proofs.Common.{◌≡◌, ℕ, ◌+◌, ◌-◌, min, is_some, if◌then◌else◌, List, [], ◌∷◌, ◌++◌, length, take, drop, Option, Some, None, refl, sym, ap, subst, ◌∙◌, arith, append_assoc}
+use Rattle.std.proofs.Common.{◌≡◌, ℕ, ◌+◌, ◌-◌, min, is_some, if◌then◌else◌, List, [], ◌∷◌, ◌++◌, length, take, drop}
+use Rattle.std.proofs.Common.{Option, Some, None, refl, sym, ap, subst, ◌∙◌, arith, append_assoc}
 use Rattle.std.proofs.lemmas.List.{take_all, take_min, drop_all, length-drop, take-append-drop}
 use Rattle.std.proofs.Math.Nat.{min_comm}
 use Rattle.std.proofs.Math.Seq.{take-append-add}
@@ -37,7 +38,8 @@ kept_clean : (fault : Option FeedFault) (left : List ℕ) (kept : ℕ) → kept 
 kept_clean None left kept e none = drop_all kept left (omega arith)
 kept_clean (Some fault) left kept e none = cc
 
-pub advanced : (end : ℕ) (begun piece : List ℕ) (old new : List Frame) (now_begun : List ℕ) (frames : List Frame) (place : ℕ) (left : List ℕ) (fault : Option FeedFault) (kept : ℕ)
+pub advanced : (end : ℕ) (begun piece : List ℕ) (old new : List Frame) (now_begun : List ℕ) (frames : List Frame)
+    (place : ℕ) (left : List ℕ) (fault : Option FeedFault) (kept : ℕ)
     → SplitsParts end begun piece frames place left fault → kept ≡ (if is_some fault then min (length left) 16 else length left)
     → new ≡ old ++ frames → now_begun ≡ begun_behind frames begun (take kept left)
     → Advances end begun piece old new now_begun (record { end = place; dropped = length left - kept; fault = fault })

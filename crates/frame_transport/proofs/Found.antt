@@ -1,5 +1,6 @@
 -- The frames found so far at the front of a stream in two parts.
-use Rattle.std.proofs.Common.{◌≡◌, ℕ, ◌+◌, ◌-◌, ◌≤◌, List, [], ◌∷◌, ◌++◌, length, drop, Option, refl, sym, ap, subst, ◌∙◌, arith, length-append, append_assoc}
+use Rattle.std.proofs.Common.{◌≡◌, ℕ, ◌+◌, ◌-◌, ◌≤◌, List, [], ◌∷◌, ◌++◌, length, drop, Option, refl, sym, ap, subst}
+use Rattle.std.proofs.Common.{◌∙◌, arith, length-append, append_assoc}
 use Rattle.std.specs.Prelude.{All}
 use Rattle.std.specs.List.{between}
 use Rattle.std.proofs.lemmas.Slice.{between_to_end}
@@ -51,7 +52,9 @@ found_more place begun piece frames end ahead left f nothing more found h none r
     let snoc : joined (frames ++ f ∷ []) ≡ joined frames ++ bytes_of f = joined-snoc frames f in
     let count : length more ≤ length left = omega (arith, ap length rest, length-drop (16 + length f.payload - length ahead) left) in
     record {
-      whole = found.whole ∙ ap (λ (bs : List ℕ). joined frames ++ bs) tail ∙ sym (append_assoc (joined frames) (bytes_of f) (nothing ++ more)) ∙ ap (λ (bs : List ℕ). bs ++ (nothing ++ more)) (sym snoc);
+      whole = found.whole ∙ ap (λ (bs : List ℕ). joined frames ++ bs) tail
+          ∙ sym (append_assoc (joined frames) (bytes_of f) (nothing ++ more))
+          ∙ ap (λ (bs : List ℕ). bs ++ (nothing ++ more)) (sym snoc);
       each = All-append IsFrame frames (f ∷ []) found.each (All-cons IsFrame f [] h.frame (All-nil IsFrame));
       places = StandFrom-append place frames (f ∷ []) found.places (h.stands ∙ found.ends, tt);
       ends = omega (arith, ap length snoc, length-append (joined frames) (bytes_of f), length-bytes_of f, found.ends);
@@ -76,7 +79,8 @@ pub found_total : (place : ℕ) (begun piece : List ℕ) (frames : List Frame) (
     → IsFound place begun piece frames end ahead left → end + (length ahead + length left) ≡ place + (length begun + length piece)
 found_total place begun piece frames end ahead left found =
     let whole : length begun + length piece ≡ length (joined frames) + (length ahead + length left) =
-    sym (length-append begun piece) ∙ ap length found.whole ∙ length-append (joined frames) (ahead ++ left) ∙ ap (λ (n : ℕ). length (joined frames) + n) (length-append ahead left) in
+    sym (length-append begun piece) ∙ ap length found.whole ∙ length-append (joined frames) (ahead ++ left)
+    ∙ ap (λ (n : ℕ). length (joined frames) + n) (length-append ahead left) in
     omega (arith, found.ends)
 
 -- the end

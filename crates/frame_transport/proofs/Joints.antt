@@ -24,7 +24,9 @@ drop-parts {X = X} n xs ys = elim (cases_lt (length xs) n) [
   | inl more ↦
       let sum : length xs + (n - length xs) ≡ n = omega arith in
       let none : drop n xs ≡ [] = drop_all n xs (omega arith) in
-      ap (λ (m : ℕ). drop m (xs ++ ys)) (sym sum) ∙ sym (drop-drop (n - length xs) (length xs) (xs ++ ys)) ∙ ap (drop (n - length xs)) (drop_at xs ys (length xs) refl) ∙ ap (λ (zs : List X). zs ++ drop (n - length xs) ys) (sym none)
+      ap (λ (m : ℕ). drop m (xs ++ ys)) (sym sum) ∙ sym (drop-drop (n - length xs) (length xs) (xs ++ ys))
+      ∙ ap (drop (n - length xs)) (drop_at xs ys (length xs) refl)
+      ∙ ap (λ (zs : List X). zs ++ drop (n - length xs) ys) (sym none)
   | inr less ↦
       let none : n - length xs ≡ 0 = omega arith in
       drop-append-le n xs ys less ∙ ap (λ (m : ℕ). drop n xs ++ drop m ys) (sym none)

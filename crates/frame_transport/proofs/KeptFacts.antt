@@ -1,5 +1,7 @@
 -- What a feed keeps as a part of the stream, and how it changes.
-use Rattle.std.proofs.Common.{◌≡◌, ℕ, ◌+◌, ◌<◌, ◌≤◌, ◌^◌, List, [], ◌∷◌, ◌++◌, length, Option, Some, None, IsSome, IfSome, IfNone, slice_get, slice_index_or, Bor, inl, inr, true, false, refl, sym, ap, subst, ◌∙◌, arith, length-append, append_assoc}
+use Rattle.std.proofs.Common.{◌≡◌, ℕ, ◌+◌, ◌<◌, ◌≤◌, ◌^◌, List, [], ◌∷◌, ◌++◌, length, Option, Some, None, IsSome}
+use Rattle.std.proofs.Common.{IfSome, IfNone, slice_get, slice_index_or, Bor, inl, inr, true, false, refl, sym, ap}
+use Rattle.std.proofs.Common.{subst, ◌∙◌, arith, length-append, append_assoc}
 use Rattle.std.specs.Prelude.{All}
 use Rattle.std.proofs.lemmas.Bool.{cases_lt}
 use Rattle.std.proofs.lemmas.Option.{slice_get_read, slice_get_past}
@@ -57,7 +59,9 @@ kept_advanced taken waiting end begun behind piece new now_begun a k room adv =
     let places : StandFrom end adv.frames = adv.splits.places in
     let all : length (joined new) ≡ length (joined waiting) + length (joined adv.frames) = ap (λ (fs : List Frame). length (joined fs)) adv.added ∙ length-joined waiting adv.frames in
     let whole : length begun + length piece ≡ length (joined adv.frames) + (length now_begun + length adv.dropped) =
-    sym (length-append begun piece) ∙ ap length adv.splits.whole ∙ length-append (joined adv.frames) (now_begun ++ adv.dropped) ∙ ap (λ (n : ℕ). length (joined adv.frames) + n) (length-append now_begun adv.dropped) in
+    sym (length-append begun piece) ∙ ap length adv.splits.whole ∙ length-append (joined adv.frames)
+    (now_begun ++ adv.dropped) ∙ ap (λ (n : ℕ). length (joined adv.frames) + n)
+    (length-append now_begun adv.dropped) in
     let before : length (joined waiting ++ begun) ≡ length (joined waiting) + length begun = length-append (joined waiting) begun in
     record {
       each = subst (All IsFrame) (sym adv.added) (All-append IsFrame waiting adv.frames k.each adv.splits.each);

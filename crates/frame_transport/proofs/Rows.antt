@@ -126,7 +126,8 @@ short = record {
 }
 
 -- a request of version 2 behind a whole frame
-version_behind : Ends 0 (0 ∷ 0 ∷ 0 ∷ 8 ∷ 1 ∷ 1 ∷ 0 ∷ 0 ∷ 0 ∷ 0 ∷ 0 ∷ 1 ∷ 0 ∷ 0 ∷ 0 ∷ 1 ∷ 50 ∷ 6 ∷ 3 ∷ 142 ∷ 2 ∷ 158 ∷ 167 ∷ 5 ∷ 0 ∷ 0 ∷ 0 ∷ 0 ∷ 1 ∷ 2 ∷ []) (Some (Version 29 2))
+version_behind : Ends 0 (0 ∷ 0 ∷ 0 ∷ 8 ∷ 1 ∷ 1 ∷ 0 ∷ 0 ∷ 0 ∷ 0 ∷ 0 ∷ 1 ∷ 0 ∷ 0 ∷ 0 ∷ 1 ∷ 50 ∷ 6 ∷ 3 ∷ 142 ∷ 2 ∷ 158
+    ∷ 167 ∷ 5 ∷ 0 ∷ 0 ∷ 0 ∷ 0 ∷ 1 ∷ 2 ∷ []) (Some (Version 29 2))
 unfolding first header_bytes length_in
 version_behind = record {
   frames = first ∷ [];

@@ -1,5 +1,7 @@
 -- A stream has one front: a whole frame, a fault or the beginning of a frame. So it splits in one way.
-use Rattle.std.proofs.Common.{◌≡◌, ℕ, ◌+◌, ◌<◌, ◌≤◌, ◌^◌, List, [], ◌∷◌, ◌++◌, length, take, drop, slice_index, Option, Some, None, ◌⊎◌, inl, inr, zero, suc, refl, sym, ap, subst, ◌∙◌, arith, length-append, append_assoc}
+use Rattle.std.proofs.Common.{◌≡◌, ℕ, ◌+◌, ◌<◌, ◌≤◌, ◌^◌, List, [], ◌∷◌, ◌++◌, length, take, drop, slice_index}
+use Rattle.std.proofs.Common.{Option, Some, None, ◌⊎◌, inl, inr, zero, suc, refl, sym, ap, subst, ◌∙◌, arith}
+use Rattle.std.proofs.Common.{length-append, append_assoc}
 use Rattle.std.proofs.lemmas.Bool.{cases_lt}
 use Rattle.std.proofs.lemmas.List.{take_at, drop_at, length-drop, length-take, take-append-drop, drop-drop}
 use Rattle.std.proofs.lemmas.List.Elements.{All-append, All-nil, All-cons, All-head, All-tail}
@@ -8,15 +10,23 @@ use Rattle.std.specs.Prelude.{All}
 use Rattle.byteorder.specs.Endian.{big_number}
 use Rattle.byteorder.specs.Numbers.{big_from-lt}
 use Rattle.frame_transport.specs.Bytes.{header_bytes}
-use Rattle.frame_transport.specs.Frames.{IsKind, HasVersion, IsFrame, bytes_of, joined, StandFrom, IsPartial, length_in, IsFaultAt, HasFault, Splits, Ends, AlwaysSplits, SplitsOnce, FaultStays, AlwaysEnds, StaysShort}
+use Rattle.frame_transport.specs.Frames.{IsKind, HasVersion, IsFrame, bytes_of, joined, StandFrom, IsPartial}
+use Rattle.frame_transport.specs.Frames.{length_in, IsFaultAt, HasFault, Splits, Ends, AlwaysSplits, SplitsOnce}
+use Rattle.frame_transport.specs.Frames.{FaultStays, AlwaysEnds, StaysShort}
 use Rattle.frame_transport.specs.declared.format.Frame.{Frame}
 use Rattle.frame_transport.specs.declared.fault.FeedFault.{FeedFault}
-use Rattle.frame_transport.proofs.HeaderBytes.{length-header_bytes, length_in-header, kind-header, version-header, method-header, conn-header, number-header, drop-header, AreBytes, AreBytes-drop, read_header}
+use Rattle.frame_transport.proofs.HeaderBytes.{length-header_bytes, length_in-header, kind-header, version-header}
+use Rattle.frame_transport.proofs.HeaderBytes.{method-header, conn-header, number-header, drop-header, AreBytes}
+use Rattle.frame_transport.proofs.HeaderBytes.{AreBytes-drop, read_header}
 use Rattle.frame_transport.proofs.FaultFacts.{none_of_fields, no_fault, fault-append, fault_or_none, one_or_none, has_at}
 
 pub length-bytes_of : (f : Frame) → length (bytes_of f) ≡ 16 + length f.payload
 length-bytes_of f =
-    omega (arith, length-append (header_bytes (length f.payload) f.kind f.version f.method f.conn f.number) f.payload, length-header_bytes (length f.payload) f.kind f.version f.method f.conn f.number)
+    omega (
+      arith,
+      length-append (header_bytes (length f.payload) f.kind f.version f.method f.conn f.number) f.payload,
+      length-header_bytes (length f.payload) f.kind f.version f.method f.conn f.number,
+    )
 
 -- a frame with more behind it is its header with the payload and more behind that
 in_front : (f : Frame) (more : List ℕ) → bytes_of f ++ more ≡ header_bytes (length f.payload) f.kind f.version f.method f.conn f.number ++ (f.payload ++ more)
@@ -35,13 +45,16 @@ version-frame : (f : Frame) (more : List ℕ) → slice_index (bytes_of f ++ mor
 version-frame f more = ap (λ (bs : List ℕ). slice_index bs 5) (in_front f more) ∙ version-header (length f.payload) f.kind f.version f.method f.conn f.number (f.payload ++ more)
 
 method-frame : (f : Frame) (more : List ℕ) → IsFrame f → big_number 2 (drop 6 (bytes_of f ++ more)) ≡ f.method
-method-frame f more h = ap (λ (bs : List ℕ). big_number 2 (drop 6 bs)) (in_front f more) ∙ method-header (length f.payload) f.kind f.version f.method f.conn f.number (f.payload ++ more) h.method
+method-frame f more h = ap (λ (bs : List ℕ). big_number 2 (drop 6 bs)) (in_front f more)
+    ∙ method-header (length f.payload) f.kind f.version f.method f.conn f.number (f.payload ++ more) h.method
 
 conn-frame : (f : Frame) (more : List ℕ) → IsFrame f → big_number 4 (drop 8 (bytes_of f ++ more)) ≡ f.conn
-conn-frame f more h = ap (λ (bs : List ℕ). big_number 4 (drop 8 bs)) (in_front f more) ∙ conn-header (length f.payload) f.kind f.version f.method f.conn f.number (f.payload ++ more) h.conn
+conn-frame f more h = ap (λ (bs : List ℕ). big_number 4 (drop 8 bs)) (in_front f more)
+    ∙ conn-header (length f.payload) f.kind f.version f.method f.conn f.number (f.payload ++ more) h.conn
 
 number-frame : (f : Frame) (more : List ℕ) → IsFrame f → big_number 4 (drop 12 (bytes_of f ++ more)) ≡ f.number
-number-frame f more h = ap (λ (bs : List ℕ). big_number 4 (drop 12 bs)) (in_front f more) ∙ number-header (length f.payload) f.kind f.version f.method f.conn f.number (f.payload ++ more) h.number
+number-frame f more h = ap (λ (bs : List ℕ). big_number 4 (drop 12 bs)) (in_front f more)
+    ∙ number-header (length f.payload) f.kind f.version f.method f.conn f.number (f.payload ++ more) h.number
 
 drop-frame : (f : Frame) (more : List ℕ) → drop 16 (bytes_of f ++ more) ≡ f.payload ++ more
 drop-frame f more = ap (drop 16) (in_front f more) ∙ drop-header (length f.payload) f.kind f.version f.method f.conn f.number (f.payload ++ more)
@@ -52,7 +65,9 @@ none_in_frame place f more h =
     let size = length_in-frame f more h in
     let kind : slice_index (bytes_of f ++ more) 4 ≡ f.kind = kind-frame f more in
     let version : slice_index (bytes_of f ++ more) 5 ≡ f.version = version-frame f more in
-    none_of_fields place (bytes_of f ++ more) (omega (arith, h.short)) (subst IsKind (sym kind) h.kind) (subst (HasVersion (slice_index (bytes_of f ++ more) 4)) (sym version) (subst (λ (n : ℕ). HasVersion n f.version) (sym kind) h.version))
+    none_of_fields place (bytes_of f ++ more) (omega (arith, h.short)) (subst IsKind (sym kind) h.kind)
+    (subst (HasVersion (slice_index (bytes_of f ++ more) 4)) (sym version)
+    (subst (λ (n : ℕ). HasVersion n f.version) (sym kind) h.version))
 
 -- fewer bytes than the length in front of them asks for
 pub partial_of_short : (bs : List ℕ) → length bs < 16 + length_in bs → IsPartial bs

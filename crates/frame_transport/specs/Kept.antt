@@ -1,4 +1,4 @@
--- What a feed keeps.
+-- The code's own: what a feed keeps.
 use Rattle.std.specs.Prelude.{◌≡◌, ℕ, ◌+◌, ◌<◌, ◌^◌, List, length, All}
 use Rattle.frame_transport.specs.Frames.{IsFrame, joined, StandFrom, IsPartial}
 use Rattle.frame_transport.specs.declared.format.Frame.{Frame}

@@ -49,8 +49,8 @@ pub(crate) fn go_on(
     })
 }
 
-/// Adds the frames to those that wait, and the bytes behind them to the frame that has begun,
-/// which is another one where there are frames.
+// Adds the frames to those that wait, and the bytes behind them to the frame that has begun,
+// which is another one where there are frames.
 fn keep(
     alloc: Global,
     waiting: &mut VecDeque<Frame>,
@@ -73,8 +73,8 @@ fn keep(
     Ok(())
 }
 
-/// How many of the bytes behind the last whole frame are kept: all of them, or up to their fault
-/// and further by less than a header.
+// How many of the bytes behind the last whole frame are kept: all of them, or up to their fault
+// and further by less than a header.
 fn kept_len(fault: Option<FeedFault>, left: usize) -> usize
     ensures { result ≡ (if is_some fault then min left HEADER_LEN else left) }
 {

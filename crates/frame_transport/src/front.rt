@@ -49,7 +49,7 @@ pub(crate) fn front_of(
     }))
 }
 
-/// The payload of this length of the frame that `begun` begins and `piece` ends.
+// The payload of this length of the frame that `begun` begins and `piece` ends.
 fn payload_of(alloc: Global, begun: &[u8], piece: &[u8], size: usize) -> Result<Bytes, Memory>
     requires short { size ≤ MAX_PAYLOAD }
     requires begun { length begun.now < HEADER_LEN + size }

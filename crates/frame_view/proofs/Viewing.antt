@@ -21,7 +21,8 @@ on_fault P Q (At place word) then h = then place word.now h
 on_fault P Q Memory then h = tt
 
 -- and holds of why no more frames are shown
-pub if_stop : (P Q : ℕ → List ℕ → Type 0) (r : Result (Unit {0}) Stop) → ((place : ℕ) (word : List ℕ) → P place word → Q place word) → IfErr r (OnStop P) → IfErr r (OnStop Q)
+pub if_stop : (P Q : ℕ → List ℕ → Type 0) (r : Result (Unit {0}) Stop)
+    → ((place : ℕ) (word : List ℕ) → P place word → Q place word) → IfErr r (OnStop P) → IfErr r (OnStop Q)
 if_stop P Q (Ok done) then h = tt
 if_stop P Q (Err (Read fault)) then h = on_fault P Q fault then h
 if_stop P Q (Err Out) then h = tt
@@ -44,11 +45,13 @@ pub record WalkLaw : Type 0 where
 pub shows_nothing : WalkLaw → (T : Table) (stream : List ℕ) (from : ℕ) → Shows T stream from from []
 shows_nothing law T stream from = record { frames = []; stands = law.none stream from; views = refl }
 
-pub shows_one : WalkLaw → (T : Table) (stream : List ℕ) (from to : ℕ) (text : List ℕ) (f : Frame) → StandsAt from (drop from stream) f → IsViewOf T f text → to ≡ from + (16 + length f.payload)
+pub shows_one : WalkLaw → (T : Table) (stream : List ℕ) (from to : ℕ) (text : List ℕ) (f : Frame)
+    → StandsAt from (drop from stream) f → IsViewOf T f text → to ≡ from + (16 + length f.payload)
     → Shows T stream from to text
 shows_one law T stream from to text f h view behind = record { frames = f ∷ []; stands = law.one stream from to f h behind; views = view_alone T f text view }
 
-pub shows_more : WalkLaw → (T : Table) (stream : List ℕ) (from mid to : ℕ) (text more : List ℕ) → Shows T stream from mid text → Shows T stream mid to more → Shows T stream from to (text ++ more)
+pub shows_more : WalkLaw → (T : Table) (stream : List ℕ) (from mid to : ℕ) (text more : List ℕ)
+    → Shows T stream from mid text → Shows T stream mid to more → Shows T stream from to (text ++ more)
 shows_more law T stream from mid to text more x y = record {
   frames = x.frames ++ y.frames;
   stands = law.more stream from mid to x.frames y.frames x.stands y.stands;

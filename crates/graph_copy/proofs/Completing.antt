@@ -95,13 +95,16 @@ stopped_at T H msg address limit own reason offence full lies least (at_limit e 
     let told = subst (λ r. IsMalformed T H msg address limit (l.front ++ l.last ∷ []) r l.last.0 l.last.1) (sym is) fault in
     record { front = l.front; last = l.last; is = l.is; malformed = subst (λ xs. IsMalformed T H msg address limit xs reason l.last.0 l.last.1) (sym l.is) told }
 
-pub stopped : (T : Table) (H msg address limit size : ℕ) (es : Expected) (own : List (ℕ × ℕ)) (reason : Reason) → OffenceLaw → LimitLaw → size ≡ H → es ≡ node_words T msg 1 address → LiesIn H address (size_words T msg) → 1 ≤ limit
+pub stopped : (T : Table) (H msg address limit size : ℕ) (es : Expected) (own : List (ℕ × ℕ)) (reason : Reason)
+    → OffenceLaw → LimitLaw → size ≡ H → es ≡ node_words T msg 1 address → LiesIn H address (size_words T msg)
+    → 1 ≤ limit
     → Stops T size limit es own reason → Stopped T H msg address limit own reason
 stopped T H msg address limit size es own reason offence full same words lies least stops =
     let here = subst (λ h. Stops T h limit es own reason) same stops in
     stopped_at T H msg address limit own reason offence full lies least (subst (λ ws. Stops T H limit ws own reason) words here)
 
-pub copied : (T : Table) (H msg address size : ℕ) (es : Expected) (own taken : List (ℕ × ℕ)) (t : Node) → size ≡ H → es ≡ node_words T msg 1 address → LiesIn H address (size_words T msg)
+pub copied : (T : Table) (H msg address size : ℕ) (es : Expected) (own taken : List (ℕ × ℕ)) (t : Node) → size ≡ H
+    → es ≡ node_words T msg 1 address → LiesIn H address (size_words T msg)
     → LeadsTo T size es own [] → taken ≡ own
     → ((H address : ℕ) (P : Placed) → AreSound T H (node_words T msg 1 address) P → taken ≡ loads P → t ≡ tree_of T msg P)
     → IsCopied T H msg address own t

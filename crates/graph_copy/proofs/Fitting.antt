@@ -1,5 +1,6 @@
 -- What stands behind a word that is fine lies in the heap.
-use Rattle.std.proofs.Common.{◌≡◌, ◌≢◌, ℕ, zero, suc, ◌+◌, ◌-◌, ◌*◌, ◌<◌, ◌≤◌, List, [], ◌∷◌, ◌++◌, length, Bool, true, false, refl, sym, subst, arith, ◌==◌, cond, inl, inr}
+use Rattle.std.proofs.Common.{◌≡◌, ◌≢◌, ℕ, zero, suc, ◌+◌, ◌-◌, ◌*◌, ◌<◌, ◌≤◌, List, [], ◌∷◌, ◌++◌, length, Bool}
+use Rattle.std.proofs.Common.{true, false, refl, sym, subst, arith, ◌==◌, cond, inl, inr}
 use Rattle.std.specs.Prelude.{nat_le}
 use Rattle.std.proofs.lemmas.Bool.{eqb-false}
 use Rattle.std.proofs.lemmas.Bool.Decides.{leb_tells}
@@ -11,7 +12,11 @@ use Rattle.mrpc_table.specs.declared.table.Label.TheVariants.{Optional, Repeated
 use Rattle.mrpc_table.specs.declared.table.Field.{Field}
 use Rattle.mrpc_table.specs.declared.table.Table.{Table}
 use Rattle.graph_form.specs.declared.reason.Reason.TheVariants.{Address}
-use Rattle.graph_form.specs.Roles.{Role as Use, value, presence, run_length, run_presence, run_address, run_word, link, count, elements_address, entry_count, entries_address, case_word, Expected, behind, plain_role, optional_role, slot_role, slots_from, cases_from, elements_from, entries_from, node_words, own_slots, oneofs_of, size_words, element_words, run_words, word_bytes}
+use Rattle.graph_form.specs.Roles.{Role as Use, value, presence, run_length, run_presence, run_address, run_word}
+use Rattle.graph_form.specs.Roles.{link, count, elements_address, entry_count, entries_address, case_word, Expected}
+use Rattle.graph_form.specs.Roles.{behind, plain_role, optional_role, slot_role, slots_from, cases_from}
+use Rattle.graph_form.specs.Roles.{elements_from, entries_from, node_words, own_slots, oneofs_of, size_words}
+use Rattle.graph_form.specs.Roles.{element_words, run_words, word_bytes}
 use Rattle.graph_form.specs.Placed.{LiesIn, IsFine}
 use Rattle.graph_copy.specs.Expects.{words_from, IsSome, Fits, AllFit}
 
@@ -94,7 +99,8 @@ entries_fit H (suc n) key k depth at le = (
 
 unless_zero : (H v : ℕ) (es : Expected) → (v ≢ 0 → AllFit H es) → AllFit H (cond (v == 0) [] es)
 unless_zero H v es h =
-    let given : (b : Bool) → (v == 0) ≡ b → AllFit H (cond b [] es) = λ b. elim b as (λ b. (v == 0) ≡ b → AllFit H (cond b [] es)) [ true ↦ λ e. tt | false ↦ λ e. h (eqb-false v 0 e) ] in
+    let given : (b : Bool) → (v == 0) ≡ b → AllFit H (cond b [] es) = λ b. elim b as (λ b. (v == 0) ≡ b
+    → AllFit H (cond b [] es)) [ true ↦ λ e. tt | false ↦ λ e. h (eqb-false v 0 e) ] in
     given (v == 0) refl
 
 unless_past : (H v most : ℕ) (es : Expected) → (most < v → AllFit H es) → AllFit H (cond (nat_le v most) [] es)

@@ -1,5 +1,6 @@
 -- Elements, entries and slots, one after another.
-use Rattle.std.proofs.Common.{◌≡◌, ◌≢◌, ℕ, suc, ◌+◌, ◌*◌, List, [], ◌∷◌, ◌++◌, length, map, true, cond, Option, Some, None, refl, sym, ap, subst, ◌∙◌, append-nil, inl, inr}
+use Rattle.std.proofs.Common.{◌≡◌, ◌≢◌, ℕ, suc, ◌+◌, ◌*◌, List, [], ◌∷◌, ◌++◌, length, map, true, cond, Option, Some}
+use Rattle.std.proofs.Common.{None, refl, sym, ap, subst, ◌∙◌, append-nil, inl, inr}
 use Rattle.std.specs.Prelude.{option_map, unwrap_or}
 use Rattle.std.proofs.lemmas.Bool.{ne_eqb}
 use Rattle.std.proofs.lemmas.Bool.Decides.{eqb_tells}
@@ -14,7 +15,9 @@ use Rattle.mrpc_table.specs.declared.table.Table.{Table}
 use Rattle.mrpc_table.specs.declared.tree.FieldValue.{FieldValue}
 use Rattle.mrpc_table.specs.declared.tree.Value.{Value}
 use Rattle.graph_form.specs.declared.reason.Reason.TheVariants.{Case}
-use Rattle.graph_form.specs.Roles.{elements_address, entries_address, case_word, Expected, behind, plain_role, slot_role, slots_from, cases_from, elements_from, entries_from, node_words, own_slots, oneofs_of, element_words}
+use Rattle.graph_form.specs.Roles.{elements_address, entries_address, case_word, Expected, behind, plain_role}
+use Rattle.graph_form.specs.Roles.{slot_role, slots_from, cases_from, elements_from, entries_from, node_words}
+use Rattle.graph_form.specs.Roles.{own_slots, oneofs_of, element_words}
 use Rattle.graph_form.specs.Placed.{Placed, first, Word, word, loads, IsFine, AreSound}
 use Rattle.graph_form.specs.Forgotten.{insert_field, with_field, slots_tree, slot_content, with_member, plain_item, elements_at, elements_in, entries_at, entries_in, tree_of}
 use Rattle.graph_copy.specs.Makes.{insert_all, Takes, TakesWord, TakesSlots}
@@ -51,7 +54,8 @@ ElementsOn T k room count start left now made =
 pub elements_begin : (T : Table) (k : Kind) (room count : ℕ) (start : List (ℕ × ℕ)) → ElementsOn T k room count start count start []
 elements_begin T k room count start = λ H place depth all rest deep sound is. record { others = all; place = place; sound = sound; now_is = is; made_is = refl }
 
-pub elements_more : (T : Table) (k : Kind) (room count left less : ℕ) (start now next : List (ℕ × ℕ)) (made : List Value) (v : Value) → left ≡ suc less → ElementsOn T k room count start left now made
+pub elements_more : (T : Table) (k : Kind) (room count left less : ℕ) (start now next : List (ℕ × ℕ))
+    (made : List Value) (v : Value) → left ≡ suc less → ElementsOn T k room count start left now made
     → ((place depth : ℕ) → depth + room ≡ 32 → TakesWord T (plain_role k depth true, place) now next (λ w. item_of v ≡ plain_item T k w))
     → ElementsOn T k room count start less next (made ++ v ∷ [])
 elements_more T k room count left less start now next made v some on takes = λ H place depth all rest deep sound is.
@@ -64,10 +68,13 @@ elements_more T k room count left less start now next made v some on takes = λ 
       place = r.place + element_words k;
       sound = f.rest_sound;
       now_is = t.1;
-      made_is = r.made_is ∙ ap (λ P. items_onto made (elements_in T k P)) f.is ∙ ap (λ i. items_onto made (item i (elements_in T k f.others))) (sym t.0) ∙ sym (onto_last made v (elements_in T k f.others));
+      made_is = r.made_is ∙ ap (λ P. items_onto made (elements_in T k P)) f.is
+          ∙ ap (λ i. items_onto made (item i (elements_in T k f.others))) (sym t.0)
+          ∙ sym (onto_last made v (elements_in T k f.others));
     }
 
-pub elements_end : (T : Table) (k : Kind) (room count a : ℕ) (before start next : List (ℕ × ℕ)) (made : List Value) → Gives before a start → ElementsOn T k room count start 0 next made
+pub elements_end : (T : Table) (k : Kind) (room count a : ℕ) (before start next : List (ℕ × ℕ)) (made : List Value)
+    → Gives before a start → ElementsOn T k room count start 0 next made
     → (place depth : ℕ) → depth + room ≡ 32 → Takes T ((elements_address k count depth, place) ∷ []) before next (λ P. items_of made ≡ elements_at T k P)
 elements_end T k room count a before start next made address on = λ place depth deep H P rest sound is.
     let w = one_of T H (elements_address k count depth, place) P rest before sound is in
@@ -93,11 +100,13 @@ EntriesOn T key k room count start left now made =
 pub entries_begin : (T : Table) (key k : Kind) (room count : ℕ) (start : List (ℕ × ℕ)) → EntriesOn T key k room count start count start []
 entries_begin T key k room count start = λ H place depth all rest deep sound is. record { others = all; place = place; sound = sound; now_is = is; made_is = refl }
 
-mapped_last : (made : List (Value × Value)) (e : Value × Value) (es : List (Item × Item)) → map items_of_entry (made ++ e ∷ []) ++ es ≡ map items_of_entry made ++ (items_of_entry e ∷ es)
+mapped_last : (made : List (Value × Value)) (e : Value × Value) (es : List (Item × Item))
+    → map items_of_entry (made ++ e ∷ []) ++ es ≡ map items_of_entry made ++ (items_of_entry e ∷ es)
 mapped_last [] e es = refl
 mapped_last (x ∷ made) e es = ap (λ zs. items_of_entry x ∷ zs) (mapped_last made e es)
 
-pub entries_more : (T : Table) (key k : Kind) (room count left less : ℕ) (start now mid next : List (ℕ × ℕ)) (made : List (Value × Value)) (x y : Value) → left ≡ suc less → EntriesOn T key k room count start left now made
+pub entries_more : (T : Table) (key k : Kind) (room count left less : ℕ) (start now mid next : List (ℕ × ℕ))
+    (made : List (Value × Value)) (x y : Value) → left ≡ suc less → EntriesOn T key k room count start left now made
     → ((place depth : ℕ) → depth + room ≡ 32 → TakesWord T (plain_role key depth true, place) now mid (λ w. item_of x ≡ plain_item T key w))
     → ((place depth : ℕ) → depth + room ≡ 32 → TakesWord T (plain_role k depth true, place) mid next (λ w. item_of y ≡ plain_item T k w))
     → EntriesOn T key k room count start less next (made ++ (x, y) ∷ [])
@@ -120,33 +129,42 @@ entries_more T key k room count left less start now mid next made x y some on ta
           ∙ sym (mapped_last made (x, y) (entries_in T key k g.others));
     }
 
-pub entries_end : (T : Table) (key k : Kind) (room count a : ℕ) (before start next : List (ℕ × ℕ)) (made : List (Value × Value)) → Gives before a start → EntriesOn T key k room count start 0 next made
+pub entries_end : (T : Table) (key k : Kind) (room count a : ℕ) (before start next : List (ℕ × ℕ))
+    (made : List (Value × Value)) → Gives before a start → EntriesOn T key k room count start 0 next made
     → (place depth : ℕ) → depth + room ≡ 32 → Takes T ((entries_address key k count depth, place) ∷ []) before next (λ P. map items_of_entry made ≡ entries_at T key k P)
 entries_end T key k room count a before start next made address on = λ place depth deep H P rest sound is.
     let w = one_of T H (entries_address key k count depth, place) P rest before sound is in
     let g = address (place, w.number) (loads w.content ++ rest) w.now_is in
     let r = on H w.number depth w.content rest deep w.sound g.1 in
-    let none = sound_none T H r.others r.sound in
-    (sym (ap (entries_at T key k) w.is ∙ r.made_is ∙ ap (λ Q. map items_of_entry made ++ entries_in T key k Q) none ∙ append-nil (map items_of_entry made)), r.now_is ∙ ap (λ Q. loads Q ++ rest) none)
+    let none = sound_none T H r.others r.sound in (
+      sym (ap (entries_at T key k) w.is ∙ r.made_is ∙ ap (λ Q. map items_of_entry made ++ entries_in T key k Q) none
+          ∙ append-nil (map items_of_entry made)),
+      r.now_is ∙ ap (λ Q. loads Q ++ rest) none,
+    )
 
 -- ---- slots of fields
 
-pub record SlotsLeft (T : Table) (H : ℕ) (fs slots left : List Field) (depth : ℕ) (others : Expected) (all : Placed) (rest now : List (ℕ × ℕ)) (found more : List (ℕ × FieldValue)) : Type 0 where
+pub record SlotsLeft (T : Table) (H : ℕ) (fs slots left : List Field) (depth : ℕ) (others : Expected) (all : Placed)
+    (rest now : List (ℕ × ℕ)) (found more : List (ℕ × FieldValue)) : Type 0 where
   pub words : Placed
   pub place : ℕ
   pub sound : AreSound T H (slots_from left depth place ++ others) words
   pub now_is : now ≡ loads words ++ rest
   pub made_is : insert_all found (slots_tree T fs slots all) ≡ insert_all more (slots_tree T fs left words)
 
-abbrev pub SlotsOn : Table → List Field → List Field → ℕ → List (ℕ × ℕ) → List Field → List (ℕ × ℕ) → List (ℕ × FieldValue) → List (ℕ × FieldValue) → Type 0
+abbrev pub SlotsOn : Table → List Field → List Field → ℕ → List (ℕ × ℕ) → List Field → List (ℕ × ℕ)
+    → List (ℕ × FieldValue) → List (ℕ × FieldValue) → Type 0
 SlotsOn T fs slots room start left now found more =
-    (H place depth : ℕ) (others : Expected) (all : Placed) (rest : List (ℕ × ℕ)) → depth + room ≡ 32 → AreSound T H (slots_from slots depth place ++ others) all → start ≡ loads all ++ rest
+    (H place depth : ℕ) (others : Expected) (all : Placed) (rest : List (ℕ × ℕ)) → depth + room ≡ 32
+    → AreSound T H (slots_from slots depth place ++ others) all → start ≡ loads all ++ rest
     → SlotsLeft T H fs slots left depth others all rest now found more
 
 pub slots_begin : (T : Table) (fs slots : List Field) (room : ℕ) (start : List (ℕ × ℕ)) (found : List (ℕ × FieldValue)) → SlotsOn T fs slots room start slots start found found
 slots_begin T fs slots room start found = λ H place depth others all rest deep sound is. record { words = all; place = place; sound = sound; now_is = is; made_is = refl }
 
-pub slots_more : (T : Table) (fs slots left less : List Field) (room : ℕ) (start now next : List (ℕ × ℕ)) (found more most : List (ℕ × FieldValue)) (f : Field) (c : Option FieldValue) → left ≡ f ∷ less → SlotsOn T fs slots room start left now found more
+pub slots_more : (T : Table) (fs slots left less : List Field) (room : ℕ) (start now next : List (ℕ × ℕ))
+    (found more most : List (ℕ × FieldValue)) (f : Field) (c : Option FieldValue) → left ≡ f ∷ less
+    → SlotsOn T fs slots room start left now found more
     → ((place depth : ℕ) → depth + room ≡ 32 → TakesWord T (slot_role f.label f.kind depth, place) now next (λ w. option_map content_of c ≡ slot_content T f.label f.kind w))
     → ((t : Node) → insert_all most t ≡ insert_all more (with_field f.number (option_map content_of c) t))
     → SlotsOn T fs slots room start less next found most
@@ -191,8 +209,11 @@ CasesOn T fs room count start left now found more =
 pub cases_begin : (T : Table) (fs : List Field) (room count : ℕ) (start : List (ℕ × ℕ)) (found : List (ℕ × FieldValue)) → CasesOn T fs room count start count start found found
 cases_begin T fs room count start found = λ H place depth all rest deep sound is. record { words = all; place = place; oneof = 0; sound = sound; now_is = is; made_is = refl }
 
-pub cases_more : (T : Table) (fs : List Field) (room count left less : ℕ) (start now next : List (ℕ × ℕ)) (found more most : List (ℕ × FieldValue)) → left ≡ suc less → CasesOn T fs room count start left now found more
-    → ((place depth oneof : ℕ) → depth + room ≡ 32 → TakesWord T (case_word fs oneof depth, place) now next (λ w. (t : Node) → insert_all more (with_member T fs w t) ≡ insert_all most t))
+pub cases_more : (T : Table) (fs : List Field) (room count left less : ℕ) (start now next : List (ℕ × ℕ))
+    (found more most : List (ℕ × FieldValue)) → left ≡ suc less → CasesOn T fs room count start left now found more
+    → ((place depth oneof : ℕ) → depth + room ≡ 32
+    → TakesWord T (case_word fs oneof depth, place) now next (λ w. (t : Node)
+    → insert_all more (with_member T fs w t) ≡ insert_all most t))
     → CasesOn T fs room count start less next found most
 cases_more T fs room count left less start now next found more most some on takes = λ H place depth all rest deep sound is.
     let r = on H place depth all rest deep sound is in
@@ -238,10 +259,13 @@ number_at_field (g ∷ fs) n f at =
       | inr other ↦ number_at_field fs n f (sym (ap (λ b. cond b (Some g) (field_at fs n)) other.0) ∙ at)
     ]
 
-pub member_found : (T : Table) (fs : List Field) (room v : ℕ) (before mid next : List (ℕ × ℕ)) (found most : List (ℕ × FieldValue)) (f : Field) (i : Value) → Gives before v mid → v ≢ 0 → field_at fs v ≡ Some f
+pub member_found : (T : Table) (fs : List Field) (room v : ℕ) (before mid next : List (ℕ × ℕ))
+    (found most : List (ℕ × FieldValue)) (f : Field) (i : Value) → Gives before v mid → v ≢ 0 → field_at fs v ≡ Some f
     → ((place depth : ℕ) → depth + room ≡ 32 → TakesWord T (plain_role f.kind depth true, place) mid next (λ w. item_of i ≡ plain_item T f.kind w))
     → ((t : Node) → insert_all most t ≡ insert_all found (insert_field f.number (one (item_of i)) t))
-    → (place depth oneof : ℕ) → depth + room ≡ 32 → TakesWord T (case_word fs oneof depth, place) before next (λ w. (t : Node) → insert_all found (with_member T fs w t) ≡ insert_all most t)
+    → (place depth oneof : ℕ) → depth + room ≡ 32
+    → TakesWord T (case_word fs oneof depth, place) before next (λ w. (t : Node)
+    → insert_all found (with_member T fs w t) ≡ insert_all most t)
 member_found T fs room v before mid next found most f i gives some at takes put place depth oneof deep = λ H n content rest small fine sound is.
     let g = gives (place, n) (loads content ++ rest) is in
     let kind : kind_at fs v ≡ f.kind = ap (λ o. unwrap_or (option_map (λ x. x.kind) o) Uint64) at in
@@ -263,7 +287,8 @@ member_found T fs room v before mid next found most f i gives some at takes put 
 
 pub node_done : (T : Table) (m place depth : ℕ) (before mid next : List (ℕ × ℕ)) (more most : List (ℕ × FieldValue)) (t : Node)
     → TakesSlots T (fields_of T m) (own_slots (fields_of T m)) depth place before mid [] more
-    → Takes T (cases_from (oneofs_of T m) (fields_of T m) 0 depth (place + 2 * length (own_slots (fields_of T m)))) mid next (λ P. insert_all more (slots_tree T (fields_of T m) [] P) ≡ insert_all most no_fields)
+    → Takes T (cases_from (oneofs_of T m) (fields_of T m) 0 depth (place + 2 * length (own_slots (fields_of T m))))
+    mid next (λ P. insert_all more (slots_tree T (fields_of T m) [] P) ≡ insert_all most no_fields)
     → t ≡ insert_all most no_fields
     → Takes T (node_words T m depth place) before next (λ P. t ≡ tree_of T m P)
 node_done T m place depth before mid next more most t slots cases is = λ H P rest sound at.

@@ -1,17 +1,23 @@
 -- What is made of the loads of each word.
-use Rattle.std.proofs.Common.{◌≡◌, ◌≢◌, ◌⊎◌, ℕ, ◌+◌, ◌-◌, List, [], ◌∷◌, ◌++◌, Bool, true, false, cond, ◌==◌, Some, None, refl, sym, ap, subst, ◌∙◌, arith, inl, inr}
+use Rattle.std.proofs.Common.{◌≡◌, ◌≢◌, ◌⊎◌, ℕ, ◌+◌, ◌-◌, List, [], ◌∷◌, ◌++◌, Bool, true, false, cond, ◌==◌, Some}
+use Rattle.std.proofs.Common.{None, refl, sym, ap, subst, ◌∙◌, arith, inl, inr}
 use Rattle.std.specs.Prelude.{if◌then◌else◌}
 use Rattle.std.proofs.lemmas.Bool.{eq-eqb, ne_eqb}
 use Rattle.std.proofs.lemmas.Bool.Decides.{leb_tells}
 use Rattle.mrpc_table.specs.MapEntries.{last_of_each}
 use Rattle.mrpc_table.specs.Node.{Node, Content, one, many, pairs, Item, number, run, node, Items, Pairs}
 use Rattle.mrpc_table.specs.declared.table.Kind.{Kind}
-use Rattle.mrpc_table.specs.declared.table.Kind.TheVariants.{Int32, Int64, Uint32, Uint64, Sint32, Sint64, Bool as TheBool, Fixed32, Fixed64, Sfixed32, Sfixed64, Float, Double, Text, Octets, Message as OfMessage, Choice}
+use Rattle.mrpc_table.specs.declared.table.Kind.TheVariants.{Int32, Int64, Uint32, Uint64, Sint32, Sint64}
+use Rattle.mrpc_table.specs.declared.table.Kind.TheVariants.{Bool as TheBool, Fixed32, Fixed64, Sfixed32, Sfixed64}
+use Rattle.mrpc_table.specs.declared.table.Kind.TheVariants.{Float, Double, Text, Octets, Message as OfMessage}
+use Rattle.mrpc_table.specs.declared.table.Kind.TheVariants.{Choice}
 use Rattle.mrpc_table.specs.declared.table.Label.{Label}
 use Rattle.mrpc_table.specs.declared.table.Label.TheVariants.{Plain, Optional, Repeated, Packed, Map, Member}
 use Rattle.mrpc_table.specs.declared.table.Table.{Table}
 use Rattle.graph_form.specs.declared.reason.Reason.TheVariants.{Address, Depth, Length}
-use Rattle.graph_form.specs.Roles.{value, run_length, run_presence, run_address, link, elements_address, entries_address, behind, plain_role, optional_role, slot_role, node_words, size_words}
+use Rattle.graph_form.specs.Roles.{value, run_length, run_presence, run_address, link, elements_address}
+use Rattle.graph_form.specs.Roles.{entries_address, behind, plain_role, optional_role, slot_role, node_words}
+use Rattle.graph_form.specs.Roles.{size_words}
 use Rattle.graph_form.specs.Placed.{Placed, nothing, word, loads, IsFine, AreSound}
 use Rattle.graph_form.specs.Forgotten.{run_at, number_at, optional_item, slot_content, plain_item, elements_at, entries_at, tree_of}
 use Rattle.graph_copy.specs.declared.role.Shape.TheVariants.{Number, Run, Message}
@@ -48,7 +54,8 @@ some_link T H m depth needed v fine there =
       | inr some ↦ some
     ]
 
-pub no_room : (T : Table) (k : Kind) (m place depth : ℕ) (needed : Bool) (v room : ℕ) (before after : List (ℕ × ℕ)) (Made : Placed → Type 0) → shape_of k ≡ Message m → room ≡ 0 → depth + room ≡ 32 → (needed ≡ true) ⊎ (v ≢ 0)
+pub no_room : (T : Table) (k : Kind) (m place depth : ℕ) (needed : Bool) (v room : ℕ) (before after : List (ℕ × ℕ))
+    (Made : Placed → Type 0) → shape_of k ≡ Message m → room ≡ 0 → depth + room ≡ 32 → (needed ≡ true) ⊎ (v ≢ 0)
     → TakesBehind T (plain_role k depth needed, place) v before after Made
 no_room T Text m place depth needed v room before after Made shape none deep there = absurd (cc)
 no_room T Octets m place depth needed v room before after Made shape none deep there = absurd (cc)
@@ -56,7 +63,8 @@ no_room T (OfMessage i) m place depth needed v room before after Made shape none
     absurd (fine Depth (some_link T H i depth needed v fine there, omega (arith, none, deep)))
 no_room T _ m place depth needed v room before after Made shape none deep there = absurd (cc)
 
-pub node_made : (T : Table) (k : Kind) (m place depth : ℕ) (needed : Bool) (v room : ℕ) (before after : List (ℕ × ℕ)) (t : Node) → shape_of k ≡ Message m → room ≢ 0 → depth + room ≡ 32 → (needed ≡ true) ⊎ (v ≢ 0)
+pub node_made : (T : Table) (k : Kind) (m place depth : ℕ) (needed : Bool) (v room : ℕ) (before after : List (ℕ × ℕ))
+    (t : Node) → shape_of k ≡ Message m → room ≢ 0 → depth + room ≡ 32 → (needed ≡ true) ⊎ (v ≢ 0)
     → ((place depth : ℕ) → depth + (room - 1) ≡ 32 → Takes T (node_words T m depth place) before after (λ P. t ≡ tree_of T m P))
     → TakesBehind T (plain_role k depth needed, place) v before after (λ P. node t ≡ plain_item T k (word place v P))
 node_made T Text m place depth needed v room before after t shape some deep there made = absurd (cc)
@@ -76,7 +84,8 @@ pub item_made : (T : Table) (k : Kind) (place depth v : ℕ) (before mid after :
     → TakesWord T (plain_role k depth true, place) before after (λ w. i ≡ plain_item T k w)
 item_made T k place depth v before mid after i gives made = λ H n content rest small fine sound is.
     let g = gives (place, n) (loads content ++ rest) is in
-    let m = made H content rest (subst (IsFine T H (plain_role k depth true)) (sym g.0) fine) (subst (λ n. AreSound T H (behind T (plain_role k depth true) place n) content) (sym g.0) sound) g.1 in
+    let m = made H content rest (subst (IsFine T H (plain_role k depth true)) (sym g.0) fine)
+    (subst (λ n. AreSound T H (behind T (plain_role k depth true) place n) content) (sym g.0) sound) g.1 in
     (m.0 ∙ ap (λ n. plain_item T k (word place n content)) g.0, m.1)
 
 -- ---- slots of fields
@@ -91,7 +100,9 @@ slot_made T l k place depth v before mid after c Made gives some says made = λ 
     (ap Some m.0 ∙ sym (says content ∙ ap (λ b. cond b None (Some (Made content))) (ne_eqb v 0 some)) ∙ ap (λ n. slot_content T l k (word place n content)) g.0, m.1)
 
 -- the first word of a slot is 0
-zero_plain : (T : Table) (k : Kind) (place depth : ℕ) (H : ℕ) (P : Placed) → AreSound T H (behind T (plain_role k depth false) place 0) P → IsFine T H (plain_role k depth false) 0 → P ≡ nothing
+zero_plain : (T : Table) (k : Kind) (place depth : ℕ) (H : ℕ) (P : Placed)
+    → AreSound T H (behind T (plain_role k depth false) place 0) P → IsFine T H (plain_role k depth false) 0
+    → P ≡ nothing
 zero_plain T Text place depth H P sound fine = sound_none T H P sound
 zero_plain T Octets place depth H P sound fine = sound_none T H P sound
 zero_plain T (OfMessage m) place depth H P sound fine = sound_none T H P sound
@@ -102,7 +113,8 @@ zero_optional T Text place H P sound = sound_none T H P sound
 zero_optional T Octets place H P sound = sound_none T H P sound
 zero_optional T _ place H P sound = sound_none T H P sound
 
-zero_slot : (T : Table) (l : Label) (k : Kind) (place depth : ℕ) (H : ℕ) (P : Placed) → AreSound T H (behind T (slot_role l k depth) place 0) P → IsFine T H (slot_role l k depth) 0 → P ≡ nothing
+zero_slot : (T : Table) (l : Label) (k : Kind) (place depth : ℕ) (H : ℕ) (P : Placed)
+    → AreSound T H (behind T (slot_role l k depth) place 0) P → IsFine T H (slot_role l k depth) 0 → P ≡ nothing
 zero_slot T Optional k place depth H P sound fine = zero_optional T k place H P sound
 zero_slot T Repeated k place depth H P sound fine = sound_none T H P sound
 zero_slot T Packed k place depth H P sound fine = sound_none T H P sound
@@ -130,7 +142,9 @@ pub slot_absent : (T : Table) (l : Label) (k : Kind) (place depth v : ℕ) (befo
 slot_absent T l k place depth v before mid gives absent = λ H n content rest small fine sound is.
     let g = gives (place, n) (loads content ++ rest) is in
     let n_zero : n ≡ 0 = sym g.0 ∙ absent in
-    let none = zero_slot T l k place depth H content (subst (λ n. AreSound T H (behind T (slot_role l k depth) place n) content) n_zero sound) (subst (IsFine T H (slot_role l k depth)) n_zero fine) in
+    let none = zero_slot T l k place depth H content
+    (subst (λ n. AreSound T H (behind T (slot_role l k depth) place n) content) n_zero sound)
+    (subst (IsFine T H (slot_role l k depth)) n_zero fine) in
     (sym (ap (λ n. slot_content T l k (word place n content)) n_zero ∙ content_zero T l k place content), g.1 ∙ ap (λ P. loads P ++ rest) none)
 
 -- what a slot says by its label
@@ -138,14 +152,18 @@ pub plain_says : (T : Table) (k : Kind) (place v : ℕ) (P : Placed) → slot_co
 plain_says T (OfMessage m) place v P = refl
 plain_says T _ place v P = refl
 
-pub member_says : (T : Table) (o : ℕ) (k : Kind) (place v : ℕ) (P : Placed) → slot_content T (Member o) k (word place v P) ≡ (if v == 0 then None else Some (one (plain_item T k (word place v P))))
+pub member_says : (T : Table) (o : ℕ) (k : Kind) (place v : ℕ) (P : Placed)
+    → slot_content T (Member o) k (word place v P)
+    ≡ (if v == 0 then None else Some (one (plain_item T k (word place v P))))
 member_says T o (OfMessage m) place v P = refl
 member_says T o _ place v P = refl
 
 -- ---- optional slots
 
 optional_given : (T : Table) (k : Kind) (place v x : ℕ) (before after : List (ℕ × ℕ)) → v ≢ 0 → Gives before x after
-    → (H : ℕ) (content : Placed) (rest : List (ℕ × ℕ)) → AreSound T H (if v == 0 then [] else (value k, place + 1) ∷ []) content → before ≡ loads content ++ rest → (number x ≡ number (number_at content)) × (after ≡ rest)
+    → (H : ℕ) (content : Placed) (rest : List (ℕ × ℕ))
+    → AreSound T H (if v == 0 then [] else (value k, place + 1) ∷ []) content → before ≡ loads content ++ rest
+    → (number x ≡ number (number_at content)) × (after ≡ rest)
 optional_given T k place v x before after some gives H content rest sound is =
     let inner = subst (λ b. AreSound T H (cond b [] ((value k, place + 1) ∷ [])) content) (ne_eqb v 0 some) sound in
     let w = one_of T H (value k, place + 1) content rest before inner is in
@@ -153,7 +171,8 @@ optional_given T k place v x before after some gives H content rest sound is =
     (ap number g.0 ∙ sym (ap (λ P. number (number_at P)) w.is), g.1 ∙ ap (λ P. loads P ++ rest) (sound_none T H w.content w.sound))
 
 -- a run behind its length and one more is a run behind its length
-less_one : (T : Table) (H : ℕ) (k : Kind) (place v n : ℕ) (P : Placed) → v ≢ 0 → n ≡ v - 1 → AreSound T H (behind T (run_presence k) place v) P → AreSound T H (behind T (run_length k) place n) P
+less_one : (T : Table) (H : ℕ) (k : Kind) (place v n : ℕ) (P : Placed) → v ≢ 0 → n ≡ v - 1
+    → AreSound T H (behind T (run_presence k) place v) P → AreSound T H (behind T (run_length k) place n) P
 less_one T H k place v n P some is_less sound =
     let Q : Bool → Type 0 = λ b. AreSound T H (cond b [] ((run_address k (v - 1), place + 1) ∷ [])) P in
     let inner : AreSound T H (if (v - 1) == 0 then [] else (run_address k (v - 1), place + 1) ∷ []) P =
@@ -191,7 +210,8 @@ optional_number T Sfixed32 place v x before after shape some gives = λ H conten
 optional_number T Sfixed64 place v x before after shape some gives = λ H content rest fine sound is. optional_given T Sfixed64 place v x before after some gives H content rest sound is
 optional_number T Float place v x before after shape some gives = λ H content rest fine sound is. optional_given T Float place v x before after some gives H content rest sound is
 optional_number T Double place v x before after shape some gives = λ H content rest fine sound is. optional_given T Double place v x before after some gives H content rest sound is
-optional_number T (OfMessage m) place v x before after shape some gives = λ H content rest fine sound is. optional_given T (OfMessage m) place v x before after some gives H content rest sound is
+optional_number T (OfMessage m) place v x before after shape some gives = λ H content rest fine sound is.
+    optional_given T (OfMessage m) place v x before after some gives H content rest sound is
 optional_number T (Choice i) place v x before after shape some gives = λ H content rest fine sound is. optional_given T (Choice i) place v x before after some gives H content rest sound is
 
 pub optional_run : (T : Table) (k : Kind) (place v n : ℕ) (before after : List (ℕ × ℕ)) (bytes : List ℕ) → shape_of k ≡ Run → v ≢ 0 → n ≡ v - 1
@@ -215,21 +235,30 @@ pub slot_repeated : (T : Table) (k : Kind) (place depth v : ℕ) (before mid aft
     → TakesWord T (slot_role Repeated k depth, place) before after (λ w. Some (many is) ≡ slot_content T Repeated k w)
 slot_repeated T k place depth v before mid after is gives some made =
     slot_made T Repeated k place depth v before mid after (many is) (λ P. many (elements_at T k P)) gives some (λ P. refl)
-    (λ H content rest fine sound at. let m = made H content rest (subst (λ b. AreSound T H (cond b [] ((elements_address k v depth, place + 1) ∷ [])) content) (ne_eqb v 0 some) sound) at in (ap many m.0, m.1))
+    (λ H content rest fine sound at. let m =
+    made H content rest
+    (subst (λ b. AreSound T H (cond b [] ((elements_address k v depth, place + 1) ∷ [])) content)
+    (ne_eqb v 0 some) sound) at in (ap many m.0, m.1))
 
 pub slot_packed : (T : Table) (k : Kind) (place depth v : ℕ) (before mid after : List (ℕ × ℕ)) (is : Items) → Gives before v mid → v ≢ 0
     → Takes T ((elements_address k v depth, place + 1) ∷ []) mid after (λ P. is ≡ elements_at T k P)
     → TakesWord T (slot_role Packed k depth, place) before after (λ w. Some (many is) ≡ slot_content T Packed k w)
 slot_packed T k place depth v before mid after is gives some made =
     slot_made T Packed k place depth v before mid after (many is) (λ P. many (elements_at T k P)) gives some (λ P. refl)
-    (λ H content rest fine sound at. let m = made H content rest (subst (λ b. AreSound T H (cond b [] ((elements_address k v depth, place + 1) ∷ [])) content) (ne_eqb v 0 some) sound) at in (ap many m.0, m.1))
+    (λ H content rest fine sound at. let m =
+    made H content rest
+    (subst (λ b. AreSound T H (cond b [] ((elements_address k v depth, place + 1) ∷ [])) content)
+    (ne_eqb v 0 some) sound) at in (ap many m.0, m.1))
 
 pub slot_map : (T : Table) (key k : Kind) (place depth v : ℕ) (before mid after : List (ℕ × ℕ)) (ps : Pairs) → Gives before v mid → v ≢ 0
     → Takes T ((entries_address key k v depth, place + 1) ∷ []) mid after (λ P. ps ≡ last_of_each key (entries_at T key k P))
     → TakesWord T (slot_role (Map key) k depth, place) before after (λ w. Some (pairs ps) ≡ slot_content T (Map key) k w)
 slot_map T key k place depth v before mid after ps gives some made =
     slot_made T (Map key) k place depth v before mid after (pairs ps) (λ P. pairs (last_of_each key (entries_at T key k P))) gives some (λ P. refl)
-    (λ H content rest fine sound at. let m = made H content rest (subst (λ b. AreSound T H (cond b [] ((entries_address key k v depth, place + 1) ∷ [])) content) (ne_eqb v 0 some) sound) at in (ap pairs m.0, m.1))
+    (λ H content rest fine sound at. let m =
+    made H content rest
+    (subst (λ b. AreSound T H (cond b [] ((entries_address key k v depth, place + 1) ∷ [])) content)
+    (ne_eqb v 0 some) sound) at in (ap pairs m.0, m.1))
 
 pub slot_plain : (T : Table) (k : Kind) (place depth v : ℕ) (before mid after : List (ℕ × ℕ)) (i : Item) → Gives before v mid → v ≢ 0
     → TakesBehind T (plain_role k depth false, place) v mid after (λ P. i ≡ plain_item T k (word place v P))

@@ -1,5 +1,6 @@
 -- What a valid table says of the message at a place.
-use Rattle.std.proofs.Common.{◌≡◌, ◌≢◌, ℕ, ◌^◌, ◌≤◌, List, [], ◌∷◌, length, All, cond, Option, Some, None, refl, ap, subst, ◌∙◌, arith, slice_get, option_map, unwrap_or, inl, inr}
+use Rattle.std.proofs.Common.{◌≡◌, ◌≢◌, ℕ, ◌^◌, ◌≤◌, List, [], ◌∷◌, length, All, cond, Option, Some, None, refl, ap}
+use Rattle.std.proofs.Common.{subst, ◌∙◌, arith, slice_get, option_map, unwrap_or, inl, inr}
 use Rattle.std.proofs.lemmas.Option.{slice_get_cases}
 use Rattle.std.proofs.lemmas.Bool.{ne_eqb}
 use Rattle.std.proofs.lemmas.List.Elements.{All-head, All-tail}
@@ -35,6 +36,8 @@ no_field_past T oneofs (f ∷ fs) n all past =
 pub none_past : (T : Table) (i n : ℕ) → IsValid T → 2 ^ 32 ≤ n → field_at (fields_of T i) n ≡ None
 none_past T i n valid past =
     elim (slice_get_cases T.messages i).1 [
-      | inl in_range ↦ let m = in_range.0 in ap (λ fs. field_at fs n) (fields_at T i m in_range.2) ∙ no_field_past T (length m.oneofs) m.fields n (message_valid T i m valid in_range.2).fields past
+      | inl in_range ↦ let m = in_range.0 in
+          ap (λ fs. field_at fs n) (fields_at T i m in_range.2) ∙ no_field_past T (length m.oneofs) m.fields n
+          (message_valid T i m valid in_range.2).fields past
       | inr out ↦ ap (λ fs. field_at fs n) (no_fields_at T i out.1)
     ]

@@ -1,5 +1,6 @@
 -- The words of a run and its bytes.
-use Rattle.std.proofs.Common.{◌≡◌, ◌≢◌, ℕ, ◌+◌, ◌-◌, ◌<◌, ◌≤◌, cond, List, [], ◌∷◌, ◌++◌, length, take, refl, sym, ap, subst, ◌∙◌, arith, append_assoc, append-nil, inl, inr}
+use Rattle.std.proofs.Common.{◌≡◌, ◌≢◌, ℕ, ◌+◌, ◌-◌, ◌<◌, ◌≤◌, cond, List, [], ◌∷◌, ◌++◌, length, take, refl, sym, ap}
+use Rattle.std.proofs.Common.{subst, ◌∙◌, arith, append_assoc, append-nil, inl, inr}
 use Rattle.std.proofs.Math.Seq.{take-append-add}
 use Rattle.std.proofs.lemmas.Bool.{ne_eqb, le-leb}
 use Rattle.std.proofs.lemmas.Bool.Decides.{leb_tells}
@@ -29,14 +30,17 @@ RunsOn start bytes left now done =
 pub run_begins : (start : List (ℕ × ℕ)) (bytes : ℕ) → RunsOn start bytes bytes start []
 run_begins start bytes = λ T H k place all rest sound is. record { chain = all; place = place; before = []; sound = sound; now_is = is; bytes = refl }
 
-long : (T : Table) (H : ℕ) (k : Kind) (left : ℕ) (before : List ℕ) (place v : ℕ) (P : Placed) → 8 < left → AreSound T H (behind T (run_word k left before) place v) P → AreSound T H ((run_word k (left - 8) (before ++ word_bytes v), place + 1) ∷ []) P
+long : (T : Table) (H : ℕ) (k : Kind) (left : ℕ) (before : List ℕ) (place v : ℕ) (P : Placed) → 8 < left
+    → AreSound T H (behind T (run_word k left before) place v) P
+    → AreSound T H ((run_word k (left - 8) (before ++ word_bytes v), place + 1) ∷ []) P
 long T H k left before place v P more h =
     elim (leb_tells left 8) [
       | inl le ↦ absurd (omega (arith, le.1, more))
       | inr lt ↦ subst (λ b. AreSound T H (cond b [] ((run_word k (left - 8) (before ++ word_bytes v), place + 1) ∷ [])) P) lt.0 h
     ]
 
-short : (T : Table) (H : ℕ) (k : Kind) (left : ℕ) (before : List ℕ) (place v : ℕ) (P : Placed) → left ≤ 8 → AreSound T H (behind T (run_word k left before) place v) P → AreSound T H [] P
+short : (T : Table) (H : ℕ) (k : Kind) (left : ℕ) (before : List ℕ) (place v : ℕ) (P : Placed) → left ≤ 8
+    → AreSound T H (behind T (run_word k left before) place v) P → AreSound T H [] P
 short T H k left before place v P le h = subst (λ b. AreSound T H (cond b [] ((run_word k (left - 8) (before ++ word_bytes v), place + 1) ∷ [])) P) (le-leb left 8 le) h
 
 -- the next load gives this value
@@ -55,7 +59,9 @@ run_more start bytes left v now next done on more gives = λ T H k place all res
       before = r.before ++ word_bytes w.number;
       sound = long T H k left r.before r.place w.number w.content more w.sound;
       now_is = g.1;
-      bytes = r.bytes ∙ ap (λ Q. done ++ chain_bytes Q) w.is ∙ sym (append_assoc done (word_bytes w.number) (chain_bytes w.content)) ∙ ap (λ n. (done ++ word_bytes n) ++ chain_bytes w.content) (sym g.0);
+      bytes = r.bytes ∙ ap (λ Q. done ++ chain_bytes Q) w.is
+          ∙ sym (append_assoc done (word_bytes w.number) (chain_bytes w.content))
+          ∙ ap (λ n. (done ++ word_bytes n) ++ chain_bytes w.content) (sym g.0);
     }
 
 -- what a run comes to
@@ -63,14 +69,20 @@ pub record RunDone (bytes : ℕ) (made : List ℕ) (rest after : List (ℕ × �
   pub made_is : made ≡ take bytes (chain_bytes all)
   pub after_is : after ≡ rest
 
-pub run_ends : (start : List (ℕ × ℕ)) (bytes left v : ℕ) (now next : List (ℕ × ℕ)) (done made : List ℕ) → RunsOn start bytes left now done → left ≤ 8 → bytes ≡ length done + left → Gives now v next → made ≡ done ++ take left (word_bytes v)
-    → (T : Table) (H : ℕ) (k : Kind) (place : ℕ) (all : Placed) (rest : List (ℕ × ℕ)) → AreSound T H ((run_word k bytes [], place) ∷ []) all → start ≡ loads all ++ rest → RunDone bytes made rest next all
+pub run_ends : (start : List (ℕ × ℕ)) (bytes left v : ℕ) (now next : List (ℕ × ℕ)) (done made : List ℕ)
+    → RunsOn start bytes left now done → left ≤ 8 → bytes ≡ length done + left → Gives now v next
+    → made ≡ done ++ take left (word_bytes v)
+    → (T : Table) (H : ℕ) (k : Kind) (place : ℕ) (all : Placed) (rest : List (ℕ × ℕ))
+    → AreSound T H ((run_word k bytes [], place) ∷ []) all → start ≡ loads all ++ rest
+    → RunDone bytes made rest next all
 run_ends start bytes left v now next done made on le count gives is T H k place all rest sound at =
     let r = on T H k place all rest sound at in
     let w = one_of T H (run_word k left r.before, r.place) r.chain rest now r.sound r.now_is in
     let g = gives (r.place, w.number) (loads w.content ++ rest) w.now_is in
     let none = sound_none T H w.content (short T H k left r.before r.place w.number w.content le w.sound) in
-    let all_bytes : chain_bytes all ≡ done ++ word_bytes v = r.bytes ∙ ap (λ Q. done ++ chain_bytes Q) w.is ∙ ap (λ Q. done ++ (word_bytes w.number ++ chain_bytes Q)) none ∙ ap (λ xs. done ++ xs) (append-nil (word_bytes w.number)) ∙ ap (λ n. done ++ word_bytes n) (sym g.0) in
+    let all_bytes : chain_bytes all ≡ done ++ word_bytes v = r.bytes ∙ ap (λ Q. done ++ chain_bytes Q) w.is
+    ∙ ap (λ Q. done ++ (word_bytes w.number ++ chain_bytes Q)) none
+    ∙ ap (λ xs. done ++ xs) (append-nil (word_bytes w.number)) ∙ ap (λ n. done ++ word_bytes n) (sym g.0) in
     record {
       made_is = is ∙ sym (take-append-add done (word_bytes v) left) ∙ ap (λ n. take n (done ++ word_bytes v)) (sym count) ∙ ap (take bytes) (sym all_bytes);
       after_is = g.1 ∙ ap (λ Q. loads Q ++ rest) none;
@@ -81,15 +93,19 @@ run_ends start bytes left v now next done made on le count gives is T H k place 
 pub run_none : (T : Table) (H : ℕ) (k : Kind) (place bytes : ℕ) (P : Placed) → bytes ≡ 0 → AreSound T H (behind T (run_length k) place bytes) P → P ≡ nothing
 run_none T H k place bytes P none h = sound_none T H P (subst (λ n. AreSound T H (behind T (run_length k) place n) P) none h)
 
-pub run_some : (T : Table) (H : ℕ) (k : Kind) (place bytes : ℕ) (P : Placed) → bytes ≢ 0 → AreSound T H (behind T (run_length k) place bytes) P → AreSound T H ((run_address k bytes, place + 1) ∷ []) P
+pub run_some : (T : Table) (H : ℕ) (k : Kind) (place bytes : ℕ) (P : Placed) → bytes ≢ 0
+    → AreSound T H (behind T (run_length k) place bytes) P → AreSound T H ((run_address k bytes, place + 1) ∷ []) P
 run_some T H k place bytes P some h = subst (λ b. AreSound T H (cond b [] ((run_address k bytes, place + 1) ∷ [])) P) (ne_eqb bytes 0 some) h
 
-pub run_nothing : (bytes : ℕ) (before : List (ℕ × ℕ)) → bytes ≡ 0 → (T : Table) (k : Kind) (place : ℕ) → TakesBehind T (run_length k, place) bytes before before (λ P. [] ≡ run_at bytes P)
+pub run_nothing : (bytes : ℕ) (before : List (ℕ × ℕ)) → bytes ≡ 0 → (T : Table) (k : Kind) (place : ℕ)
+    → TakesBehind T (run_length k, place) bytes before before (λ P. [] ≡ run_at bytes P)
 run_nothing bytes before is_zero T k place = λ H content rest fine sound is.
     let none = run_none T H k place bytes content is_zero sound in
     (ap (run_at bytes) (sym none), is ∙ ap (λ Q. loads Q ++ rest) none)
 
-pub run_done : (before start next : List (ℕ × ℕ)) (bytes left a v : ℕ) (now : List (ℕ × ℕ)) (done made : List ℕ) → bytes ≢ 0 → Gives before a start → RunsOn start bytes left now done → left ≤ 8 → bytes ≡ length done + left → Gives now v next
+pub run_done : (before start next : List (ℕ × ℕ)) (bytes left a v : ℕ) (now : List (ℕ × ℕ)) (done made : List ℕ)
+    → bytes ≢ 0 → Gives before a start → RunsOn start bytes left now done → left ≤ 8 → bytes ≡ length done + left
+    → Gives now v next
     → made ≡ done ++ take left (word_bytes v) → (T : Table) (k : Kind) (place : ℕ) → TakesBehind T (run_length k, place) bytes before next (λ P. made ≡ run_at bytes P)
 run_done before start next bytes left a v now done made some address on le count gives is T k place = λ H content rest fine sound at.
     let w = one_of T H (run_address k bytes, place + 1) content rest before (run_some T H k place bytes content some sound) at in

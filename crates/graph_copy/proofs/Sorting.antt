@@ -1,5 +1,7 @@
 -- Fields inserted one before another are those that a stable sort of the reversed list gives.
-use Rattle.std.proofs.Common.{◌≡◌, ◌≢◌, ◌&&◌, ℕ, suc, ◌<◌, ◌≤◌, List, [], ◌∷◌, ◌++◌, length, get_or, filter, reverse, Bool, true, false, not, cond, ◌==◌, refl, sym, ap, subst, ◌∙◌, arith, append-nil, inl, inr}
+use Rattle.std.proofs.Common.{◌≡◌, ◌≢◌, ◌&&◌, ℕ, suc, ◌<◌, ◌≤◌, List, [], ◌∷◌, ◌++◌, length, get_or, filter, reverse}
+use Rattle.std.proofs.Common.{Bool, true, false, not, cond, ◌==◌, refl, sym, ap, subst, ◌∙◌, arith, append-nil, inl}
+use Rattle.std.proofs.Common.{inr}
 use Rattle.std.specs.Prelude.{nat_lt}
 use Rattle.std.specs.Ordering.{nat_cmp, is_lt}
 use Rattle.std.specs.List.Sorted.{ties, IsNonDecreasingBy, IsStableByKey}
@@ -29,7 +31,9 @@ put_all (x ∷ xs) = put_in x (put_all xs)
 node-put : (x : Part) (ys : List Part) → node_of (put_in x ys) ≡ insert_field x.0 (content_of x.1) (node_of ys)
 node-put x [] = refl
 node-put x (y ∷ ys) =
-    elim (nat_lt x.0 y.0) as (λ b. node_of (cond b (x ∷ y ∷ ys) (y ∷ put_in x ys)) ≡ cond b (field x.0 (content_of x.1) (node_of (y ∷ ys))) (field y.0 (content_of y.1) (insert_field x.0 (content_of x.1) (node_of ys)))) [
+    elim (nat_lt x.0 y.0) as (λ b. node_of (cond b (x ∷ y ∷ ys) (y ∷ put_in x ys))
+    ≡ cond b (field x.0 (content_of x.1) (node_of (y ∷ ys)))
+    (field y.0 (content_of y.1) (insert_field x.0 (content_of x.1) (node_of ys)))) [
       | true ↦ refl
       | false ↦ ap (field y.0 (content_of y.1)) (node-put x ys)
     ]
@@ -70,7 +74,8 @@ alone n x = cond (x.0 == n) (x ∷ []) []
 in_front : (n : ℕ) (x : Part) (zs : List Part) → (x.0 ≡ n → zs ≡ []) → cond (x.0 == n) (x ∷ zs) zs ≡ zs ++ alone n x
 in_front n x zs none =
     elim (eqb_tells x.0 n) [
-      | inl same ↦ ap (λ b. cond b (x ∷ zs) zs) same.0 ∙ ap (λ ws. x ∷ ws) (none same.1) ∙ sym (ap (λ ws. ws ++ alone n x) (none same.1) ∙ ap (λ b. cond b (x ∷ []) []) same.0)
+      | inl same ↦ ap (λ b. cond b (x ∷ zs) zs) same.0 ∙ ap (λ ws. x ∷ ws) (none same.1)
+          ∙ sym (ap (λ ws. ws ++ alone n x) (none same.1) ∙ ap (λ b. cond b (x ∷ []) []) same.0)
       | inr other ↦ ap (λ b. cond b (x ∷ zs) zs) other.0 ∙ sym (ap (λ b. zs ++ cond b (x ∷ []) []) other.0 ∙ append-nil zs)
     ]
 
@@ -78,28 +83,37 @@ of-put : (n least : ℕ) (x : Part) (ys : List Part) → NeverFall least ys → 
 of-put n least x [] h = refl
 of-put n least x (y ∷ ys) h =
     elim (leb_tells (suc x.0) y.0) [
-      | inl lt ↦ ap (λ b. of_number n (cond b (x ∷ y ∷ ys) (y ∷ put_in x ys))) lt.0 ∙ in_front n x (of_number n (y ∷ ys)) (λ e. none-below n y.0 (y ∷ ys) (omega (arith, lt.1, e)) (omega arith, h.1))
+      | inl lt ↦ ap (λ b. of_number n (cond b (x ∷ y ∷ ys) (y ∷ put_in x ys))) lt.0
+          ∙ in_front n x (of_number n (y ∷ ys)) (λ e. none-below n y.0 (y ∷ ys) (omega (arith, lt.1, e)) (
+            omega arith,
+            h.1,
+          ))
       | inr ge ↦ ap (λ b. of_number n (cond b (x ∷ y ∷ ys) (y ∷ put_in x ys))) ge.0
           ∙ ap (λ zs. cond (y.0 == n) (y ∷ zs) zs) (of-put n y.0 x ys h.1)
-          ∙ elim (y.0 == n) as (λ b. cond b (y ∷ (of_number n ys ++ alone n x)) (of_number n ys ++ alone n x) ≡ cond b (y ∷ of_number n ys) (of_number n ys) ++ alone n x) [ true ↦ refl | false ↦ refl ]
+          ∙ elim (y.0 == n) as (λ b. cond b (y ∷ (of_number n ys ++ alone n x)) (of_number n ys ++ alone n x)
+          ≡ cond b (y ∷ of_number n ys) (of_number n ys) ++ alone n x) [ true ↦ refl | false ↦ refl ]
     ]
 
 of-append : (n : ℕ) (xs ys : List Part) → of_number n (xs ++ ys) ≡ of_number n xs ++ of_number n ys
 of-append n [] ys = refl
 of-append n (x ∷ xs) ys =
     ap (λ zs. cond (x.0 == n) (x ∷ zs) zs) (of-append n xs ys)
-    ∙ elim (x.0 == n) as (λ b. cond b (x ∷ (of_number n xs ++ of_number n ys)) (of_number n xs ++ of_number n ys) ≡ cond b (x ∷ of_number n xs) (of_number n xs) ++ of_number n ys) [ true ↦ refl | false ↦ refl ]
+    ∙ elim (x.0 == n) as (λ b. cond b (x ∷ (of_number n xs ++ of_number n ys)) (of_number n xs ++ of_number n ys)
+    ≡ cond b (x ∷ of_number n xs) (of_number n xs) ++ of_number n ys) [ true ↦ refl | false ↦ refl ]
 
 of-all : (n : ℕ) (xs : List Part) → of_number n (put_all xs) ≡ of_number n (reverse xs)
 of-all n [] = refl
-of-all n (x ∷ xs) = of-put n 0 x (put_all xs) (fall-all xs) ∙ ap (λ zs. zs ++ alone n x) (of-all n xs) ∙ sym (of-append n (reverse xs) (x ∷ [])) ∙ ap (of_number n) (sym (reverse-append (x ∷ []) xs))
+of-all n (x ∷ xs) = of-put n 0 x (put_all xs) (fall-all xs) ∙ ap (λ zs. zs ++ alone n x) (of-all n xs)
+    ∙ sym (of-append n (reverse xs) (x ∷ [])) ∙ ap (of_number n) (sym (reverse-append (x ∷ []) xs))
 
 -- parts that never fall, of which each number has the same, are the same
 same-tail : (x y : Part) (xs ys : List Part) → x ≡ y → ((n : ℕ) → of_number n (x ∷ xs) ≡ of_number n (y ∷ ys)) → (n : ℕ) → of_number n xs ≡ of_number n ys
 same-tail x y xs ys head all n =
     let both : of_number n (x ∷ xs) ≡ of_number n (x ∷ ys) = all n ∙ ap (λ z. of_number n (z ∷ ys)) (sym head) in
     elim (eqb_tells x.0 n) [
-      | inl same ↦ let e : x ∷ of_number n xs ≡ x ∷ of_number n ys = sym (ap (λ b. cond b (x ∷ of_number n xs) (of_number n xs)) same.0) ∙ both ∙ ap (λ b. cond b (x ∷ of_number n ys) (of_number n ys)) same.0 in cc
+      | inl same ↦ let e : x ∷ of_number n xs ≡ x ∷ of_number n ys =
+          sym (ap (λ b. cond b (x ∷ of_number n xs) (of_number n xs)) same.0) ∙ both
+          ∙ ap (λ b. cond b (x ∷ of_number n ys) (of_number n ys)) same.0 in cc
       | inr other ↦ sym (ap (λ b. cond b (x ∷ of_number n xs) (of_number n xs)) other.0) ∙ both ∙ ap (λ b. cond b (x ∷ of_number n ys) (of_number n ys)) other.0
     ]
 
@@ -129,7 +143,11 @@ unique (x ∷ xs) (y ∷ ys) a b hx hy all =
 fall-from : (least : ℕ) (xs : List Part) → ((d : Part) → 0 < length xs → least ≤ (get_or xs 0 d).0) → IsNonDecreasingBy (λ p. p.0) xs → NeverFall least xs
 fall-from least [] first h = tt
 fall-from least (x ∷ []) first h = (first x (omega arith), tt)
-fall-from least (x ∷ y ∷ ys) first h = (first x (omega arith), fall-from x.0 (y ∷ ys) (λ d w. h 0 1 d (omega arith) (omega arith)) (λ i j d le w. h (suc i) (suc j) d (omega arith) (omega arith)))
+fall-from least (x ∷ y ∷ ys) first h = (
+  first x (omega arith),
+  fall-from x.0 (y ∷ ys) (λ d w. h 0 1 d (omega arith) (omega arith))
+      (λ i j d le w. h (suc i) (suc j) d (omega arith) (omega arith)),
+)
 
 abbrev below : Part → Part → Bool
 below x y = is_lt (nat_cmp x.0 y.0)
@@ -144,11 +162,17 @@ of-ties : (n : ℕ) (v : FieldValue) (xs : List Part) → of_number n xs ≡ fil
 of-ties n v [] = refl
 of-ties n v (x ∷ xs) =
     elim (eqb_tells x.0 n) [
-      | inl same ↦ ap (λ b. cond b (x ∷ of_number n xs) (of_number n xs)) same.0 ∙ ap (λ zs. x ∷ zs) (of-ties n v xs) ∙ sym (ap (λ b. cond b (x ∷ filter (ties below (n, v)) xs) (filter (ties below (n, v)) xs)) (ties-same x.0 n same.1))
-      | inr other ↦ ap (λ b. cond b (x ∷ of_number n xs) (of_number n xs)) other.0 ∙ of-ties n v xs ∙ sym (ap (λ b. cond b (x ∷ filter (ties below (n, v)) xs) (filter (ties below (n, v)) xs)) (ties-differ x.0 n other.1))
+      | inl same ↦ ap (λ b. cond b (x ∷ of_number n xs) (of_number n xs)) same.0 ∙ ap (λ zs. x ∷ zs) (of-ties n v xs)
+          ∙ sym (ap (λ b. cond b (x ∷ filter (ties below (n, v)) xs) (filter (ties below (n, v)) xs))
+          (ties-same x.0 n same.1))
+      | inr other ↦ ap (λ b. cond b (x ∷ of_number n xs) (of_number n xs)) other.0 ∙ of-ties n v xs
+          ∙ sym (ap (λ b. cond b (x ∷ filter (ties below (n, v)) xs) (filter (ties below (n, v)) xs))
+          (ties-differ x.0 n other.1))
     ]
 
-pub sorted-inserted : (fields backwards sorted : List (ℕ × FieldValue)) → backwards ≡ reverse fields → IsNonDecreasingBy (λ p. p.0) sorted → IsStableByKey (λ p. p.0) nat_cmp backwards sorted → node_of sorted ≡ insert_all fields no_fields
+pub sorted-inserted : (fields backwards sorted : List (ℕ × FieldValue)) → backwards ≡ reverse fields
+    → IsNonDecreasingBy (λ p. p.0) sorted → IsStableByKey (λ p. p.0) nat_cmp backwards sorted
+    → node_of sorted ≡ insert_all fields no_fields
 sorted-inserted fields backwards sorted turned rises stable =
     let same : (n : ℕ) → of_number n sorted ≡ of_number n (put_all fields) = λ n.
     of-ties n (One (Number 0)) sorted ∙ stable (n, One (Number 0)) ∙ sym (of-ties n (One (Number 0)) backwards) ∙ ap (of_number n) turned ∙ sym (of-all n fields) in

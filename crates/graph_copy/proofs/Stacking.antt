@@ -13,12 +13,15 @@ stack_push T [] f = sym (append-nil (frame_words T f))
 stack_push T (g ∷ fs) f = ap (λ es. es ++ frame_words T g) (stack_push T fs f) ∙ append_assoc (frame_words T f) (stack_words T fs) (frame_words T g)
 
 -- the last frame was taken
-pub stack_pop : (T : Table) (before after : List Frame) (f : Frame) (all : Expected) → before ≡ after ++ f ∷ [] → stack_words T before ≡ all → frame_words T f ++ stack_words T after ≡ all
+pub stack_pop : (T : Table) (before after : List Frame) (f : Frame) (all : Expected) → before ≡ after ++ f ∷ []
+    → stack_words T before ≡ all → frame_words T f ++ stack_words T after ≡ all
 stack_pop T before after f all popped is = sym (stack_push T after f) ∙ ap (stack_words T) (sym popped) ∙ is
 
 -- its first word was found
 pub first_found : (T : Table) (f : Frame) (before after : List Frame) (found : Option (Role × ℕ)) (w : Role × ℕ) (all : Expected) (run : Option RunWord) (bytes : List ℕ)
-    → frame_words T f ++ stack_words T before ≡ all → found ≡ Some w → run ≡ None → Opens T (frame_words T f) before after found → all ≡ (role_of T w.0, w.1) ∷ (run_next run bytes ++ stack_words T after)
+    → frame_words T f ++ stack_words T before ≡ all → found ≡ Some w → run ≡ None
+    → Opens T (frame_words T f) before after found
+    → all ≡ (role_of T w.0, w.1) ∷ (run_next run bytes ++ stack_words T after)
 first_found T f before after found w all run bytes is some no_run opens =
     let opened = subst (Opens T (frame_words T f) before after) some opens in
     sym is ∙ opened ∙ ap (λ r. (role_of T w.0, w.1) ∷ (run_next r bytes ++ stack_words T after)) (sym no_run)

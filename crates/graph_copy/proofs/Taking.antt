@@ -24,10 +24,12 @@ pub record FirstOf (T : Table) (H : ℕ) (e : Use × ℕ) (es : Expected) (P : P
   pub is : P ≡ first (word e.1 number content) others
   pub now_is : now ≡ (e.1, number) ∷ (loads content ++ (loads others ++ rest))
 
-first_loads : (place v : ℕ) (content others : Placed) (rest : List (ℕ × ℕ)) → loads (first (word place v content) others) ++ rest ≡ (place, v) ∷ (loads content ++ (loads others ++ rest))
+first_loads : (place v : ℕ) (content others : Placed) (rest : List (ℕ × ℕ))
+    → loads (first (word place v content) others) ++ rest ≡ (place, v) ∷ (loads content ++ (loads others ++ rest))
 first_loads place v content others rest = ap (λ xs. (place, v) ∷ xs) (append_assoc (loads content) (loads others) rest)
 
-pub first_of : (T : Table) (H : ℕ) (e : Use × ℕ) (es : Expected) (P : Placed) (rest now : List (ℕ × ℕ)) → AreSound T H (e ∷ es) P → now ≡ loads P ++ rest → FirstOf T H e es P rest now
+pub first_of : (T : Table) (H : ℕ) (e : Use × ℕ) (es : Expected) (P : Placed) (rest now : List (ℕ × ℕ))
+    → AreSound T H (e ∷ es) P → now ≡ loads P ++ rest → FirstOf T H e es P rest now
 first_of T H e es nothing rest now sound is = absurd sound
 first_of T H e es (first (word place v content) others) rest now sound is = record {
   number = v;

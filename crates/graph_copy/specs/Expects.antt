@@ -1,4 +1,4 @@
--- What the reader expects of a graph, in the words of the layout.
+-- The code's own: what the reader expects of a graph, in the words of the layout.
 use Rattle.std.specs.Prelude.{ℕ, ◌+◌, ◌-◌, ◌≤◌, List, [], ◌∷◌, ◌++◌, drop, Option, Some, None}
 use Rattle.mrpc_table.specs.Normal.{fields_of}
 use Rattle.mrpc_table.specs.declared.table.Table.{Table}

@@ -1,4 +1,4 @@
--- What a word that was loaded leads to.
+-- The code's own: what a word that was loaded leads to.
 use Rattle.std.specs.Prelude.{◌≡◌, ℕ, ◌++◌, Option, MatchOption}
 use Rattle.mrpc_table.specs.declared.table.Table.{Table}
 use Rattle.graph_form.specs.declared.reason.Reason.{Reason}

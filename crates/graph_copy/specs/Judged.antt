@@ -1,4 +1,4 @@
--- What is found of a word that was loaded.
+-- The code's own: what is found of a word that was loaded.
 use Rattle.std.specs.Prelude.{◌≡◌, ℕ, List, Option, Some, MatchOption}
 use Rattle.mrpc_table.specs.Normal.{field_at}
 use Rattle.mrpc_table.specs.declared.table.Field.{Field}

@@ -1,4 +1,4 @@
--- What is made from the loads of sound words.
+-- The code's own: what is made from the loads of sound words.
 use Rattle.std.specs.Prelude.{◌≡◌, ◌<◌, ◌^◌, ℕ, List, [], ◌∷◌, ◌++◌}
 use Rattle.mrpc_table.specs.Node.{Node}
 use Rattle.mrpc_table.specs.View.{content_of}

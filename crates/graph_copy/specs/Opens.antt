@@ -1,4 +1,4 @@
--- The first word of some that were expected.
+-- The code's own: the first word of some that were expected.
 use Rattle.std.specs.Prelude.{◌≡◌, ℕ, List, [], ◌∷◌, ◌++◌, Option, MatchOption}
 use Rattle.mrpc_table.specs.declared.table.Table.{Table}
 use Rattle.graph_form.specs.Roles.{Expected}

@@ -1,4 +1,4 @@
--- How the values of a kind lie in words.
+-- The code's own: how the values of a kind lie in words.
 use Rattle.mrpc_table.specs.declared.table.Kind.{Kind}
 use Rattle.mrpc_table.specs.declared.table.Kind.TheVariants.{Text, Octets, Message as OfMessage}
 use Rattle.graph_copy.specs.declared.role.Shape.{Shape}

@@ -1,4 +1,4 @@
--- Where the loading of some expected words stops before their end.
+-- The code's own: where the loading of some expected words stops before their end.
 use Rattle.std.specs.Prelude.{◌≡◌, ◌<◌, ◌^◌, ℕ, List, [], ◌∷◌, ◌++◌, length}
 use Rattle.mrpc_table.specs.declared.table.Table.{Table}
 use Rattle.graph_form.specs.declared.reason.Reason.{Reason}

@@ -1,4 +1,4 @@
--- What a stack of frames stands for.
+-- The code's own: what a stack of frames stands for.
 use Rattle.std.specs.Prelude.{List, [], ◌∷◌, Option, Some, None}
 use Rattle.graph_copy.specs.declared.walk.Frame.{Frame}
 

@@ -25,14 +25,14 @@ use mrpc_table::{
 };
 use std::alloc::Global;
 
-/// The loads that are left, each a place and a value.
+// The loads that are left, each a place and a value.
 #[derive(Drop)]
 struct Tape<'a> {
     loads: &'a [(u64, u64)],
 }
 
 impl Tape<'_> {
-    /// The value of the next load.
+    // The value of the next load.
     fn next(&mut self) -> u64
         ensures { (x : ℕ × ℕ) (xs : List (ℕ × ℕ)) → self.old.loads.now ≡ x ∷ xs
             → (result ≡ x.1) × (self.new.loads.now ≡ xs) }
@@ -64,7 +64,7 @@ pub fn make_tree(
     Ok(tree)
 }
 
-/// A node. So many more messages may stand in one another inside.
+// A node. So many more messages may stand in one another inside.
 #[cycle(build)]
 fn node(
     alloc: Global,
@@ -85,7 +85,7 @@ fn node(
     Ok(Tree { fields })
 }
 
-/// The slots of the fields that are no members.
+// The slots of the fields that are no members.
 #[cycle(build)]
 fn slots(
     alloc: Global,
@@ -111,7 +111,7 @@ fn slots(
     Ok(())
 }
 
-/// The slots of the oneofs.
+// The slots of the oneofs.
 #[cycle(build)]
 fn members(
     alloc: Global,
@@ -134,7 +134,7 @@ fn members(
     Ok(())
 }
 
-/// The slot of a oneof.
+// The slot of a oneof.
 #[cycle(build)]
 fn member(
     alloc: Global,
@@ -165,7 +165,7 @@ fn member(
     }
 }
 
-/// Appends what a field has, if it has something.
+// Appends what a field has, if it has something.
 fn keep(found: &mut Numbered, number: u32, content: Option<FieldValue>) -> Result<(), Memory>
     ensures { OnOk result ((t : Node) → insert_all found.new.items t
         ≡ insert_all found.old.items (with_field number (option_map content_of content) t)) }
@@ -176,7 +176,7 @@ fn keep(found: &mut Numbered, number: u32, content: Option<FieldValue>) -> Resul
     Ok(())
 }
 
-/// What a field has by its slot.
+// What a field has by its slot.
 #[cycle(build)]
 fn slot(
     alloc: Global,
@@ -215,7 +215,7 @@ fn slot(
     }
 }
 
-/// The value behind its presence.
+// The value behind its presence.
 fn optional(alloc: Global, tape: &mut Tape<'_>, kind: Kind, first: u64) -> Result<Value, Memory>
     requires { first ≢ 0 }
     ensures { IfOk result (λ v. (T : Table) (place : ℕ)
@@ -228,7 +228,7 @@ fn optional(alloc: Global, tape: &mut Tape<'_>, kind: Kind, first: u64) -> Resul
     }
 }
 
-/// The elements behind their count.
+// The elements behind their count.
 #[cycle(build)]
 fn elements(
     alloc: Global,
@@ -251,7 +251,7 @@ fn elements(
     Ok(values)
 }
 
-/// The entries behind their count, each key once.
+// The entries behind their count, each key once.
 #[cycle(build)]
 fn entries(
     alloc: Global,
@@ -278,7 +278,7 @@ fn entries(
     Ok(kept)
 }
 
-/// The value of a plain slot that must be there.
+// The value of a plain slot that must be there.
 #[cycle(build)]
 fn item(
     alloc: Global,
@@ -297,7 +297,7 @@ fn item(
     Ok(item)
 }
 
-/// The value of a plain slot behind its first word.
+// The value of a plain slot behind its first word.
 #[cycle(build)]
 fn value(
     alloc: Global,
@@ -327,7 +327,7 @@ fn value(
     }
 }
 
-/// So many bytes behind their length.
+// So many bytes behind their length.
 fn run(alloc: Global, tape: &mut Tape<'_>, bytes: u64) -> Result<Bytes, Memory>
     ensures { IfOk result (λ bs. (T : Table) (kind : Kind) (place : ℕ)
         → TakesBehind T (run_length kind, place) bytes tape.old.loads.now tape.new.loads.now

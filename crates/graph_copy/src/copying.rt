@@ -81,7 +81,7 @@ pub fn copy<W: Words>(
     }
 }
 
-/// The copy, where there is room for the loads. They are noted.
+// The copy, where there is room for the loads. They are noted.
 fn copy_graph<W: Words>(
     alloc: Global,
     words: &mut W,
@@ -132,7 +132,7 @@ fn copy_graph<W: Words>(
     }
 }
 
-/// The last load says where the graph is malformed.
+// The last load says where the graph is malformed.
 fn malformed(reason: Reason, loads: &[(u64, u64)]) -> CopyResult
     ensures { (front : List (ℕ × ℕ)) (last : ℕ × ℕ) → loads.now ≡ front ++ last ∷ []
         → result ≡ CopyResult.Malformed reason last.0 last.1 (length loads.now) }

@@ -62,7 +62,7 @@ impl Walk {
         Ok(None)
     }
 
-    /// What stands behind a word that doesn't offend is expected.
+    // What stands behind a word that doesn't offend is expected.
     fn lead(&mut self, table: &Table, role: Role, place: u64, value: u64) -> Result<(), Memory>
         requires valid { IsValid table.now }
         requires size { self.old.size ≤ MAX_HEAP }
@@ -123,7 +123,7 @@ impl Walk {
         }
     }
 
-    /// Expects a word right behind a place, or nothing.
+    // Expects a word right behind a place, or nothing.
     fn expect_if(&mut self, is_there: bool, role: Role, place: u64) -> Result<(), Memory>
         requires room { place + 1 < 2 ^ 64 }
         requires no_run { self.old.run ≡ None }
@@ -249,7 +249,7 @@ impl Walk {
         }
     }
 
-    /// A word of a run: spare bytes are 0, and the bytes of a string are judged with its last word.
+    // A word of a run: spare bytes are 0, and the bytes of a string are judged with its last word.
     fn follow_run(&mut self, run: RunWord, value: u64) -> Result<Option<Reason>, Memory>
         requires no_run { self.old.run ≡ None }
         requires room { run.place + 1 < 2 ^ 64 }
@@ -275,14 +275,14 @@ impl Walk {
     }
 }
 
-/// Whether a byte of the word isn't 0 past the bytes that are left of a run.
+// Whether a byte of the word isn't 0 past the bytes that are left of a run.
 fn has_spare_bytes(left: u64, value: u64) -> bool
     ensures { IsTrue result ↔ ((left < 8) × (2 ^ (8 * left) ≤ value)) }
 {
     left < 8 && value >= 1 << (8 * left)
 }
 
-/// A string is UTF-8.
+// A string is UTF-8.
 fn judge_run(kind: Kind, bytes: &[u8]) -> Option<Reason>
     ensures { Told (kind ≡ Kind.Text → IsUtf8 bytes.now) Reason.Utf8 result }
 {

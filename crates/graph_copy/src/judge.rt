@@ -128,7 +128,7 @@ fn judge_case(table: &Table, message: u32, oneof: u32, value: u64) -> Option<Rea
     }
 }
 
-/// Whether the field of a number is a member of the oneof.
+// Whether the field of a number is a member of the oneof.
 fn has_member(table: &Table, message: u32, oneof: u32, number: u64) -> bool
     requires { IsValid table.now }
     ensures { IsTrue result ↔ IsMember (fields_of table.now message) oneof number }

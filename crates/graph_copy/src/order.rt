@@ -20,7 +20,7 @@ pub fn in_order(fields: Numbered) -> Result<Numbered, Memory>
     Ok(sorted)
 }
 
-/// Whether each number is above the one before it.
+// Whether each number is above the one before it.
 fn ascends(fields: &Numbered) -> bool
     ensures { IsTrue result → node_of fields.now.items ≡ insert_all fields.now.items no_fields }
 {

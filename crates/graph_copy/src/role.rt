@@ -99,7 +99,7 @@ pub fn plain_role(kind: Kind, depth: u32, needed: bool) -> Role
     }
 }
 
-/// The first word of a slot with explicit presence.
+// The first word of a slot with explicit presence.
 fn optional_role(kind: Kind) -> Role
     ensures { (T : Table) → role_of T result ≡ optional_role kind }
 {

@@ -179,7 +179,7 @@ impl Walk {
         Ok(None)
     }
 
-    /// The first word of a frame, whose others are expected before all else.
+    // The first word of a frame, whose others are expected before all else.
     fn open(&mut self, table: &Table, frame: Frame) -> Result<Option<(Role, u64)>, Memory>
         requires valid { IsValid table.now }
         requires fits { AllFit self.old.size (frame_words table.now frame) }

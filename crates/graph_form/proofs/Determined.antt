@@ -1,5 +1,6 @@
 -- What was read of a graph determines what its loads come to.
-use Rattle.std.proofs.Common.{◌≡◌, ⊎_elim, ℕ, ◌+◌, ◌<◌, ◌≤◌, List, [], ◌∷◌, ◌++◌, length, get_or, refl, sym, ap, subst, ◌∙◌, arith, length-append, append-nil}
+use Rattle.std.proofs.Common.{◌≡◌, ⊎_elim, ℕ, ◌+◌, ◌<◌, ◌≤◌, List, [], ◌∷◌, ◌++◌, length, get_or, refl, sym, ap}
+use Rattle.std.proofs.Common.{subst, ◌∙◌, arith, length-append, append-nil}
 use Rattle.std.proofs.lemmas.Bool.{cases_lt}
 use Rattle.std.proofs.lemmas.List.{append_assoc, map-append}
 use Rattle.std.proofs.lemmas.List.Elements.{All-head, All-tail}
@@ -9,7 +10,9 @@ use Rattle.graph_form.specs.declared.reason.Reason.TheVariants.{Address, Presenc
 use Rattle.graph_form.specs.Roles.{Role, Expected, behind, node_words, size_words}
 use Rattle.graph_form.specs.Placed.{Placed, nothing, first, word, loads, LiesIn, IsFine, IsPlaced, IsSound}
 use Rattle.graph_form.specs.Forgotten.{tree_of}
-use Rattle.graph_form.specs.Malformed.{Loaded, words_of, loads_of, AreFine, order_of, OffendsFirst, IsMalformed, no_root, offends, too_many, Outcome, copied, malformed, ComesTo, is_copied, is_malformed, ReadsBy}
+use Rattle.graph_form.specs.Malformed.{Loaded, words_of, loads_of, AreFine, order_of, OffendsFirst, IsMalformed}
+use Rattle.graph_form.specs.Malformed.{no_root, offends, too_many, Outcome, copied, malformed, ComesTo, is_copied}
+use Rattle.graph_form.specs.Malformed.{is_malformed, ReadsBy}
 use Rattle.graph_form.specs.Loading.{LeadsTo}
 use Rattle.graph_form.proofs.Joined.{join, placed-join, words_of-join, placed-sound, sound-leads, loads-same}
 
@@ -24,7 +27,9 @@ record LeadsToWord (T : Table) (H : ℕ) (es : Expected) (before : List Loaded) 
 heads : {X : Type 0} (x y : X) (xs ys : List X) → x ∷ xs ≡ y ∷ ys → (x ≡ y) × (xs ≡ ys)
 heads x y xs ys e = (cc, cc)
 
-leads-to-word : (T : Table) (H : ℕ) (es : Expected) (P : Placed) (before : List Loaded) (next : Loaded) (after : List Loaded) → IsPlaced T H es P → words_of T es P ≡ before ++ next ∷ after → AreFine T H before → LeadsToWord T H es before next
+leads-to-word : (T : Table) (H : ℕ) (es : Expected) (P : Placed) (before : List Loaded) (next : Loaded)
+    (after : List Loaded) → IsPlaced T H es P → words_of T es P ≡ before ++ next ∷ after → AreFine T H before
+    → LeadsToWord T H es before next
 leads-to-word T H [] P [] next after h e fine = absurd (cc)
 leads-to-word T H [] P (b ∷ bs) next after h e fine = absurd (cc)
 leads-to-word T H (f ∷ es) nothing before next after h e fine = absurd h
@@ -60,7 +65,9 @@ record GoesOn (T : Table) (H : ℕ) (reading : ℕ → ℕ → ℕ) (k : ℕ) (f
 pair-same : (x y : ℕ × ℕ) → x.0 ≡ y.0 → x.1 ≡ y.1 → x ≡ y
 pair-same x y e f = ap (λ z. (z, x.1)) e ∙ ap (λ z. (y.0, z)) f
 
-goes-on : (T : Table) (H : ℕ) (reading : ℕ → ℕ → ℕ) (k : ℕ) (es from to : Expected) (xs ys : List (ℕ × ℕ)) → LeadsTo T H es xs from → LeadsTo T H es ys to → ReadsBy reading k xs → ReadsBy reading k ys → length xs ≤ length ys → GoesOn T H reading k from to xs ys
+goes-on : (T : Table) (H : ℕ) (reading : ℕ → ℕ → ℕ) (k : ℕ) (es from to : Expected) (xs ys : List (ℕ × ℕ))
+    → LeadsTo T H es xs from → LeadsTo T H es ys to → ReadsBy reading k xs → ReadsBy reading k ys
+    → length xs ≤ length ys → GoesOn T H reading k from to xs ys
 goes-on T H reading k es from to [] ys h g r s le = record {
   more = ys;
   is = refl;
@@ -108,22 +115,32 @@ none-left T H [] h = refl
 none-left T H (x ∷ more) h = absurd h
 
 -- no load goes on at a word that offends
-stops : (T : Table) (H : ℕ) (reading : ℕ → ℕ → ℕ) (k : ℕ) (e : Role × ℕ) (rest to : Expected) (x : ℕ × ℕ) (more : List (ℕ × ℕ)) (v : ℕ) (reason : Reason) → LeadsTo T H (e ∷ rest) (x ∷ more) to → ReadsBy reading k (x ∷ more) → v ≡ reading k e.1 → OffendsFirst T H e.0 v reason → ⊥
+stops : (T : Table) (H : ℕ) (reading : ℕ → ℕ → ℕ) (k : ℕ) (e : Role × ℕ) (rest to : Expected) (x : ℕ × ℕ)
+    (more : List (ℕ × ℕ)) (v : ℕ) (reason : Reason) → LeadsTo T H (e ∷ rest) (x ∷ more) to
+    → ReadsBy reading k (x ∷ more) → v ≡ reading k e.1 → OffendsFirst T H e.0 v reason → ⊥
 stops T H reading k e rest to x more v reason h r is bad =
     let same : x.1 ≡ v = r.0 ∙ ap (reading k) h.0 ∙ sym is in
     subst (IsFine T H e.0) same h.2 reason bad.offends
 
-offence-more : (T : Table) (H : ℕ) (reading : ℕ → ℕ → ℕ) (k : ℕ) (e : Role × ℕ) (rest to : Expected) (more : List (ℕ × ℕ)) (v : ℕ) (reason : Reason) → LeadsTo T H (e ∷ rest) more to → ReadsBy reading k more → v ≡ reading k e.1 → OffendsFirst T H e.0 v reason → 0 < length more → ⊥
+offence-more : (T : Table) (H : ℕ) (reading : ℕ → ℕ → ℕ) (k : ℕ) (e : Role × ℕ) (rest to : Expected)
+    (more : List (ℕ × ℕ)) (v : ℕ) (reason : Reason) → LeadsTo T H (e ∷ rest) more to → ReadsBy reading k more
+    → v ≡ reading k e.1 → OffendsFirst T H e.0 v reason → 0 < length more → ⊥
 offence-more T H reading k e rest to [] v reason h r is bad some = omega (arith, some)
 offence-more T H reading k e rest to (x ∷ more) v reason h r is bad some = stops T H reading k e rest to x more v reason h r is bad
 
 -- ---- how loads end
 
 data Ends (T : Table) (H msg address limit : ℕ) (xs : List (ℕ × ℕ)) (o : Outcome) : Type 0 where
-  sound : (P : Placed) → IsSound T H msg address P → LeadsTo T H (node_words T msg 1 address) xs [] → xs ≡ loads P → length xs ≤ limit → o ≡ copied (tree_of T msg P) → Ends T H msg address limit xs o
+  sound : (P : Placed) → IsSound T H msg address P → LeadsTo T H (node_words T msg 1 address) xs [] → xs ≡ loads P
+      → length xs ≤ limit → o ≡ copied (tree_of T msg P) → Ends T H msg address limit xs o
   outside : (LiesIn H address (size_words T msg) → ⊥) → xs ≡ [] → o ≡ malformed Address 0 address → Ends T H msg address limit xs o
-  offence : LiesIn H address (size_words T msg) → (ys : List (ℕ × ℕ)) (e : Role × ℕ) (rest : Expected) (v : ℕ) (reason : Reason) → LeadsTo T H (node_words T msg 1 address) ys (e ∷ rest) → OffendsFirst T H e.0 v reason → xs ≡ ys ++ (e.1, v) ∷ [] → length xs ≤ limit → o ≡ malformed reason e.1 v → Ends T H msg address limit xs o
-  full : LiesIn H address (size_words T msg) → (ys : List (ℕ × ℕ)) (x : ℕ × ℕ) (e : Role × ℕ) (rest : Expected) → LeadsTo T H (node_words T msg 1 address) xs (e ∷ rest) → xs ≡ ys ++ x ∷ [] → length xs ≡ limit → o ≡ malformed Loads x.0 x.1 → Ends T H msg address limit xs o
+  offence : LiesIn H address (size_words T msg)
+      → (ys : List (ℕ × ℕ)) (e : Role × ℕ) (rest : Expected) (v : ℕ) (reason : Reason)
+      → LeadsTo T H (node_words T msg 1 address) ys (e ∷ rest) → OffendsFirst T H e.0 v reason
+      → xs ≡ ys ++ (e.1, v) ∷ [] → length xs ≤ limit → o ≡ malformed reason e.1 v → Ends T H msg address limit xs o
+  full : LiesIn H address (size_words T msg) → (ys : List (ℕ × ℕ)) (x : ℕ × ℕ) (e : Role × ℕ) (rest : Expected)
+      → LeadsTo T H (node_words T msg 1 address) xs (e ∷ rest) → xs ≡ ys ++ x ∷ [] → length xs ≡ limit
+      → o ≡ malformed Loads x.0 x.1 → Ends T H msg address limit xs o
 
 loads-last : (before : List Loaded) (w : Loaded) → loads_of (before ++ w ∷ []) ≡ loads_of before ++ (w.place, w.number) ∷ []
 loads-last before w = map-append (λ (u : Loaded). (u.place, u.number)) before (w ∷ [])
@@ -131,7 +148,9 @@ loads-last before w = map-append (λ (u : Loaded). (u.place, u.number)) before (
 split : {X : Type 0} (before after : List X) (last : X) → (before ++ last ∷ []) ++ after ≡ before ++ last ∷ after
 split before after last = append_assoc before (last ∷ []) after
 
-ends-malformed : (T : Table) (H msg address limit : ℕ) (xs : List (ℕ × ℕ)) (o : Outcome) (reason : Reason) (place v : ℕ) → IsMalformed T H msg address limit xs reason place v → o ≡ malformed reason place v → Ends T H msg address limit xs o
+ends-malformed : (T : Table) (H msg address limit : ℕ) (xs : List (ℕ × ℕ)) (o : Outcome) (reason : Reason)
+    (place v : ℕ) → IsMalformed T H msg address limit xs reason place v → o ≡ malformed reason place v
+    → Ends T H msg address limit xs o
 ends-malformed T H msg address limit xs o reason place v (no_root away none r p w) is =
     outside away none (is ∙ ap (λ z. malformed z place v) r ∙ ap (λ z. malformed Address z v) p ∙ ap (malformed Address 0) w)
 ends-malformed T H msg address limit xs o reason place v (offends before after last begins fine bad few l p w) is =
@@ -146,7 +165,9 @@ ends-malformed T H msg address limit xs o reason place v (too_many before after 
 
 ends : (T : Table) (H msg address limit : ℕ) (xs : List (ℕ × ℕ)) (o : Outcome) → ComesTo T H msg address limit xs o → Ends T H msg address limit xs o
 ends T H msg address limit xs o (is_copied P h l few is) =
-    sound P h (subst (λ z. LeadsTo T H (node_words T msg 1 address) z []) (sym l) (subst (λ es. LeadsTo T H es (loads P) []) (append-nil (node_words T msg 1 address)) (sound-leads T H (node_words T msg 1 address) [] P h.words))) l few is
+    sound P h (subst (λ z. LeadsTo T H (node_words T msg 1 address) z []) (sym l)
+    (subst (λ es. LeadsTo T H es (loads P) []) (append-nil (node_words T msg 1 address))
+    (sound-leads T H (node_words T msg 1 address) [] P h.words))) l few is
 ends T H msg address limit xs o (is_malformed reason place v h is) = ends-malformed T H msg address limit xs o reason place v h is
 
 -- ---- two ends of one reading are one
@@ -177,10 +198,14 @@ Same xs ys o q = (xs ≡ ys) × (o ≡ q)
 
 same-sound : (T : Table) (H msg address : ℕ) (P Q : Placed) → IsSound T H msg address P → IsSound T H msg address Q → loads P ≡ loads Q → P ≡ Q
 same-sound T H msg address P Q h g e =
-    (loads-same T H (node_words T msg 1 address) P Q [] [] (placed-sound T H (node_words T msg 1 address) P h.words) (placed-sound T H (node_words T msg 1 address) Q g.words) (append-nil (loads P) ∙ e ∙ sym (append-nil (loads Q)))).0
+    (loads-same T H (node_words T msg 1 address) P Q [] [] (placed-sound T H (node_words T msg 1 address) P h.words)
+    (placed-sound T H (node_words T msg 1 address) Q g.words)
+    (append-nil (loads P) ∙ e ∙ sym (append-nil (loads Q)))).0
 
 -- a sound tree's loads and those that lead to a further word are not those of one reading, unless the latter go past the limit
-sound-not_led : (T : Table) (H : ℕ) (reading : ℕ → ℕ → ℕ) (es : Expected) (xs ys : List (ℕ × ℕ)) (e : Role × ℕ) (rest : Expected) → LeadsTo T H es xs [] → LeadsTo T H es ys (e ∷ rest) → ReadsBy reading 1 xs → ReadsBy reading 1 ys → length xs ≤ length ys → ⊥
+sound-not_led : (T : Table) (H : ℕ) (reading : ℕ → ℕ → ℕ) (es : Expected) (xs ys : List (ℕ × ℕ)) (e : Role × ℕ)
+    (rest : Expected) → LeadsTo T H es xs [] → LeadsTo T H es ys (e ∷ rest) → ReadsBy reading 1 xs
+    → ReadsBy reading 1 ys → length xs ≤ length ys → ⊥
 sound-not_led T H reading es xs ys e rest h g r s le =
     let on = goes-on T H reading 1 es [] (e ∷ rest) xs ys h g r s le in
     nothing-more T H on.more e rest on.leads
@@ -190,7 +215,10 @@ last-value : (reading : ℕ → ℕ → ℕ) (ys : List (ℕ × ℕ)) (x : ℕ �
 last-value reading ys x r = (reads-front reading 1 ys (x ∷ []) r).1.0
 
 -- loads that end at an offence aren't the front of further ones
-offence-last : (T : Table) (H : ℕ) (reading : ℕ → ℕ → ℕ) (es to : Expected) (ys zs : List (ℕ × ℕ)) (e : Role × ℕ) (rest : Expected) (v : ℕ) (reason : Reason) → LeadsTo T H es ys (e ∷ rest) → OffendsFirst T H e.0 v reason → ReadsBy reading 1 (ys ++ (e.1, v) ∷ []) → LeadsTo T H es zs to → ReadsBy reading 1 zs → length ys < length zs → ⊥
+offence-last : (T : Table) (H : ℕ) (reading : ℕ → ℕ → ℕ) (es to : Expected) (ys zs : List (ℕ × ℕ)) (e : Role × ℕ)
+    (rest : Expected) (v : ℕ) (reason : Reason) → LeadsTo T H es ys (e ∷ rest) → OffendsFirst T H e.0 v reason
+    → ReadsBy reading 1 (ys ++ (e.1, v) ∷ []) → LeadsTo T H es zs to → ReadsBy reading 1 zs → length ys < length zs
+    → ⊥
 offence-last T H reading es to ys zs e rest v reason h bad r g s less =
     let front = reads-front reading 1 ys ((e.1, v) ∷ []) r in
     let on = goes-on T H reading 1 es (e ∷ rest) to ys zs h g front.0 s (omega (arith, less)) in
@@ -198,7 +226,11 @@ offence-last T H reading es to ys zs e rest v reason h bad r g s less =
     offence-more T H reading (1 + length ys) e rest to on.more v reason on.leads on.reads front.1.0 bad (omega (arith, long, less))
 
 -- two offences of one reading, the second no earlier
-same-offence : (T : Table) (H : ℕ) (reading : ℕ → ℕ → ℕ) (es : Expected) (ys zs : List (ℕ × ℕ)) (e f : Role × ℕ) (rest more : Expected) (v u : ℕ) (r q : Reason) → LeadsTo T H es ys (e ∷ rest) → OffendsFirst T H e.0 v r → ReadsBy reading 1 (ys ++ (e.1, v) ∷ []) → LeadsTo T H es zs (f ∷ more) → OffendsFirst T H f.0 u q → ReadsBy reading 1 (zs ++ (f.1, u) ∷ []) → length ys ≤ length zs → Same (ys ++ (e.1, v) ∷ []) (zs ++ (f.1, u) ∷ []) (malformed r e.1 v) (malformed q f.1 u)
+same-offence : (T : Table) (H : ℕ) (reading : ℕ → ℕ → ℕ) (es : Expected) (ys zs : List (ℕ × ℕ)) (e f : Role × ℕ)
+    (rest more : Expected) (v u : ℕ) (r q : Reason) → LeadsTo T H es ys (e ∷ rest) → OffendsFirst T H e.0 v r
+    → ReadsBy reading 1 (ys ++ (e.1, v) ∷ []) → LeadsTo T H es zs (f ∷ more) → OffendsFirst T H f.0 u q
+    → ReadsBy reading 1 (zs ++ (f.1, u) ∷ []) → length ys ≤ length zs
+    → Same (ys ++ (e.1, v) ∷ []) (zs ++ (f.1, u) ∷ []) (malformed r e.1 v) (malformed q f.1 u)
 same-offence T H reading es ys zs e f rest more v u r q h bad s g worse t le =
     let front = reads-front reading 1 ys ((e.1, v) ∷ []) s in
     let behind = reads-front reading 1 zs ((f.1, u) ∷ []) t in
@@ -218,7 +250,10 @@ same-offence T H reading es ys zs e f rest more v u r q h bad s g worse t le =
     (cases_lt (length ys) (length zs))
 
 -- two readings that end at the limit
-same-full : (T : Table) (H : ℕ) (reading : ℕ → ℕ → ℕ) (es : Expected) (xs ys us vs : List (ℕ × ℕ)) (x y : ℕ × ℕ) (p q : Role × ℕ) (rest more : Expected) → LeadsTo T H es xs (p ∷ rest) → LeadsTo T H es ys (q ∷ more) → ReadsBy reading 1 xs → ReadsBy reading 1 ys → length xs ≡ length ys → xs ≡ us ++ x ∷ [] → ys ≡ vs ++ y ∷ [] → Same xs ys (malformed Loads x.0 x.1) (malformed Loads y.0 y.1)
+same-full : (T : Table) (H : ℕ) (reading : ℕ → ℕ → ℕ) (es : Expected) (xs ys us vs : List (ℕ × ℕ)) (x y : ℕ × ℕ)
+    (p q : Role × ℕ) (rest more : Expected) → LeadsTo T H es xs (p ∷ rest) → LeadsTo T H es ys (q ∷ more)
+    → ReadsBy reading 1 xs → ReadsBy reading 1 ys → length xs ≡ length ys → xs ≡ us ++ x ∷ [] → ys ≡ vs ++ y ∷ []
+    → Same xs ys (malformed Loads x.0 x.1) (malformed Loads y.0 y.1)
 same-full T H reading es xs ys us vs x y p q rest more h g r s count xl yl =
     let on = goes-on T H reading 1 es (p ∷ rest) (q ∷ more) xs ys h g r s (omega (arith, count)) in
     let long : length ys ≡ length xs + length on.more = ap length on.is ∙ length-append xs on.more in
@@ -234,14 +269,18 @@ abbrev Expecting : Table → ℕ → ℕ → Expected
 Expecting T msg address = node_words T msg 1 address
 
 -- a sound tree and a malformed graph aren't one reading
-sound-offence : (T : Table) (H : ℕ) (reading : ℕ → ℕ → ℕ) (es : Expected) (xs ys : List (ℕ × ℕ)) (e : Role × ℕ) (rest : Expected) (v : ℕ) (reason : Reason) → LeadsTo T H es xs [] → ReadsBy reading 1 xs → LeadsTo T H es ys (e ∷ rest) → OffendsFirst T H e.0 v reason → ReadsBy reading 1 (ys ++ (e.1, v) ∷ []) → ⊥
+sound-offence : (T : Table) (H : ℕ) (reading : ℕ → ℕ → ℕ) (es : Expected) (xs ys : List (ℕ × ℕ)) (e : Role × ℕ)
+    (rest : Expected) (v : ℕ) (reason : Reason) → LeadsTo T H es xs [] → ReadsBy reading 1 xs
+    → LeadsTo T H es ys (e ∷ rest) → OffendsFirst T H e.0 v reason → ReadsBy reading 1 (ys ++ (e.1, v) ∷ []) → ⊥
 sound-offence T H reading es xs ys e rest v reason h r g bad s =
     ⊎_elim
     (λ less. offence-last T H reading es [] ys xs e rest v reason g bad s h r less)
     (λ no. sound-not_led T H reading es xs ys e rest h g r (reads-front reading 1 ys ((e.1, v) ∷ []) s).0 no)
     (cases_lt (length ys) (length xs))
 
-same-end : (T : Table) (H msg address limit : ℕ) (reading : ℕ → ℕ → ℕ) (xs ys : List (ℕ × ℕ)) (o q : Outcome) → ReadsBy reading 1 xs → ReadsBy reading 1 ys → Ends T H msg address limit xs o → Ends T H msg address limit ys q → Same xs ys o q
+same-end : (T : Table) (H msg address limit : ℕ) (reading : ℕ → ℕ → ℕ) (xs ys : List (ℕ × ℕ)) (o q : Outcome)
+    → ReadsBy reading 1 xs → ReadsBy reading 1 ys → Ends T H msg address limit xs o → Ends T H msg address limit ys q
+    → Same xs ys o q
 same-end T H msg address limit reading xs ys o q r s (sound P h l e few is) (sound Q g m f more js) =
     let es = Expecting T msg address in
     let lists : xs ≡ ys =
@@ -269,7 +308,8 @@ same-end T H msg address limit reading xs ys o q r s (offence root us w rest v r
     let same =
     ⊎_elim
     (λ short. same-offence T H reading es us vs w z rest more v u reason other l bad a m worse b (omega (arith, short)))
-    (λ no. swapped (us ++ (w.1, v) ∷ []) (vs ++ (z.1, u) ∷ []) (malformed reason w.1 v) (malformed other z.1 u) (same-offence T H reading es vs us z w more rest u v other reason m worse b l bad a no))
+    (λ no. swapped (us ++ (w.1, v) ∷ []) (vs ++ (z.1, u) ∷ []) (malformed reason w.1 v) (malformed other z.1 u)
+    (same-offence T H reading es vs us z w more rest u v other reason m worse b l bad a no))
     (cases_lt (length us) (length vs)) in
     (e ∙ same.0 ∙ sym f, is ∙ same.1 ∙ sym js)
 same-end T H msg address limit reading xs ys o q r s (offence root zs w rest v reason l bad e few is) (full there us x z more m f count js) =
@@ -287,6 +327,8 @@ same-end T H msg address limit reading xs ys o q r s (full root us x w rest l e 
     let same = same-full T H reading (Expecting T msg address) xs ys us vs x y w z rest more l m r s (count ∙ sym whole) e f in
     (same.0, is ∙ same.1 ∙ sym js)
 
-pub outcome-determined : (T : Table) (H msg address limit : ℕ) (reading : ℕ → ℕ → ℕ) (xs ys : List (ℕ × ℕ)) (o q : Outcome) → ReadsBy reading 1 xs → ReadsBy reading 1 ys → ComesTo T H msg address limit xs o → ComesTo T H msg address limit ys q → (xs ≡ ys) × (o ≡ q)
+pub outcome-determined : (T : Table) (H msg address limit : ℕ) (reading : ℕ → ℕ
+    → ℕ) (xs ys : List (ℕ × ℕ)) (o q : Outcome) → ReadsBy reading 1 xs → ReadsBy reading 1 ys
+    → ComesTo T H msg address limit xs o → ComesTo T H msg address limit ys q → (xs ≡ ys) × (o ≡ q)
 outcome-determined T H msg address limit reading xs ys o q r s h g =
     same-end T H msg address limit reading xs ys o q r s (ends T H msg address limit xs o h) (ends T H msg address limit ys q g)

@@ -1,5 +1,7 @@
 -- What loads come to that end at a word that offends, or at the limit: a malformed graph.
-use Rattle.std.proofs.Common.{◌≡◌, ◌⊎◌, inl, inr, ⊎_elim, ℕ, zero, suc, ◌+◌, ◌-◌, ◌*◌, ◌/◌, ◌<◌, ◌≤◌, ◌^◌, Bool, true, false, nat_le, cond, List, [], ◌∷◌, ◌++◌, length, take, refl, sym, ap, subst, ◌∙◌, arith, length-append}
+use Rattle.std.proofs.Common.{◌≡◌, ◌⊎◌, inl, inr, ⊎_elim, ℕ, zero, suc, ◌+◌, ◌-◌, ◌*◌, ◌/◌, ◌<◌, ◌≤◌, ◌^◌, Bool, true}
+use Rattle.std.proofs.Common.{false, nat_le, cond, List, [], ◌∷◌, ◌++◌, length, take, refl, sym, ap, subst, ◌∙◌}
+use Rattle.std.proofs.Common.{arith, length-append}
 use Rattle.std.proofs.lemmas.List.{append_assoc, map-append}
 use Rattle.std.proofs.lemmas.List.Elements.{All-nil, All-cons}
 use Rattle.std.proofs.lemmas.Nat.{pow_pos}
@@ -8,12 +10,16 @@ use Rattle.std.proofs.lemmas.Str.{IsUtf8-from_is_utf8, is_utf8-from_IsUtf8}
 use Rattle.std.specs.Str.{IsUtf8, is_utf8}
 use Rattle.mrpc_table.specs.Words.{IsWordForm}
 use Rattle.mrpc_table.specs.declared.table.Kind.{Kind}
-use Rattle.mrpc_table.specs.declared.table.Kind.TheVariants.{Int32, Int64, Uint32, Uint64, Sint32, Sint64, Bool as TheBool, Fixed32, Fixed64, Sfixed32, Sfixed64, Float, Double, Text, Octets, Message, Choice}
+use Rattle.mrpc_table.specs.declared.table.Kind.TheVariants.{Int32, Int64, Uint32, Uint64, Sint32, Sint64}
+use Rattle.mrpc_table.specs.declared.table.Kind.TheVariants.{Bool as TheBool, Fixed32, Fixed64, Sfixed32, Sfixed64}
+use Rattle.mrpc_table.specs.declared.table.Kind.TheVariants.{Float, Double, Text, Octets, Message, Choice}
 use Rattle.mrpc_table.specs.declared.table.Field.{Field}
 use Rattle.mrpc_table.specs.declared.table.Table.{Table}
 use Rattle.graph_form.specs.declared.reason.Reason.{Reason}
 use Rattle.graph_form.specs.declared.reason.Reason.TheVariants.{Address, Presence, Case, Length, Utf8, Narrow, Depth, Loads, NoMethod}
-use Rattle.graph_form.specs.Roles.{Role, value, presence, run_length, run_presence, run_address, run_word, link, count, elements_address, entry_count, entries_address, case_word, Expected, behind, word_bytes, element_words, size_words, node_words}
+use Rattle.graph_form.specs.Roles.{Role, value, presence, run_length, run_presence, run_address, run_word, link}
+use Rattle.graph_form.specs.Roles.{count, elements_address, entry_count, entries_address, case_word, Expected, behind}
+use Rattle.graph_form.specs.Roles.{word_bytes, element_words, size_words, node_words}
 use Rattle.graph_form.specs.Placed.{Placed, nothing, first, word, LiesIn, IsFine, IsFaulty, IsPlaced}
 use Rattle.graph_form.specs.Malformed.{Loaded, words_of, loads_of, AreFine, OffendsFirst, IsMalformed, offends, too_many}
 use Rattle.graph_form.specs.Loading.{LeadsTo}
@@ -59,7 +65,8 @@ nowhere : (H words : ℕ) → LiesIn H 0 words → ⊥
 nowhere H words h = let a = h.from_one in omega (arith, a)
 
 -- no word of a run offends as a number, or is text that isn't UTF-8
-run-fine : (T : Table) (H : ℕ) (k : Kind) (left : ℕ) (before : List ℕ) → (k ≡ Text → left ≤ 8 → IsUtf8 (before ++ take left (word_bytes 0))) → IsFine T H (run_word k left before) 0
+run-fine : (T : Table) (H : ℕ) (k : Kind) (left : ℕ) (before : List ℕ)
+    → (k ≡ Text → left ≤ 8 → IsUtf8 (before ++ take left (word_bytes 0))) → IsFine T H (run_word k left before) 0
 run-fine T H k left before text Narrow bad = let a = pow_pos (8 * left) in let b = bad.1 in omega (arith, a, b)
 run-fine T H Text left before text Utf8 bad = bad.1 (text refl bad.0)
 run-fine T H k left before text Utf8 bad = bad
@@ -71,14 +78,21 @@ run-fine T H k left before text Depth bad = bad
 run-fine T H k left before text Loads bad = bad
 run-fine T H k left before text NoMethod bad = bad
 
-text-zero : (T : Table) (H left : ℕ) (before : List ℕ) (b : Bool) → is_utf8 (before ++ take left (word_bytes 0)) ≡ b → (left ≤ 8) ⊎ (8 < left) → IsEither T H (run_word Text left before) 0
+text-zero : (T : Table) (H left : ℕ) (before : List ℕ) (b : Bool) → is_utf8 (before ++ take left (word_bytes 0)) ≡ b
+    → (left ≤ 8) ⊎ (8 < left) → IsEither T H (run_word Text left before) 0
 text-zero T H left before true is s = inl (run-fine T H Text left before (λ t l. IsUtf8-from_is_utf8 (before ++ take left (word_bytes 0)) is))
 text-zero T H left before false is (inl few) = inr (Utf8, (few, λ good. (let bad : true ≡ false = sym (is_utf8-from_IsUtf8 (before ++ take left (word_bytes 0)) good) ∙ is in cc)))
 text-zero T H left before false is (inr more) = inl (run-fine T H Text left before (λ t l. absurd (omega (arith, more, l))))
 
 -- a word of zero, and whether it offends; nothing is expected behind it but the next word of a run
 run-zero : (T : Table) (H : ℕ) (k : Kind) (left : ℕ) (before : List ℕ) → IsEither T H (run_word k left before) 0
-run-zero T H Text left before = text-zero T H left before (is_utf8 (before ++ take left (word_bytes 0))) refl (elim (nat_le left 8) as (λ b. nat_le left 8 ≡ b → (left ≤ 8) ⊎ (8 < left)) [ true ↦ λ e. inl (grind (arith, nat_tests)) | false ↦ λ e. inr (grind (arith, nat_tests)) ] refl)
+run-zero T H Text left before = text-zero T H left before (is_utf8 (before ++ take left (word_bytes 0))) refl
+    (elim (nat_le left 8) as (λ b. nat_le left 8 ≡ b
+    → (left ≤ 8) ⊎ (8 < left)) [
+      | true ↦ λ e. inl (grind (arith, nat_tests))
+      | false ↦ λ e.
+          inr (grind (arith, nat_tests))
+    ] refl)
 run-zero T H k left before = inl (run-fine T H k left before (λ e l. absurd (cc)))
 
 -- nothing stands behind a word of this role, where it is fine
@@ -127,7 +141,9 @@ no_case T H fs oneof depth _ bad = bad
 abbrev NextOfRun : Kind → ℕ → List ℕ → ℕ → Bool → Expected
 NextOfRun k left before p b = cond b [] ((run_word k (left - 8) (before ++ word_bytes 0), p + 1) ∷ [])
 
-run-behind : (T : Table) (H : ℕ) (k : Kind) (left : ℕ) (before : List ℕ) (p : ℕ) (b : Bool) → Zeroed T H (run_word k (left - 8) (before ++ word_bytes 0)) (p + 1) → (content : Placed) × IsPlaced T H (NextOfRun k left before p b) content
+run-behind : (T : Table) (H : ℕ) (k : Kind) (left : ℕ) (before : List ℕ) (p : ℕ) (b : Bool)
+    → Zeroed T H (run_word k (left - 8) (before ++ word_bytes 0)) (p + 1)
+    → (content : Placed) × IsPlaced T H (NextOfRun k left before p b) content
 run-behind T H k left before p true next = (nothing, tt)
 run-behind T H k left before p false next = (first (word (p + 1) 0 next.content) nothing, (refl, pow_pos 64, next.stands, tt))
 
@@ -135,7 +151,14 @@ run-behind T H k left before p false next = (first (word (p + 1) 0 next.content)
 zero-run : (T : Table) (H : ℕ) (k : Kind) (steps left : ℕ) (before : List ℕ) (p : ℕ) → left ≤ 8 * steps → Zeroed T H (run_word k left before) p
 zero-run T H k zero left before p few =
     ⊎_elim
-    (λ fine. record { content = nothing; stands = inl (fine, (let low : nat_le left 8 ≡ true = grind (arith, nat_tests) in subst (λ b. IsPlaced T H (NextOfRun k left before p b) nothing) (sym low) tt)) })
+    (λ fine. record {
+      content = nothing;
+      stands = inl (
+        fine,
+        (let low : nat_le left 8 ≡ true = grind (arith, nat_tests) in
+            subst (λ b. IsPlaced T H (NextOfRun k left before p b) nothing) (sym low) tt),
+      );
+    })
     (λ faulty. faulty-zero T H (run_word k left before) p faulty)
     (run-zero T H k left before)
 zero-run T H k (suc steps) left before p few =
@@ -212,7 +235,10 @@ loads-last : (before : List Loaded) (w : Loaded) → loads_of (before ++ w ∷ [
 loads-last before w = map-append (λ (u : Loaded). (u.place, u.number)) before (w ∷ [])
 
 -- the loads lead to a word that offends, and it is loaded
-pub ends-at-offence : (T : Table) (H msg address limit : ℕ) (xs : List (ℕ × ℕ)) (e : Role × ℕ) (rest : Expected) (v : ℕ) (reason : Reason) → LiesIn H address (size_words T msg) → LeadsTo T H (node_words T msg 1 address) xs (e ∷ rest) → length xs < limit → v < 2 ^ 64 → OffendsFirst T H e.0 v reason → IsMalformed T H msg address limit (xs ++ (e.1, v) ∷ []) reason e.1 v
+pub ends-at-offence : (T : Table) (H msg address limit : ℕ) (xs : List (ℕ × ℕ)) (e : Role × ℕ) (rest : Expected)
+    (v : ℕ) (reason : Reason) → LiesIn H address (size_words T msg)
+    → LeadsTo T H (node_words T msg 1 address) xs (e ∷ rest) → length xs < limit → v < 2 ^ 64
+    → OffendsFirst T H e.0 v reason → IsMalformed T H msg address limit (xs ++ (e.1, v) ∷ []) reason e.1 v
 ends-at-offence T H msg address limit xs e rest v reason root leads within small bad =
     let some : 0 < H = let a = root.from_one in let b = root.to_end in omega (arith, a, b) in
     let left = some-placed T H rest some in
@@ -249,7 +275,10 @@ ends-with (w ∷ ws) (y ∷ xs) x h =
     record { front = w ∷ rest.front; last = rest.last; is = ap (λ z. w ∷ z) rest.is; place = rest.place; number = rest.number }
 
 -- as many loads as the limit lead to a word that is still expected
-pub ends-at-limit : (T : Table) (H msg address limit : ℕ) (xs : List (ℕ × ℕ)) (x : ℕ × ℕ) (e : Role × ℕ) (rest : Expected) → LiesIn H address (size_words T msg) → LeadsTo T H (node_words T msg 1 address) (xs ++ x ∷ []) (e ∷ rest) → length (xs ++ x ∷ []) ≡ limit → IsMalformed T H msg address limit (xs ++ x ∷ []) Loads x.0 x.1
+pub ends-at-limit : (T : Table) (H msg address limit : ℕ) (xs : List (ℕ × ℕ)) (x : ℕ × ℕ) (e : Role × ℕ)
+    (rest : Expected) → LiesIn H address (size_words T msg)
+    → LeadsTo T H (node_words T msg 1 address) (xs ++ x ∷ []) (e ∷ rest) → length (xs ++ x ∷ []) ≡ limit
+    → IsMalformed T H msg address limit (xs ++ x ∷ []) Loads x.0 x.1
 ends-at-limit T H msg address limit xs x e rest root leads full =
     let some : 0 < H = let a = root.from_one in let b = root.to_end in omega (arith, a, b) in
     let left = some-placed T H rest some in

@@ -1,6 +1,8 @@
 -- What of a valid table the normal form of a graph's tree rests on: in each message the numbers rise, no key is a
 -- message, and the slots stand by ascending number.
-use Rattle.std.proofs.Common.{◌≡◌, ◌≢◌, ℕ, zero, suc, ◌<◌, Bool, List, [], ◌∷◌, length, get_or, All, Some, true, false, cond, if◌then◌else◌, refl, ap, subst, ◌∙◌, arith, slice_get, option_map, unwrap_or}
+use Rattle.std.proofs.Common.{◌≡◌, ◌≢◌, ℕ, zero, suc, ◌<◌, Bool, List, [], ◌∷◌, length, get_or, All, Some, true}
+use Rattle.std.proofs.Common.{false, cond, if◌then◌else◌, refl, ap, subst, ◌∙◌, arith, slice_get, option_map}
+use Rattle.std.proofs.Common.{unwrap_or}
 use Rattle.std.proofs.lemmas.Bool.{eq-eqb, ne_eqb}
 use Rattle.std.proofs.lemmas.List.Elements.{All-head, All-tail}
 use Rattle.mrpc_table.specs.Normal.{fields_of, field_at}
@@ -38,12 +40,17 @@ label-key oneofs label k h key e =
     let goes : GoesWith oneofs (Map key) k = subst (λ (x : Label). GoesWith oneofs x k) e h in
     key-plain key goes
 
-rise-from : (T : Table) (oneofs last : ℕ) (fs : List Field) → All (IsField T oneofs) fs → Ascends (λ f g. f.number < g.number) fs → ((f : Field) → (0 < length fs) → get_or fs 0 f ≡ f → last < f.number) → RiseFrom last fs
+rise-from : (T : Table) (oneofs last : ℕ) (fs : List Field) → All (IsField T oneofs) fs
+    → Ascends (λ f g. f.number < g.number) fs → ((f : Field) → (0 < length fs) → get_or fs 0 f ≡ f → last < f.number)
+    → RiseFrom last fs
 rise-from T oneofs last [] all ascends above = tt
 rise-from T oneofs last (f ∷ []) all ascends above = (above f (omega arith) refl, label-key oneofs f.label f.kind (All-head (IsField T oneofs) f [] all).label, tt)
 rise-from T oneofs last (f ∷ g ∷ fs) all ascends above =
-    let next : (h : Field) → (0 < length (g ∷ fs)) → g ≡ h → f.number < h.number = λ h less e. subst (λ (x : Field). f.number < x.number) e ascends.0 in
-    (above f (omega arith) refl, label-key oneofs f.label f.kind (All-head (IsField T oneofs) f (g ∷ fs) all).label, rise-from T oneofs f.number (g ∷ fs) (All-tail (IsField T oneofs) f (g ∷ fs) all) ascends.1 next)
+    let next : (h : Field) → (0 < length (g ∷ fs)) → g ≡ h → f.number < h.number = λ h less e. subst (λ (x : Field). f.number < x.number) e ascends.0 in (
+      above f (omega arith) refl,
+      label-key oneofs f.label f.kind (All-head (IsField T oneofs) f (g ∷ fs) all).label,
+      rise-from T oneofs f.number (g ∷ fs) (All-tail (IsField T oneofs) f (g ∷ fs) all) ascends.1 next,
+    )
 
 positive : (T : Table) (oneofs : ℕ) (fs : List Field) → All (IsField T oneofs) fs → (f : Field) → (0 < length fs) → get_or fs 0 f ≡ f → 0 < f.number
 positive T oneofs [] all f less e = absurd (omega (arith, less))
@@ -78,7 +85,9 @@ lower-slots : (all : List Field) (last n : ℕ) (slots : List Field) → last < 
 lower-slots all last n [] less h = tt
 lower-slots all last n (f ∷ slots) less h = (let a = h.0 in omega (arith, a, less), h.1, h.2, h.3, h.4)
 
-own-go : (all : List Field) (last : ℕ) (f : Field) (slots : List Field) (b : Bool) → is_member f.label ≡ b → last < f.number → field_at all f.number ≡ Some f → HasPlainKey f.label → SlotsFrom all f.number slots → SlotsFrom all last (cond (if b then false else true) (f ∷ slots) slots)
+own-go : (all : List Field) (last : ℕ) (f : Field) (slots : List Field) (b : Bool) → is_member f.label ≡ b
+    → last < f.number → field_at all f.number ≡ Some f → HasPlainKey f.label → SlotsFrom all f.number slots
+    → SlotsFrom all last (cond (if b then false else true) (f ∷ slots) slots)
 own-go all last f slots true e less at key h = lower-slots all last f.number slots less h
 own-go all last f slots false e less at key h = (less, at, e, key, h)
 

@@ -1,5 +1,7 @@
 -- What stands under words that don't offend: numbers of their kinds, and runs of bytes.
-use Rattle.std.proofs.Common.{◌≡◌, ◌⊎◌, inl, inr, ⊎_elim, ℕ, zero, suc, ◌+◌, ◌-◌, ◌<◌, ◌≤◌, ◌^◌, Bool, true, false, nat_le, cond, List, [], ◌∷◌, ◌++◌, length, take, get_or, All, refl, sym, ap, subst, ◌∙◌, arith, length-append}
+use Rattle.std.proofs.Common.{◌≡◌, ◌⊎◌, inl, inr, ⊎_elim, ℕ, zero, suc, ◌+◌, ◌-◌, ◌<◌, ◌≤◌, ◌^◌, Bool, true, false}
+use Rattle.std.proofs.Common.{nat_le, cond, List, [], ◌∷◌, ◌++◌, length, take, get_or, All, refl, sym, ap, subst, ◌∙◌}
+use Rattle.std.proofs.Common.{arith, length-append}
 use Rattle.std.specs.Str.{IsUtf8, is_utf8}
 use Rattle.std.proofs.lemmas.Bool.{cases_lt}
 use Rattle.std.proofs.lemmas.Bool.Decides.{nat_tests}
@@ -28,7 +30,13 @@ signed : (v : ℕ) → v < 2 ^ 64 → ((IsSigned32 v → ⊥) → ⊥) → IsSig
 signed v small h =
     ⊎_elim
     (λ low. inl low)
-    (λ high. inr (⊎_elim (λ enough. enough) (λ less. absurd (h (λ s. ⊎_elim (λ low. omega (arith, low, high)) (λ top. (let t = top.0 in omega (arith, t, less))) s))) (at-most (2 ^ 64) (v + 2 ^ 31)), small))
+    (λ high. inr (
+      ⊎_elim (λ enough. enough)
+          (λ less. absurd (h
+          (λ s. ⊎_elim (λ low. omega (arith, low, high)) (λ top. (let t = top.0 in omega (arith, t, less))) s)))
+          (at-most (2 ^ 64) (v + 2 ^ 31)),
+      small,
+    ))
     (cases_lt v (2 ^ 31))
 
 utf8-stands : (bytes : List ℕ) → ((IsUtf8 bytes → ⊥) → ⊥) → IsUtf8 bytes
@@ -84,7 +92,8 @@ NextOfRun k left before q v b = cond b [] ((run_word k (left - 8) (before ++ wor
 abbrev OneWord : ℕ → ℕ → Placed → Placed
 OneWord q v c = first (word q v c) nothing
 
-last-word : (T : Table) (H : ℕ) (k : Kind) (left : ℕ) (before : List ℕ) (q v : ℕ) → left ≤ 8 → IsFine T H (run_word k left before) v → IsRunFrom k left before (OneWord q v nothing)
+last-word : (T : Table) (H : ℕ) (k : Kind) (left : ℕ) (before : List ℕ) (q v : ℕ) → left ≤ 8
+    → IsFine T H (run_word k left before) v → IsRunFrom k left before (OneWord q v nothing)
 last-word T H k left before q v few fine = record {
   long = few;
   bytes = All-append IsByte (word_bytes v) [] (word-bytes v) (All-nil IsByte);
@@ -93,16 +102,22 @@ last-word T H k left before q v few fine = record {
       subst (λ z. IsUtf8 (before ++ z)) (sym same) (utf8-stands (before ++ take left (word_bytes v)) (λ no. fine_text Utf8 (few, no))));
 }
 
-more-words : (k : Kind) (left : ℕ) (before : List ℕ) (q v : ℕ) (P : Placed) → 8 < left → IsRunFrom k (left - 8) (before ++ word_bytes v) P → IsRunFrom k left before (OneWord q v P)
+more-words : (k : Kind) (left : ℕ) (before : List ℕ) (q v : ℕ) (P : Placed) → 8 < left
+    → IsRunFrom k (left - 8) (before ++ word_bytes v) P → IsRunFrom k left before (OneWord q v P)
 more-words k left before q v P more rest =
     let far : left ≡ length (word_bytes v) + (left - 8) = omega (arith, more) in
     record {
       long = let a = rest.long in let b = length-append (word_bytes v) (chain_bytes P) in omega (arith, a, b, far);
       bytes = All-append IsByte (word_bytes v) (chain_bytes P) (word-bytes v) rest.bytes;
-      text = λ e. subst IsUtf8 (append_assoc before (word_bytes v) (take (left - 8) (chain_bytes P)) ∙ ap (λ z. before ++ z) (sym (take-append-add (word_bytes v) (chain_bytes P) (left - 8))) ∙ ap (λ z. before ++ take z (word_bytes v ++ chain_bytes P)) (sym far)) (rest.text e);
+      text = λ e. subst IsUtf8 (append_assoc before (word_bytes v) (take (left - 8) (chain_bytes P))
+          ∙ ap (λ z. before ++ z) (sym (take-append-add (word_bytes v) (chain_bytes P) (left - 8)))
+          ∙ ap (λ z. before ++ take z (word_bytes v ++ chain_bytes P)) (sym far)) (rest.text e);
     }
 
-run-go : (T : Table) (H : ℕ) (k : Kind) (left : ℕ) (before : List ℕ) (q v : ℕ) (P : Placed) (b : Bool) → nat_le left 8 ≡ b → IsFine T H (run_word k left before) v → AreSound T H (NextOfRun k left before q v b) P → (AreSound T H ((run_word k (left - 8) (before ++ word_bytes v), q + 1) ∷ []) P → IsRunFrom k (left - 8) (before ++ word_bytes v) P) → IsRunFrom k left before (OneWord q v P)
+run-go : (T : Table) (H : ℕ) (k : Kind) (left : ℕ) (before : List ℕ) (q v : ℕ) (P : Placed) (b : Bool)
+    → nat_le left 8 ≡ b → IsFine T H (run_word k left before) v → AreSound T H (NextOfRun k left before q v b) P
+    → (AreSound T H ((run_word k (left - 8) (before ++ word_bytes v), q + 1) ∷ []) P
+    → IsRunFrom k (left - 8) (before ++ word_bytes v) P) → IsRunFrom k left before (OneWord q v P)
 run-go T H k left before q v nothing true e fine h next = last-word T H k left before q v (grind (arith, nat_tests)) fine
 run-go T H k left before q v (first w P) true e fine h next = absurd h
 run-go T H k left before q v P false e fine h next = more-words k left before q v P (grind (arith, nat_tests)) (next h)

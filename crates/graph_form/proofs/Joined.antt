@@ -59,7 +59,8 @@ parts-same x y e = (ap (λ z. z.0) e, ap (λ z. z.1) e)
 abbrev Standing : Table → ℕ → Role → ℕ → ℕ → Placed → Type 0
 Standing T H role p v c = (IsFine T H role v × IsPlaced T H (behind T role p v) c) ⊎ (IsFaulty T H role v × (c ≡ nothing))
 
-pub loads-same : (T : Table) (H : ℕ) (es : Expected) (P Q : Placed) (xs ys : List (ℕ × ℕ)) → IsPlaced T H es P → IsPlaced T H es Q → loads P ++ xs ≡ loads Q ++ ys → (P ≡ Q) × (xs ≡ ys)
+pub loads-same : (T : Table) (H : ℕ) (es : Expected) (P Q : Placed) (xs ys : List (ℕ × ℕ)) → IsPlaced T H es P
+    → IsPlaced T H es Q → loads P ++ xs ≡ loads Q ++ ys → (P ≡ Q) × (xs ≡ ys)
 loads-same T H [] nothing nothing xs ys h k e = (refl, e)
 loads-same T H [] nothing (first w Q) xs ys h k e = absurd k
 loads-same T H [] (first w P) Q xs ys h k e = absurd h

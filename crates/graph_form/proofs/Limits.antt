@@ -8,7 +8,8 @@ use Rattle.graph_form.specs.Roles.{Role, run_word}
 use Rattle.graph_form.specs.Placed.{Offends}
 use Rattle.graph_form.specs.Malformed.{IsMalformed, no_root, offends, too_many}
 
-pub few_loads : (T : Table) (H msg address limit : ℕ) (xs : List (ℕ × ℕ)) (reason : Reason) (place value : ℕ) → IsMalformed T H msg address limit xs reason place value → length xs ≤ limit
+pub few_loads : (T : Table) (H msg address limit : ℕ) (xs : List (ℕ × ℕ)) (reason : Reason) (place value : ℕ)
+    → IsMalformed T H msg address limit xs reason place value → length xs ≤ limit
 few_loads T H msg address limit xs reason place value (no_root outside none is at v) = let l : length xs ≡ 0 = ap length none in omega (arith, l)
 few_loads T H msg address limit xs reason place value (offends before after last begins fine first few are at v) = few
 few_loads T H msg address limit xs reason place value (too_many before after last next begins fine full are is at v) = omega (arith, full)
@@ -20,7 +21,8 @@ has_method T H role v = elim role as (λ r. Offends T H r v NoMethod → ⊥) [
   | _ ↦ λ bad. bad
 ]
 
-pub other_reason : (T : Table) (H msg address limit : ℕ) (xs : List (ℕ × ℕ)) (reason : Reason) (place value : ℕ) → IsMalformed T H msg address limit xs reason place value → reason ≡ NoMethod → ⊥
+pub other_reason : (T : Table) (H msg address limit : ℕ) (xs : List (ℕ × ℕ)) (reason : Reason) (place value : ℕ)
+    → IsMalformed T H msg address limit xs reason place value → reason ≡ NoMethod → ⊥
 other_reason T H msg address limit xs reason place value (no_root outside none is at v) e = let wrong : Address ≡ NoMethod = cc in cc
 other_reason T H msg address limit xs reason place value (offends before after last begins fine first few are at v) e =
     has_method T H last.role last.number (subst (Offends T H last.role last.number) e first.offends)

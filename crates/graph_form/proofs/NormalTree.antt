@@ -1,11 +1,15 @@
 -- The tree of a sound placed tree is in normal form.
-use Rattle.std.proofs.Common.{◌≡◌, ◌≢◌, ◌⊎◌, inl, inr, ⊎_elim, ℕ, zero, suc, ◌+◌, ◌-◌, ◌*◌, ◌<◌, ◌≤◌, ◌^◌, Bool, true, false, nat_le, cond, List, [], ◌∷◌, ◌++◌, length, Option, Some, None, refl, sym, ap, subst, ◌∙◌, arith, ◌==◌}
+use Rattle.std.proofs.Common.{◌≡◌, ◌≢◌, ◌⊎◌, inl, inr, ⊎_elim, ℕ, zero, suc, ◌+◌, ◌-◌, ◌*◌, ◌<◌, ◌≤◌, ◌^◌, Bool, true}
+use Rattle.std.proofs.Common.{false, nat_le, cond, List, [], ◌∷◌, ◌++◌, length, Option, Some, None, refl, sym, ap}
+use Rattle.std.proofs.Common.{subst, ◌∙◌, arith, ◌==◌}
 use Rattle.std.specs.Prelude.{option_map, unwrap_or}
 use Rattle.std.specs.List.{AllByRecursion}
 use Rattle.std.proofs.lemmas.Bool.{eqb-false, ne_eqb, cases_lt}
 use Rattle.std.proofs.lemmas.Bool.Decides.{nat_tests, eqb_tells}
 use Rattle.mrpc_table.specs.Node.{Node, no_fields, field, Content, one, many, pairs, Item, number, run, node, Items, no_items, no_pairs}
-use Rattle.mrpc_table.specs.Normal.{fields_of, field_at, membership, members_in, TakesOne, TakesMany, KeysAscend, HasFields, HasContent, IsItem, AreItems, ArePairs, OneMemberEach, depth, content_depth, item_depth, items_depth, pairs_depth, IsNormal, kind_at}
+use Rattle.mrpc_table.specs.Normal.{fields_of, field_at, membership, members_in, TakesOne, TakesMany, KeysAscend}
+use Rattle.mrpc_table.specs.Normal.{HasFields, HasContent, IsItem, AreItems, ArePairs, OneMemberEach, depth}
+use Rattle.mrpc_table.specs.Normal.{content_depth, item_depth, items_depth, pairs_depth, IsNormal, kind_at}
 use Rattle.mrpc_table.specs.Valid.{IsValid}
 use Rattle.mrpc_table.specs.declared.table.Kind.{Kind}
 use Rattle.mrpc_table.specs.declared.table.Kind.TheVariants.{Uint64, Text, Octets, Message as OfMessage}
@@ -15,9 +19,14 @@ use Rattle.mrpc_table.specs.declared.table.Field.{Field}
 use Rattle.mrpc_table.specs.declared.table.Table.{Table}
 use Rattle.mrpc_table.specs.MapEntries.{last_of_each}
 use Rattle.graph_form.specs.declared.reason.Reason.TheVariants.{Address, Case, Depth}
-use Rattle.graph_form.specs.Roles.{value, run_address, link, count, elements_address, entry_count, entries_address, case_word, Expected, behind, plain_role, optional_role, slot_role, is_member, own_slots, oneofs_of, slots_from, cases_from, node_words, elements_from, entries_from, element_words}
+use Rattle.graph_form.specs.Roles.{value, run_address, link, count, elements_address, entry_count, entries_address}
+use Rattle.graph_form.specs.Roles.{case_word, Expected, behind, plain_role, optional_role, slot_role, is_member}
+use Rattle.graph_form.specs.Roles.{own_slots, oneofs_of, slots_from, cases_from, node_words, elements_from}
+use Rattle.graph_form.specs.Roles.{entries_from, element_words}
 use Rattle.graph_form.specs.Placed.{Placed, nothing, first, word, IsFine, AreSound, IsSound}
-use Rattle.graph_form.specs.Forgotten.{insert_field, with_field, run_at, number_at, unless_zero, optional_item, slots_tree, slot_content, with_member, plain_item, elements_at, elements_in, entries_at, entries_in, tree_of}
+use Rattle.graph_form.specs.Forgotten.{insert_field, with_field, run_at, number_at, unless_zero, optional_item}
+use Rattle.graph_form.specs.Forgotten.{slots_tree, slot_content, with_member, plain_item, elements_at, elements_in}
+use Rattle.graph_form.specs.Forgotten.{entries_at, entries_in, tree_of}
 use Rattle.graph_form.proofs.FieldOrder.{IsNoMessage, HasPlainKey, AllRise, all-rise, SlotsFrom, slots-own}
 use Rattle.graph_form.proofs.Forms.{number-form, IsRunAt, run-at, no-run}
 use Rattle.graph_form.proofs.Inserting.{NumbersAre, numbers-weaker, numbers-insert, fields-insert, depth-insert, members_at, members-insert}
@@ -26,8 +35,11 @@ use Rattle.graph_form.proofs.Inserting.{NumbersAre, numbers-weaker, numbers-inse
 abbrev pub KeptAreNormal : Type 0
 KeptAreNormal =
     ((T : Table) (key k : Kind) (es : List (Item × Item)) → AllByRecursion (λ e. IsItem T key e.0 × IsItem T k e.1) es → ArePairs T key k (last_of_each key es))
-    × ((T : Table) (key k : Kind) (es : List (Item × Item)) → ((i : ℕ) → key ≢ OfMessage i) → AllByRecursion (λ e. IsItem T key e.0 × IsItem T k e.1) es → KeysAscend key (last_of_each key es))
-    × ((key : Kind) (room : ℕ) (es : List (Item × Item)) → AllByRecursion (λ e. (item_depth e.0 ≤ room) × (item_depth e.1 ≤ room)) es → pairs_depth (last_of_each key es) ≤ room)
+    × ((T : Table) (key k : Kind) (es : List (Item × Item)) → ((i : ℕ) → key ≢ OfMessage i)
+    → AllByRecursion (λ e. IsItem T key e.0 × IsItem T k e.1) es → KeysAscend key (last_of_each key es))
+    × ((key : Kind) (room : ℕ) (es : List (Item × Item))
+    → AllByRecursion (λ e. (item_depth e.0 ≤ room) × (item_depth e.1 ≤ room)) es
+    → pairs_depth (last_of_each key es) ≤ room)
     × ((key : Kind) (e : Item × Item) (es : List (Item × Item)) → last_of_each key (e ∷ es) ≢ no_pairs)
 
 -- a value in a message that has so many messages below it yet, itself included
@@ -43,7 +55,10 @@ record GoodNode (T : Table) (fs : List Field) (room : ℕ) (Q : ℕ → Type 0) 
   members : OneMemberEach fs t
 
 -- one field more, at a number that isn't there
-insert-good : (T : Table) (fs : List Field) (room : ℕ) (Q R : ℕ → Type 0) (n : ℕ) (c : Content) (t : Node) → ((m : ℕ) → Q m → R m) → R n → 0 < n → HasContent T fs n c → content_depth c ≤ room → NumbersAre (λ m. m ≢ n) t → ((o : ℕ) → members_at fs o n + members_in fs o t ≤ 1) → GoodNode T fs room Q t → GoodNode T fs room R (insert_field n c t)
+insert-good : (T : Table) (fs : List Field) (room : ℕ) (Q R : ℕ → Type 0) (n : ℕ) (c : Content) (t : Node)
+    → ((m : ℕ) → Q m → R m) → R n → 0 < n → HasContent T fs n c → content_depth c ≤ room → NumbersAre (λ m. m ≢ n) t
+    → ((o : ℕ) → members_at fs o n + members_in fs o t ≤ 1) → GoodNode T fs room Q t
+    → GoodNode T fs room R (insert_field n c t)
 insert-good T fs room Q R n c t weaker here some has deep others few h = record {
   fields = fields-insert T fs 0 n c t some has others h.fields;
   depth = depth-insert room n c t deep h.depth;
@@ -115,7 +130,9 @@ run-item T k room bytes P kind h = absurd (⊎_elim (λ e. cc) (λ e. cc) kind)
 
 -- what the words behind an address are, where they are a node
 abbrev NodeFact : Table → ℕ → Placed → Type 0
-NodeFact T H P = (m d q : ℕ) → d ≤ 32 → AreSound T H (node_words T m d q) P → GoodNode T (fields_of T m) (33 - d) (IsMemberOrAbove (fields_of T m) 0) (slots_tree T (fields_of T m) (own_slots (fields_of T m)) P)
+NodeFact T H P = (m d q : ℕ) → d ≤ 32 → AreSound T H (node_words T m d q) P
+    → GoodNode T (fields_of T m) (33 - d) (IsMemberOrAbove (fields_of T m) 0)
+    (slots_tree T (fields_of T m) (own_slots (fields_of T m)) P)
 
 not-equal : (a b : ℕ) → (a == b) ≡ false → a ≢ b
 not-equal a b e = grind (arith, nat_tests)
@@ -127,13 +144,17 @@ not-zero-of : (v : ℕ) → (v == 0) ≡ false → v ≢ 0
 not-zero-of v e = eqb-false v 0 e
 
 -- a run of a length whose address, where there is one, stands behind it
-length-go : (T : Table) (H : ℕ) (k : Kind) (room v q : ℕ) (c : Placed) (b : Bool) → (v == 0) ≡ b → IsRunKind k → AreSound T H (cond b [] ((run_address k v, q + 1) ∷ [])) c → GoodItem T k room (run (run_at v c))
+length-go : (T : Table) (H : ℕ) (k : Kind) (room v q : ℕ) (c : Placed) (b : Bool) → (v == 0) ≡ b → IsRunKind k
+    → AreSound T H (cond b [] ((run_address k v, q + 1) ∷ [])) c → GoodItem T k room (run (run_at v c))
 length-go T H k room v q nothing true e kind h = run-item T k room v nothing kind (subst (λ n. IsRunAt k n nothing) (sym (zero-of v e)) (no-run k))
 length-go T H k room v q (first w c) true e kind h = absurd h
 length-go T H k room v q c false e kind h = run-item T k room v c kind (run-at T H k v (q + 1) [] c h)
 
 -- a message behind its address
-message-go : (T : Table) (H m d : ℕ) (needed : Bool) (q v : ℕ) (c : Placed) (b : Bool) → (v == 0) ≡ b → d ≤ 32 → IsFine T H (link m d needed) v → (v ≡ 0 → needed ≡ true) → AreSound T H (cond b [] (node_words T m (d + 1) v)) c → NodeFact T H c → GoodItem T (OfMessage m) (33 - d) (node (slots_tree T (fields_of T m) (own_slots (fields_of T m)) c))
+message-go : (T : Table) (H m d : ℕ) (needed : Bool) (q v : ℕ) (c : Placed) (b : Bool) → (v == 0) ≡ b → d ≤ 32
+    → IsFine T H (link m d needed) v → (v ≡ 0 → needed ≡ true) → AreSound T H (cond b [] (node_words T m (d + 1) v)) c
+    → NodeFact T H c → GoodItem T (OfMessage m) (33 - d)
+    (node (slots_tree T (fields_of T m) (own_slots (fields_of T m)) c))
 message-go T H m d needed q v c true e low fine there h fact =
     let zero_here : v ≡ 0 = zero-of v e in
     absurd (fine Address (inr (there zero_here), λ lies. (let a = lies.from_one in omega (arith, a, zero_here))))
@@ -144,7 +165,10 @@ message-go T H m d needed q v c false e low fine there h fact =
     record { is = (m, refl, good.fields, good.members); depth = omega (arith, deep, room) }
 
 -- the value of a plain slot whose first word doesn't offend
-plain-good : (T : Table) (H : ℕ) (k : Kind) (d : ℕ) (needed : Bool) (q v : ℕ) (c : Placed) → d ≤ 32 → v < 2 ^ 64 → IsFine T H (plain_role k d needed) v → (v ≡ 0 → needed ≡ true) → AreSound T H (behind T (plain_role k d needed) q v) c → NodeFact T H c → GoodItem T k (33 - d) (plain_item T k (word q v c))
+plain-good : (T : Table) (H : ℕ) (k : Kind) (d : ℕ) (needed : Bool) (q v : ℕ) (c : Placed) → d ≤ 32 → v < 2 ^ 64
+    → IsFine T H (plain_role k d needed) v → (v ≡ 0 → needed ≡ true)
+    → AreSound T H (behind T (plain_role k d needed) q v) c → NodeFact T H c
+    → GoodItem T k (33 - d) (plain_item T k (word q v c))
 plain-good T H Text d needed q v c low small fine there h fact = length-go T H Text (33 - d) v q c (v == 0) refl (inl refl) h
 plain-good T H Octets d needed q v c low small fine there h fact = length-go T H Octets (33 - d) v q c (v == 0) refl (inr refl) h
 plain-good T H (OfMessage m) d needed q v c low small fine there h fact = message-go T H m d needed q v c (v == 0) refl low fine there h fact
@@ -172,7 +196,9 @@ SecondGood T key k room n (first w others) = GoodItem T k room (plain_item T k w
 
 -- what some words are, whatever they were loaded for
 record Facts (T : Table) (H : ℕ) (P : Placed) : Type 0 where
-  slots : (fs slots : List Field) (last k o d q r : ℕ) → d ≤ 32 → SlotsFrom fs last slots → AreSound T H (slots_from slots d q ++ cases_from k fs o d r) P → GoodNode T fs (33 - d) (IsMemberOrAbove fs last) (slots_tree T fs slots P)
+  slots : (fs slots : List Field) (last k o d q r : ℕ) → d ≤ 32 → SlotsFrom fs last slots
+      → AreSound T H (slots_from slots d q ++ cases_from k fs o d r) P
+      → GoodNode T fs (33 - d) (IsMemberOrAbove fs last) (slots_tree T fs slots P)
   cases : (fs : List Field) (k o d r : ℕ) → d ≤ 32 → AreSound T H (cases_from k fs o d r) P → GoodNode T fs (33 - d) (IsMemberFrom fs o) (slots_tree T fs [] P)
   head : (k : Kind) (d q : ℕ) (es : Expected) → d ≤ 32 → AreSound T H ((plain_role k d true, q) ∷ es) P → HeadGood T k (33 - d) P
   elements : (k : Kind) (n d q : ℕ) → d ≤ 32 → AreSound T H (elements_from n k d q) P → GoodElements T k (33 - d) n (elements_in T k P)
@@ -195,7 +221,8 @@ unless-go : (T : Table) (l : Label) (k : Kind) (room v : ℕ) (c : Content) → 
 unless-go T l k room v c h = elim (v == 0) as (λ b. (v == 0) ≡ b → GoodContent T l k room (cond b None (Some c))) [ true ↦ λ e. tt | false ↦ λ e. h e ] refl
 
 -- a run that isn't empty, and a number that isn't 0, are no defaults
-length-not_default : (T : Table) (H : ℕ) (k : Kind) (v q : ℕ) (c : Placed) (b : Bool) → (v == 0) ≡ b → b ≡ false → AreSound T H (cond b [] ((run_address k v, q + 1) ∷ [])) c → run_at v c ≢ []
+length-not_default : (T : Table) (H : ℕ) (k : Kind) (v q : ℕ) (c : Placed) (b : Bool) → (v == 0) ≡ b → b ≡ false
+    → AreSound T H (cond b [] ((run_address k v, q + 1) ∷ [])) c → run_at v c ≢ []
 length-not_default T H k v q c true e f h = absurd (cc)
 length-not_default T H k v q c false e f h = λ empty.
     let long = (run-at T H k v (q + 1) [] c h).long in
@@ -203,7 +230,8 @@ length-not_default T H k v q c false e f h = λ empty.
     not-zero-of v e (omega (arith, long, none))
 
 -- the value of a plain field is no default
-plain-takes : (T : Table) (H : ℕ) (k : Kind) (d q v : ℕ) (c : Placed) → (v == 0) ≡ false → AreSound T H (behind T (plain_role k d false) q v) c → TakesOne Plain (plain_item T k (word q v c))
+plain-takes : (T : Table) (H : ℕ) (k : Kind) (d q v : ℕ) (c : Placed) → (v == 0) ≡ false
+    → AreSound T H (behind T (plain_role k d false) q v) c → TakesOne Plain (plain_item T k (word q v c))
 plain-takes T H Text d q v c e h = length-not_default T H Text v q c (v == 0) refl e h
 plain-takes T H Octets d q v c e h = length-not_default T H Octets v q c (v == 0) refl e h
 plain-takes T H (OfMessage m) d q v c e h = λ no. no
@@ -214,45 +242,66 @@ plain-content T (OfMessage m) q v c = refl
 plain-content T k q v c = refl
 
 -- an optional run: its length and one more stand in front
-optional-go : (T : Table) (H : ℕ) (k : Kind) (room v q : ℕ) (c : Placed) (b : Bool) → nat_le v 1 ≡ b → (v == 0) ≡ false → IsRunKind k → AreSound T H (cond b [] ((run_address k (v - 1), q + 1) ∷ [])) c → GoodItem T k room (run (run_at (v - 1) c))
+optional-go : (T : Table) (H : ℕ) (k : Kind) (room v q : ℕ) (c : Placed) (b : Bool) → nat_le v 1 ≡ b
+    → (v == 0) ≡ false → IsRunKind k → AreSound T H (cond b [] ((run_address k (v - 1), q + 1) ∷ [])) c
+    → GoodItem T k room (run (run_at (v - 1) c))
 optional-go T H k room v q nothing true e f kind h =
     let none : v - 1 ≡ 0 = grind (arith, nat_tests) in
     run-item T k room (v - 1) nothing kind (subst (λ n. IsRunAt k n nothing) (sym none) (no-run k))
 optional-go T H k room v q (first w c) true e f kind h = absurd h
 optional-go T H k room v q c false e f kind h = run-item T k room (v - 1) c kind (run-at T H k (v - 1) (q + 1) [] c h)
 
-presence-go : (T : Table) (H : ℕ) (k : Kind) (room v q : ℕ) (c : Placed) (b : Bool) → (v == 0) ≡ b → b ≡ false → AreSound T H (cond b [] ((value k, q + 1) ∷ [])) c → GoodItem T k room (number (number_at c))
+presence-go : (T : Table) (H : ℕ) (k : Kind) (room v q : ℕ) (c : Placed) (b : Bool) → (v == 0) ≡ b → b ≡ false
+    → AreSound T H (cond b [] ((value k, q + 1) ∷ [])) c → GoodItem T k room (number (number_at c))
 presence-go T H k room v q c true e f h = absurd (cc)
 presence-go T H k room v q nothing false e f h = absurd h
 presence-go T H k room v q (first (word p u i) P) false e f h = number-item T H k room u h.1 h.2
 
-optional-good : (T : Table) (H : ℕ) (k : Kind) (room q v : ℕ) (c : Placed) → (v == 0) ≡ false → AreSound T H (behind T (optional_role k) q v) c → GoodItem T k room (optional_item k v c)
+optional-good : (T : Table) (H : ℕ) (k : Kind) (room q v : ℕ) (c : Placed) → (v == 0) ≡ false
+    → AreSound T H (behind T (optional_role k) q v) c → GoodItem T k room (optional_item k v c)
 optional-good T H Text room q v c e h = optional-go T H Text room v q c (nat_le v 1) refl e (inl refl) h
 optional-good T H Octets room q v c e h = optional-go T H Octets room v q c (nat_le v 1) refl e (inr refl) h
 optional-good T H k room q v c e h = presence-go T H k room v q c (v == 0) refl e h
 
-elements-go : (T : Table) (H : ℕ) (k : Kind) (d q v : ℕ) (c : Placed) (b : Bool) → (v == 0) ≡ b → b ≡ false → d ≤ 32 → AreSound T H (cond b [] ((elements_address k v d, q + 1) ∷ [])) c → Facts T H c → GoodElements T k (33 - d) v (elements_at T k c)
+elements-go : (T : Table) (H : ℕ) (k : Kind) (d q v : ℕ) (c : Placed) (b : Bool) → (v == 0) ≡ b → b ≡ false → d ≤ 32
+    → AreSound T H (cond b [] ((elements_address k v d, q + 1) ∷ [])) c → Facts T H c
+    → GoodElements T k (33 - d) v (elements_at T k c)
 elements-go T H k d q v c true e f low h facts = absurd (cc)
 elements-go T H k d q v c false e f low h facts = facts.elements_at k v d (q + 1) low h
 
-many-good : (T : Table) (H : ℕ) (l : Label) (k : Kind) (d q v : ℕ) (c : Placed) → TakesMany l → (v == 0) ≡ false → d ≤ 32 → AreSound T H (behind T (count k d) q v) c → Facts T H c → GoodContent T l k (33 - d) (Some (many (elements_at T k c)))
+many-good : (T : Table) (H : ℕ) (l : Label) (k : Kind) (d q v : ℕ) (c : Placed) → TakesMany l → (v == 0) ≡ false
+    → d ≤ 32 → AreSound T H (behind T (count k d) q v) c → Facts T H c
+    → GoodContent T l k (33 - d) (Some (many (elements_at T k c)))
 many-good T H l k d q v c takes e low h facts =
     let good = elements-go T H k d q v c (v == 0) refl e low h facts in
     (takes, good.some (not-zero-of v e), good.all, good.depth)
 
-entries-go : (T : Table) (H : ℕ) (key k : Kind) (d q v : ℕ) (c : Placed) (b : Bool) → (v == 0) ≡ b → b ≡ false → d ≤ 32 → AreSound T H (cond b [] ((entries_address key k v d, q + 1) ∷ [])) c → Facts T H c → GoodEntries T key k (33 - d) v (entries_at T key k c)
+entries-go : (T : Table) (H : ℕ) (key k : Kind) (d q v : ℕ) (c : Placed) (b : Bool) → (v == 0) ≡ b → b ≡ false
+    → d ≤ 32 → AreSound T H (cond b [] ((entries_address key k v d, q + 1) ∷ [])) c → Facts T H c
+    → GoodEntries T key k (33 - d) v (entries_at T key k c)
 entries-go T H key k d q v c true e f low h facts = absurd (cc)
 entries-go T H key k d q v c false e f low h facts = facts.entries_at key k v d (q + 1) low h
 
-map-good : (law : KeptAreNormal) (T : Table) (H : ℕ) (key k : Kind) (d q v : ℕ) (c : Placed) → IsNoMessage key → (v == 0) ≡ false → d ≤ 32 → AreSound T H (behind T (entry_count key k d) q v) c → Facts T H c → GoodContent T (Map key) k (33 - d) (Some (pairs (last_of_each key (entries_at T key k c))))
+map-good : (law : KeptAreNormal) (T : Table) (H : ℕ) (key k : Kind) (d q v : ℕ) (c : Placed) → IsNoMessage key
+    → (v == 0) ≡ false → d ≤ 32 → AreSound T H (behind T (entry_count key k d) q v) c → Facts T H c
+    → GoodContent T (Map key) k (33 - d) (Some (pairs (last_of_each key (entries_at T key k c))))
 map-good law T H key k d q v c plain e low h facts =
     let good = entries-go T H key k d q v c (v == 0) refl e low h facts in
     let es = entries_at T key k c in
-    let some = good.some (not-zero-of v e) in
-    (key, refl, subst (λ xs. last_of_each key xs ≢ no_pairs) (sym some.2) (law.3 key some.0 some.1), law.0 T key k es good.all, law.1 T key k es plain good.all, law.2 key (33 - d) es good.depth)
+    let some = good.some (not-zero-of v e) in (
+      key,
+      refl,
+      subst (λ xs. last_of_each key xs ≢ no_pairs) (sym some.2) (law.3 key some.0 some.1),
+      law.0 T key k es good.all,
+      law.1 T key k es plain good.all,
+      law.2 key (33 - d) es good.depth,
+    )
 
 -- what a field has by a slot whose first word doesn't offend
-content-good : (law : KeptAreNormal) (T : Table) (H : ℕ) (l : Label) (k : Kind) (d q v : ℕ) (c : Placed) → AllRise T → d ≤ 32 → is_member l ≡ false → HasPlainKey l → v < 2 ^ 64 → IsFine T H (slot_role l k d) v → AreSound T H (behind T (slot_role l k d) q v) c → Facts T H c → GoodContent T l k (33 - d) (slot_content T l k (word q v c))
+content-good : (law : KeptAreNormal) (T : Table) (H : ℕ) (l : Label) (k : Kind) (d q v : ℕ) (c : Placed) → AllRise T
+    → d ≤ 32 → is_member l ≡ false → HasPlainKey l → v < 2 ^ 64 → IsFine T H (slot_role l k d) v
+    → AreSound T H (behind T (slot_role l k d) q v) c → Facts T H c
+    → GoodContent T l k (33 - d) (slot_content T l k (word q v c))
 content-good law T H Plain k d q v c rise low own key small fine h facts =
     subst (GoodContent T Plain k (33 - d)) (sym (plain-content T k q v c))
     (unless-go T Plain k (33 - d) v (one (plain_item T k (word q v c)))
@@ -269,13 +318,15 @@ content-good law T H (Member o) k d q v c rise low own key small fine h facts = 
 
 -- ---- the fields of a message
 
-content-has : (T : Table) (fs : List Field) (f : Field) (room : ℕ) (c : Content) → field_at fs f.number ≡ Some f → GoodContent T f.label f.kind room (Some c) → HasContent T fs f.number c × (content_depth c ≤ room)
+content-has : (T : Table) (fs : List Field) (f : Field) (room : ℕ) (c : Content) → field_at fs f.number ≡ Some f
+    → GoodContent T f.label f.kind room (Some c) → HasContent T fs f.number c × (content_depth c ≤ room)
 content-has T fs f room (one i) at h = ((f, at, h.0, h.1.is), h.1.depth)
 content-has T fs f room (many is) at h = ((f, at, h.0, h.1, h.2), h.3)
 content-has T fs f room (pairs ps) at h = ((f, h.0, at, h.1, h.2, h.3, h.4), h.5)
 
 -- no number of the fields behind a slot is the slot's
-slot-apart : (fs : List Field) (f : Field) (t : Node) → field_at fs f.number ≡ Some f → is_member f.label ≡ false → NumbersAre (IsMemberOrAbove fs f.number) t → NumbersAre (λ m. m ≢ f.number) t
+slot-apart : (fs : List Field) (f : Field) (t : Node) → field_at fs f.number ≡ Some f → is_member f.label ≡ false
+    → NumbersAre (IsMemberOrAbove fs f.number) t → NumbersAre (λ m. m ≢ f.number) t
 slot-apart fs f t at own h =
     numbers-weaker (IsMemberOrAbove fs f.number) (λ m. m ≢ f.number) t
     (λ n q e. ⊎_elim
@@ -285,7 +336,10 @@ slot-apart fs f t at own h =
     q)
     h
 
-with-slot : (T : Table) (fs : List Field) (last room : ℕ) (f : Field) (o : Option Content) (t : Node) → last < f.number → field_at fs f.number ≡ Some f → is_member f.label ≡ false → GoodContent T f.label f.kind room o → GoodNode T fs room (IsMemberOrAbove fs f.number) t → GoodNode T fs room (IsMemberOrAbove fs last) (with_field f.number o t)
+with-slot : (T : Table) (fs : List Field) (last room : ℕ) (f : Field) (o : Option Content) (t : Node)
+    → last < f.number → field_at fs f.number ≡ Some f → is_member f.label ≡ false
+    → GoodContent T f.label f.kind room o → GoodNode T fs room (IsMemberOrAbove fs f.number) t
+    → GoodNode T fs room (IsMemberOrAbove fs last) (with_field f.number o t)
 with-slot T fs last room f None t less at own h good =
     weaker-good T fs room (IsMemberOrAbove fs f.number) (IsMemberOrAbove fs last) t (λ n q. ⊎_elim (λ m. inl m) (λ above. inr (omega (arith, above, less))) q) good
 with-slot T fs last room f (Some c) t less at own h good =
@@ -324,7 +378,8 @@ label-no_case f Repeated o e h is = let bad : Repeated ≡ Member o = sym e ∙ 
 label-no_case f Packed o e h is = let bad : Packed ≡ Member o = sym e ∙ is in cc
 label-no_case f (Map key) o e h is = let bad : Map key ≡ Member o = sym e ∙ is in cc
 
-case-go : (T : Table) (H : ℕ) (fs : List Field) (o d v : ℕ) (x : Option Field) (b : Bool) → field_at fs v ≡ x → is-case x o ≡ b → v ≢ 0 → IsFine T H (case_word fs o d) v → IsCaseOf fs o v
+case-go : (T : Table) (H : ℕ) (fs : List Field) (o d v : ℕ) (x : Option Field) (b : Bool) → field_at fs v ≡ x
+    → is-case x o ≡ b → v ≢ 0 → IsFine T H (case_word fs o d) v → IsCaseOf fs o v
 case-go T H fs o d v None b at e some fine = absurd (fine Case (some, λ f here l. (let bad : Some f ≡ None = sym here ∙ at in cc)))
 case-go T H fs o d v (Some f) true at e some fine = record { field = f; at = at; label = label-case f f.label o refl e }
 case-go T H fs o d v (Some f) false at e some fine =
@@ -334,7 +389,9 @@ case-of : (T : Table) (H : ℕ) (fs : List Field) (o d v : ℕ) → v ≢ 0 → 
 case-of T H fs o d v some fine = case-go T H fs o d v (field_at fs v) (is-case (field_at fs v) o) refl refl some fine
 
 -- the fields with one member more
-member-good : (T : Table) (fs : List Field) (room o v : ℕ) (i : Item) (t : Node) → v ≢ 0 → IsCaseOf fs o v → GoodItem T (kind_at fs v) room i → GoodNode T fs room (IsMemberFrom fs (o + 1)) t → GoodNode T fs room (IsMemberFrom fs o) (insert_field v (one i) t)
+member-good : (T : Table) (fs : List Field) (room o v : ℕ) (i : Item) (t : Node) → v ≢ 0 → IsCaseOf fs o v
+    → GoodItem T (kind_at fs v) room i → GoodNode T fs room (IsMemberFrom fs (o + 1)) t
+    → GoodNode T fs room (IsMemberFrom fs o) (insert_field v (one i) t)
 member-good T fs room o v i t some case good rest =
     let kind : kind_at fs v ≡ case.field.kind = ap (λ x. unwrap_or (option_map (λ (f : Field). f.kind) x) Uint64) case.at in
     let is : IsItem T case.field.kind i = subst (λ k. IsItem T k i) kind good.is in
@@ -361,7 +418,11 @@ member-good T fs room o v i t some case good rest =
     (eqb_tells o p))
     rest
 
-with_member-go : (T : Table) (H : ℕ) (fs : List Field) (o d p v : ℕ) (c : Placed) (b : Bool) (t : Node) → (v == 0) ≡ b → d ≤ 32 → IsFine T H (case_word fs o d) v → AreSound T H (cond b [] ((plain_role (kind_at fs v) d true, p + 1) ∷ [])) c → Facts T H c → GoodNode T fs (33 - d) (IsMemberFrom fs (o + 1)) t → GoodNode T fs (33 - d) (IsMemberFrom fs o) (with_member T fs (word p v c) t)
+with_member-go : (T : Table) (H : ℕ) (fs : List Field) (o d p v : ℕ) (c : Placed) (b : Bool) (t : Node) → (v == 0) ≡ b
+    → d ≤ 32 → IsFine T H (case_word fs o d) v
+    → AreSound T H (cond b [] ((plain_role (kind_at fs v) d true, p + 1) ∷ [])) c → Facts T H c
+    → GoodNode T fs (33 - d) (IsMemberFrom fs (o + 1)) t
+    → GoodNode T fs (33 - d) (IsMemberFrom fs o) (with_member T fs (word p v c) t)
 with_member-go T H fs o d p v nothing true t e low fine h facts rest =
     weaker-good T fs (33 - d) (IsMemberFrom fs (o + 1)) (IsMemberFrom fs o) t
     (λ n m. record { field = m.field; oneof = m.oneof; at = m.at; label = m.label; from = let a = m.from in omega (arith, a) }) rest
@@ -387,12 +448,17 @@ no-entries T H key k (suc n) d q h = absurd h
 needed : (v : ℕ) → v ≡ 0 → true ≡ true
 needed v e = refl
 
-cases-step : (T : Table) (H p v : ℕ) (c P : Placed) → Facts T H c → Facts T H P → (fs : List Field) (k o d r : ℕ) → d ≤ 32 → AreSound T H (cases_from k fs o d r) (first (word p v c) P) → GoodNode T fs (33 - d) (IsMemberFrom fs o) (slots_tree T fs [] (first (word p v c) P))
+cases-step : (T : Table) (H p v : ℕ) (c P : Placed) → Facts T H c → Facts T H P → (fs : List Field) (k o d r : ℕ)
+    → d ≤ 32 → AreSound T H (cases_from k fs o d r) (first (word p v c) P)
+    → GoodNode T fs (33 - d) (IsMemberFrom fs o) (slots_tree T fs [] (first (word p v c) P))
 cases-step T H p v c P inside behind fs zero o d r low h = absurd h
 cases-step T H p v c P inside behind fs (suc k) o d r low h =
     with_member-go T H fs o d p v c (v == 0) (slots_tree T fs [] P) refl low h.2 h.3 inside (behind.cases fs k (o + 1) d (r + 3) low h.4)
 
-slots-step : (law : KeptAreNormal) (T : Table) (H p v : ℕ) (c P : Placed) → AllRise T → Facts T H c → Facts T H P → (fs slots : List Field) (last k o d q r : ℕ) → d ≤ 32 → SlotsFrom fs last slots → AreSound T H (slots_from slots d q ++ cases_from k fs o d r) (first (word p v c) P) → GoodNode T fs (33 - d) (IsMemberOrAbove fs last) (slots_tree T fs slots (first (word p v c) P))
+slots-step : (law : KeptAreNormal) (T : Table) (H p v : ℕ) (c P : Placed) → AllRise T → Facts T H c → Facts T H P
+    → (fs slots : List Field) (last k o d q r : ℕ) → d ≤ 32 → SlotsFrom fs last slots
+    → AreSound T H (slots_from slots d q ++ cases_from k fs o d r) (first (word p v c) P)
+    → GoodNode T fs (33 - d) (IsMemberOrAbove fs last) (slots_tree T fs slots (first (word p v c) P))
 slots-step law T H p v c P rise inside behind fs [] last k o d q r low from h =
     weaker-good T fs (33 - d) (IsMemberFrom fs o) (IsMemberOrAbove fs last) (slots_tree T fs [] (first (word p v c) P))
     (λ n m. inl (record { field = m.field; oneof = m.oneof; at = m.at; label = m.label; from = omega arith }))
@@ -402,7 +468,9 @@ slots-step law T H p v c P rise inside behind fs (f ∷ slots) last k o d q r lo
     (content-good law T H f.label f.kind d p v c rise low from.2 from.3 h.1 h.2 h.3 inside)
     (behind.slots fs slots f.number k o d (q + 2) r low from.4 h.4)
 
-elements-step : (T : Table) (H p v : ℕ) (c P : Placed) → AllRise T → Facts T H c → Facts T H P → (k : Kind) (n d q : ℕ) → d ≤ 32 → AreSound T H (elements_from n k d q) (first (word p v c) P) → GoodElements T k (33 - d) n (elements_in T k (first (word p v c) P))
+elements-step : (T : Table) (H p v : ℕ) (c P : Placed) → AllRise T → Facts T H c → Facts T H P
+    → (k : Kind) (n d q : ℕ) → d ≤ 32 → AreSound T H (elements_from n k d q) (first (word p v c) P)
+    → GoodElements T k (33 - d) n (elements_in T k (first (word p v c) P))
 elements-step T H p v c P rise inside behind k zero d q low h = absurd h
 elements-step T H p v c P rise inside behind k (suc n) d q low h =
     let i = plain-good T H k d true p v c low h.1 h.2 (needed v) h.3 (node-fact T H c rise inside) in
@@ -410,11 +478,16 @@ elements-step T H p v c P rise inside behind k (suc n) d q low h =
     record { all = (i.is, rest.all); depth = let a = i.depth in let b = rest.depth in omega (arith, a, b); some = λ nz e. cc }
 
 -- a value, and the entries behind it
-second-step : (T : Table) (H p v : ℕ) (c P : Placed) → AllRise T → Facts T H c → Facts T H P → (key k : Kind) (n d at q : ℕ) → d ≤ 32 → AreSound T H ((plain_role k d true, at) ∷ entries_from n key k d q) (first (word p v c) P) → SecondGood T key k (33 - d) n (first (word p v c) P)
+second-step : (T : Table) (H p v : ℕ) (c P : Placed) → AllRise T → Facts T H c → Facts T H P
+    → (key k : Kind) (n d at q : ℕ) → d ≤ 32
+    → AreSound T H ((plain_role k d true, at) ∷ entries_from n key k d q) (first (word p v c) P)
+    → SecondGood T key k (33 - d) n (first (word p v c) P)
 second-step T H p v c P rise inside behind key k n d at q low h =
     (plain-good T H k d true p v c low h.1 h.2 (needed v) h.3 (node-fact T H c rise inside), behind.entries key k n d q low h.4)
 
-entries-step : (T : Table) (H p v : ℕ) (c P : Placed) → AllRise T → Facts T H c → Facts T H P → (key k : Kind) (n d q : ℕ) → d ≤ 32 → AreSound T H (entries_from n key k d q) (first (word p v c) P) → GoodEntries T key k (33 - d) n (entries_in T key k (first (word p v c) P))
+entries-step : (T : Table) (H p v : ℕ) (c P : Placed) → AllRise T → Facts T H c → Facts T H P
+    → (key k : Kind) (n d q : ℕ) → d ≤ 32 → AreSound T H (entries_from n key k d q) (first (word p v c) P)
+    → GoodEntries T key k (33 - d) n (entries_in T key k (first (word p v c) P))
 entries-step T H p v c nothing rise inside behind key k zero d q low h = absurd h
 entries-step T H p v c (first w P) rise inside behind key k zero d q low h = absurd h
 entries-step T H p v c nothing rise inside behind key k (suc n) d q low h = absurd h.4

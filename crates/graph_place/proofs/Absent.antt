@@ -2,7 +2,10 @@
 use Rattle.std.proofs.Common.{◌≡◌, ℕ, ◌+◌, ◌≤◌, false, [], ◌∷◌, ◌++◌, None, refl, arith, inl}
 use Rattle.std.proofs.lemmas.Bool.{true≢false}
 use Rattle.mrpc_table.specs.declared.table.Kind.{Kind}
-use Rattle.mrpc_table.specs.declared.table.Kind.TheVariants.{Int32, Int64, Uint32, Uint64, Sint32, Sint64, Bool as TheBool, Fixed32, Fixed64, Sfixed32, Sfixed64, Float, Double, Text, Octets, Message as OfMessage, Choice}
+use Rattle.mrpc_table.specs.declared.table.Kind.TheVariants.{Int32, Int64, Uint32, Uint64, Sint32, Sint64}
+use Rattle.mrpc_table.specs.declared.table.Kind.TheVariants.{Bool as TheBool, Fixed32, Fixed64, Sfixed32, Sfixed64}
+use Rattle.mrpc_table.specs.declared.table.Kind.TheVariants.{Float, Double, Text, Octets, Message as OfMessage}
+use Rattle.mrpc_table.specs.declared.table.Kind.TheVariants.{Choice}
 use Rattle.mrpc_table.specs.declared.table.Label.{Label}
 use Rattle.mrpc_table.specs.declared.table.Label.TheVariants.{Plain, Optional, Repeated, Packed, Map, Member}
 use Rattle.mrpc_table.specs.declared.table.Table.{Table}
@@ -67,7 +70,8 @@ absent_says T Packed k p fails = refl
 absent_says T (Map key) k p fails = refl
 absent_says T (Member o) k p fails = absurd (true≢false fails)
 
-pub no_slot : (T : Table) (H : ℕ) (l : Label) (k : Kind) (level place c : ℕ) (before after : Loads) → is_member l ≡ false → place + 2 ≤ c → c ≤ H → after ≡ before ++ (place, 0) ∷ []
+pub no_slot : (T : Table) (H : ℕ) (l : Label) (k : Kind) (level place c : ℕ) (before after : Loads)
+    → is_member l ≡ false → place + 2 ≤ c → c ≤ H → after ≡ before ++ (place, 0) ∷ []
     → PutsWord T H (slot_role l k level, place) (place + 2) c c before after (λ w. slot_content T l k w ≡ None)
 no_slot T H l k level place c before after fails slot within put =
     lone_word T H (slot_role l k level) place 0 (place + 2) c before after (λ w. slot_content T l k w ≡ None) (none_behind T l k level place fails) (omega arith)

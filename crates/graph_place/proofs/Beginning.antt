@@ -21,7 +21,8 @@ begun_none T H all a c before Made = record {
 pub joined : (before own now more next : Loads) → now ≡ before ++ own → next ≡ now ++ more → next ≡ before ++ (own ++ more)
 joined before own now more next here there = there ∙ ap (λ xs. xs ++ more) here ∙ append_assoc before own more
 
-pub begun_more : (T : Table) (H : ℕ) (all : Expected) (e : Role × ℕ) (rest : Expected) (a b b2 c d d2 : ℕ) (before now next : Loads) (Made Rest Less : Placed → Type 0) (Here : Word → Type 0)
+pub begun_more : (T : Table) (H : ℕ) (all : Expected) (e : Role × ℕ) (rest : Expected) (a b b2 c d d2 : ℕ)
+    (before now next : Loads) (Made Rest Less : Placed → Type 0) (Here : Word → Type 0)
     → a ≤ b → b ≤ b2 → b2 ≤ c → c ≤ d → d ≤ d2 → e.1 ≡ b
     → Begun T H all (e ∷ rest) a b c d before now Made Rest
     → PutsWord T H e b2 d d2 now next Here
@@ -86,7 +87,8 @@ word_put T H r p v b2 c d before mid next Made Here pb bc cd small fine put puts
   fine = fine;
   sound = puts.sound;
   words = joined before ((p, v) ∷ []) mid (loads puts.placed) next put puts.words;
-  spread = spread_join p (p + 1) b2 c c d ((p, v) ∷ []) (loads puts.placed) (omega arith) pb bc (omega arith) cd (spread_one p (p + 1) c v (omega arith) (omega (arith, pb, bc))) puts.spread;
+  spread = spread_join p (p + 1) b2 c c d ((p, v) ∷ []) (loads puts.placed) (omega arith) pb bc (omega arith) cd
+      (spread_one p (p + 1) c v (omega arith) (omega (arith, pb, bc))) puts.spread;
   made = says puts.placed puts.made;
 }
 

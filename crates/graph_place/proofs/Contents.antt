@@ -27,15 +27,21 @@ use Rattle.graph_place.proofs.Slot.{content_holds, slot_plain, slot_many, slot_p
 
 abbrev pub ElementsPut : Table → Kind → List Value → ℕ → ℕ → Loads → ℕ → Loads → Type 0
 ElementsPut T k vs place c before d next =
-    (H level : ℕ) → d ≤ H → level + items_depth (items_of vs) ≤ 33 → Puts T H ((elements_address k (length vs) level, place) ∷ []) place (place + 1) c d before next (λ P. elements_at T k P ≡ items_of vs)
+    (H level : ℕ) → d ≤ H → level + items_depth (items_of vs) ≤ 33
+    → Puts T H ((elements_address k (length vs) level, place) ∷ []) place (place + 1) c d before next
+    (λ P. elements_at T k P ≡ items_of vs)
 
 abbrev pub EntriesPut : Table → Kind → Kind → List (Value × Value) → ℕ → ℕ → Loads → ℕ → Loads → Type 0
 EntriesPut T key k es place c before d next =
-    (H level : ℕ) → d ≤ H → level + pairs_depth (pairs_of es) ≤ 33 → Puts T H ((entries_address key k (length es) level, place) ∷ []) place (place + 1) c d before next (λ P. entries_at T key k P ≡ listed (pairs_of es))
+    (H level : ℕ) → d ≤ H → level + pairs_depth (pairs_of es) ≤ 33
+    → Puts T H ((entries_address key k (length es) level, place) ∷ []) place (place + 1) c d before next
+    (λ P. entries_at T key k P ≡ listed (pairs_of es))
 
 abbrev pub SlotPut : Table → Label → Kind → Content → ℕ → ℕ → Loads → ℕ → Loads → Type 0
 SlotPut T l k content place c before d next =
-    (H level : ℕ) → d ≤ H → level + content_depth content ≤ 33 → PutsWord T H (slot_role l k level, place) (place + 2) c d before next (λ w. slot_content T l k w ≡ Some content)
+    (H level : ℕ) → d ≤ H → level + content_depth content ≤ 33
+    → PutsWord T H (slot_role l k level, place) (place + 2) c d before next
+    (λ w. slot_content T l k w ≡ Some content)
 
 -- ---- what a value is
 
@@ -57,30 +63,39 @@ no_message_in T k (node t) simple is = absurd (simple is.0 is.1)
 pub holds_one : (T : Table) (l : Label) (k : Kind) (fv : FieldValue) (v : Value) → fv ≡ One v → HoldsContent T l k (content_of fv) → HoldsContent T l k (one (item_of v))
 holds_one T l k fv v is holds = subst (λ (x : FieldValue). HoldsContent T l k (content_of x)) is holds
 
-pub holds_many : (T : Table) (l : Label) (k : Kind) (fv : FieldValue) (vs : Vec Value) → fv ≡ Many vs → HoldsContent T l k (content_of fv) → HoldsContent T l k (many (items_of vs.items))
+pub holds_many : (T : Table) (l : Label) (k : Kind) (fv : FieldValue) (vs : Vec Value) → fv ≡ Many vs
+    → HoldsContent T l k (content_of fv) → HoldsContent T l k (many (items_of vs.items))
 holds_many T l k fv vs is holds = subst (λ (x : FieldValue). HoldsContent T l k (content_of x)) is holds
 
-pub holds_pairs : (T : Table) (l : Label) (k : Kind) (fv : FieldValue) (es : Vec (Value × Value)) → fv ≡ ThePairs es → HoldsContent T l k (content_of fv) → HoldsContent T l k (pairs (pairs_of es.items))
+pub holds_pairs : (T : Table) (l : Label) (k : Kind) (fv : FieldValue) (es : Vec (Value × Value)) → fv ≡ ThePairs es
+    → HoldsContent T l k (content_of fv) → HoldsContent T l k (pairs (pairs_of es.items))
 holds_pairs T l k fv es is holds = subst (λ (x : FieldValue). HoldsContent T l k (content_of x)) is holds
 
 -- ---- the slot of a field that is there
 
-pub slot_optional_put : (T : Table) (l : Label) (k : Kind) (fv : FieldValue) (v : Value) (place c d : ℕ) (before next : Loads) → fv ≡ One v → l ≡ Optional → HoldsContent T l k (content_of fv) → OptionalPut (item_of v) place c before d next
+pub slot_optional_put : (T : Table) (l : Label) (k : Kind) (fv : FieldValue) (v : Value) (place c d : ℕ)
+    (before next : Loads) → fv ≡ One v → l ≡ Optional → HoldsContent T l k (content_of fv)
+    → OptionalPut (item_of v) place c before d next
     → SlotPut T l k (content_of fv) place c before d next
 slot_optional_put T l k fv v place c d before next is label holds puts =
     let h = holds_one T l k fv v is holds in
     subst (λ (x : FieldValue). SlotPut T l k (content_of x) place c before d next) (sym is)
     (subst (λ x. SlotPut T x k (one (item_of v)) place c before d next) (sym label) (λ H level within deep. puts T H k within (h.1 label) h.0.1))
 
-pub slot_one_put : (T : Table) (l : Label) (k : Kind) (fv : FieldValue) (v : Value) (place c d : ℕ) (before next : Loads) → fv ≡ One v → l ≢ Optional → is_member l ≡ false → HoldsContent T l k (content_of fv) → ItemPut T k (item_of v) place c before d next
+pub slot_one_put : (T : Table) (l : Label) (k : Kind) (fv : FieldValue) (v : Value) (place c d : ℕ)
+    (before next : Loads) → fv ≡ One v → l ≢ Optional → is_member l ≡ false → HoldsContent T l k (content_of fv)
+    → ItemPut T k (item_of v) place c before d next
     → SlotPut T l k (content_of fv) place c before d next
 slot_one_put T l k fv v place c d before next is other own holds puts =
     let h = holds_one T l k fv v is holds in
     subst (λ (x : FieldValue). SlotPut T l k (content_of x) place c before d next) (sym is)
     (λ H level within deep. slot_plain T H l k level place (item_of v) c d before next own other h.0.0 (puts H level false within deep))
 
-pub slot_many_put : (T : Table) (l : Label) (k : Kind) (fv : FieldValue) (vs : Vec Value) (place c mid_free d : ℕ) (before mid next : Loads) → fv ≡ Many vs → HoldsContent T l k (content_of fv) → length vs.items < 2 ^ 64 → place + 2 ≤ c
-    → mid_free ≡ c → d ≡ mid_free + many_words T k (items_of vs.items) → mid ≡ before ++ (place, length vs.items) ∷ [] → ElementsPut T k vs.items (place + 1) mid_free mid d next
+pub slot_many_put : (T : Table) (l : Label) (k : Kind) (fv : FieldValue) (vs : Vec Value) (place c mid_free d : ℕ)
+    (before mid next : Loads) → fv ≡ Many vs → HoldsContent T l k (content_of fv) → length vs.items < 2 ^ 64
+    → place + 2 ≤ c
+    → mid_free ≡ c → d ≡ mid_free + many_words T k (items_of vs.items) → mid ≡ before ++ (place, length vs.items) ∷ []
+    → ElementsPut T k vs.items (place + 1) mid_free mid d next
     → SlotPut T l k (content_of fv) place c before d next
 slot_many_put T l k fv vs place c mid_free d before mid next is holds small slot same size put puts =
     let h = holds_many T l k fv vs is holds in
@@ -90,14 +105,25 @@ slot_many_put T l k fv vs place c mid_free d before mid next is holds small slot
     (λ H level within deep. slot_many T H l k level place vs.items c d before mid next h.0 h.1 small slot whole within put (there H level within deep))
 
 -- the key that a map has
-pub key_given : (T : Table) (l : Label) (k key : Kind) (fv : FieldValue) (es : Vec (Value × Value)) → fv ≡ ThePairs es → HoldsContent T l k (content_of fv) → ((x : Kind) → l ≡ Map x → key ≡ x)
+pub key_given : (T : Table) (l : Label) (k key : Kind) (fv : FieldValue) (es : Vec (Value × Value)) → fv ≡ ThePairs es
+    → HoldsContent T l k (content_of fv) → ((x : Kind) → l ≡ Map x → key ≡ x)
     → (l ≡ Map key) × ((m : ℕ) → key ≢ OfMessage m) × (pairs_of es.items ≢ no_pairs) × ArePairs T key k (pairs_of es.items) × KeysAscend key (pairs_of es.items)
 key_given T l k key fv es is holds says =
     let h = holds_pairs T l k fv es is holds in
-    subst (λ x. (l ≡ Map x) × ((m : ℕ) → x ≢ OfMessage m) × (pairs_of es.items ≢ no_pairs) × ArePairs T x k (pairs_of es.items) × KeysAscend x (pairs_of es.items)) (sym (says h.0 h.1)) (h.1, h.2, h.3, h.4, h.5)
+    subst (λ x. (l ≡ Map x) × ((m : ℕ) → x ≢ OfMessage m) × (pairs_of es.items ≢ no_pairs)
+    × ArePairs T x k (pairs_of es.items) × KeysAscend x (pairs_of es.items)) (sym (says h.0 h.1)) (
+      h.1,
+      h.2,
+      h.3,
+      h.4,
+      h.5,
+    )
 
-pub slot_pairs_put : (T : Table) (l : Label) (k key : Kind) (fv : FieldValue) (es : Vec (Value × Value)) (place c mid_free d : ℕ) (before mid next : Loads) → fv ≡ ThePairs es → HoldsContent T l k (content_of fv) → ((x : Kind) → l ≡ Map x → key ≡ x) → length es.items < 2 ^ 64
-    → place + 2 ≤ c → mid_free ≡ c → d ≡ mid_free + pairs_words T k (pairs_of es.items) → mid ≡ before ++ (place, length es.items) ∷ [] → EntriesPut T key k es.items (place + 1) mid_free mid d next
+pub slot_pairs_put : (T : Table) (l : Label) (k key : Kind) (fv : FieldValue) (es : Vec (Value × Value))
+    (place c mid_free d : ℕ) (before mid next : Loads) → fv ≡ ThePairs es → HoldsContent T l k (content_of fv)
+    → ((x : Kind) → l ≡ Map x → key ≡ x) → length es.items < 2 ^ 64
+    → place + 2 ≤ c → mid_free ≡ c → d ≡ mid_free + pairs_words T k (pairs_of es.items)
+    → mid ≡ before ++ (place, length es.items) ∷ [] → EntriesPut T key k es.items (place + 1) mid_free mid d next
     → SlotPut T l k (content_of fv) place c before d next
 slot_pairs_put T l k key fv es place c mid_free d before mid next is holds says small slot same size put puts =
     let h = key_given T l k key fv es is holds says in
@@ -108,16 +134,23 @@ slot_pairs_put T l k key fv es place c mid_free d before mid next is holds says 
 
 -- ---- the slot of a field
 
-pub field_there : (T : Table) (f : Field) (t : Node) (content : Content) (place c d : ℕ) (before next : Loads) → content_at t f.number ≡ Some content → SlotPut T f.label f.kind content place c before d next → FieldPut T f t place c before d next
+pub field_there : (T : Table) (f : Field) (t : Node) (content : Content) (place c d : ℕ) (before next : Loads)
+    → content_at t f.number ≡ Some content → SlotPut T f.label f.kind content place c before d next
+    → FieldPut T f t place c before d next
 field_there T f t content place c d before next found puts = λ H level within deep.
     let low = content_within f.number content t found in
-    subst (λ o. PutsWord T H (slot_role f.label f.kind level, place) (place + 2) c d before next (λ w. slot_content T f.label f.kind w ≡ o)) (sym found) (puts H level within (omega (arith, deep, low)))
+    subst (λ o. PutsWord T H (slot_role f.label f.kind level, place) (place + 2) c d before next
+    (λ w. slot_content T f.label f.kind w ≡ o)) (sym found) (puts H level within (omega (arith, deep, low)))
 
-pub field_absent : (T : Table) (f : Field) (t : Node) (place c d : ℕ) (before next : Loads) → is_member f.label ≡ false → content_at t f.number ≡ None → place + 2 ≤ c → d ≡ c → next ≡ before ++ (place, 0) ∷ [] → FieldPut T f t place c before d next
+pub field_absent : (T : Table) (f : Field) (t : Node) (place c d : ℕ) (before next : Loads)
+    → is_member f.label ≡ false → content_at t f.number ≡ None → place + 2 ≤ c → d ≡ c
+    → next ≡ before ++ (place, 0) ∷ [] → FieldPut T f t place c before d next
 field_absent T f t place c d before next own none slot size put = λ H level within deep.
     let low : c ≤ H = omega (arith, size, within) in
     subst (λ e. PutsWord T H (slot_role f.label f.kind level, place) (place + 2) c e before next (λ w. slot_content T f.label f.kind w ≡ content_at t f.number)) (sym size)
-    (subst (λ o. PutsWord T H (slot_role f.label f.kind level, place) (place + 2) c c before next (λ w. slot_content T f.label f.kind w ≡ o)) (sym none) (no_slot T H f.label f.kind level place c before next own slot low put))
+    (subst (λ o. PutsWord T H (slot_role f.label f.kind level, place) (place + 2) c c before next
+    (λ w. slot_content T f.label f.kind w ≡ o)) (sym none)
+    (no_slot T H f.label f.kind level place c before next own slot low put))
 
 pub found_there : (T : Table) (k : Kind) (n : ℕ) (t : Node) (content : Content) → content_at t n ≡ Some content → found_words T k (content_at t n) ≡ content_words T k content
 found_there T k n t content found = ap (found_words T k) found
@@ -126,5 +159,7 @@ pub found_none : (T : Table) (k : Kind) (n : ℕ) (t : Node) → content_at t n 
 found_none T k n t none = ap (found_words T k) none
 
 -- what the field has in the tree
-pub field_holds : (T : Table) (fs : List Field) (oneofs : ℕ) (f : Field) (t : Node) (content : Content) → HasFields T fs 0 t → field_at fs f.number ≡ Some f → IsField T oneofs f → content_at t f.number ≡ Some content → HoldsContent T f.label f.kind content
+pub field_holds : (T : Table) (fs : List Field) (oneofs : ℕ) (f : Field) (t : Node) (content : Content)
+    → HasFields T fs 0 t → field_at fs f.number ≡ Some f → IsField T oneofs f → content_at t f.number ≡ Some content
+    → HoldsContent T f.label f.kind content
 field_holds T fs oneofs f t content has known is found = content_holds T oneofs fs f.number f content is known (content_has T fs 0 f.number content t has found)

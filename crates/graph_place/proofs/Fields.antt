@@ -1,5 +1,6 @@
 -- What a normal tree has under a number, and which fields of its message have slots of their own.
-use Rattle.std.proofs.Common.{◌≡◌, ℕ, zero, suc, ◌+◌, ◌<◌, ◌≤◌, Bool, true, false, cond, ◌||◌, ◌==◌, List, [], ◌∷◌, length, Option, Some, None, refl, sym, ap, subst, ◌∙◌, arith, inl, inr}
+use Rattle.std.proofs.Common.{◌≡◌, ℕ, zero, suc, ◌+◌, ◌<◌, ◌≤◌, Bool, true, false, cond, ◌||◌, ◌==◌, List, [], ◌∷◌}
+use Rattle.std.proofs.Common.{length, Option, Some, None, refl, sym, ap, subst, ◌∙◌, arith, inl, inr}
 use Rattle.std.specs.Prelude.{option_map, unwrap_or, slice_get, All}
 use Rattle.std.proofs.lemmas.Bool.{ne_eqb, cases_Bool, or_from, or_left, or_right, true≢false}
 use Rattle.std.proofs.lemmas.Bool.Decides.{eqb_tells}
@@ -116,7 +117,9 @@ known_left (g ∷ fs) n f at =
           elim (cases_Bool (is_member g.label)) [
             | inl holds ↦ or_left (is_member_at (g ∷ fs) n) (has_number (own_slots (g ∷ fs)) n) (is ∙ holds)
             | inr fails ↦
-                let there : has_number (own_slots (g ∷ fs)) n ≡ true = ap (λ gs. has_number gs n) (own_here g fs fails) ∙ or_left (g.number == n) (has_number (own_slots fs) n) same.0 in
+                let there : has_number (own_slots (g ∷ fs)) n ≡ true =
+                ap (λ gs. has_number gs n) (own_here g fs fails)
+                ∙ or_left (g.number == n) (has_number (own_slots fs) n) same.0 in
                 or_right (is_member_at (g ∷ fs) n) (has_number (own_slots (g ∷ fs)) n) there
           ]
       | inr other ↦
@@ -132,7 +135,9 @@ known_left (g ∷ fs) n f at =
 
 -- before the first slot all is left
 pub all_left : (T : Table) (fs : List Field) (t : Node) → HasFields T fs 0 t → keep (is_left fs (own_slots fs)) t ≡ t
-all_left T fs t h = keep_all (is_left fs (own_slots fs)) t (each_weaker (IsKnownAt fs) (λ n. is_left fs (own_slots fs) n ≡ true) t (λ n k. known_left fs n k.0 k.1) (fields_known T fs 0 t h))
+all_left T fs t h =
+    keep_all (is_left fs (own_slots fs)) t (each_weaker (IsKnownAt fs) (λ n. is_left fs (own_slots fs) n ≡ true) t
+    (λ n k. known_left fs n k.0 k.1) (fields_known T fs 0 t h))
 
 -- behind the last one the members are left
 pub members_left : (fs : List Field) (t : Node) → keep (is_left fs []) t ≡ members fs t

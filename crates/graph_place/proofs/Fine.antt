@@ -9,7 +9,9 @@ use Rattle.mrpc_table.specs.declared.table.Label.TheVariants.{Member}
 use Rattle.mrpc_table.specs.declared.table.Field.{Field}
 use Rattle.mrpc_table.specs.declared.table.Table.{Table}
 use Rattle.graph_form.specs.declared.reason.Reason.TheVariants.{Address, Presence, Case, Length, Utf8, Narrow, Depth}
-use Rattle.graph_form.specs.Roles.{value, presence, run_length, run_presence, run_address, run_word, link, count, elements_address, entry_count, entries_address, case_word, element_words, run_words, size_words, word_bytes}
+use Rattle.graph_form.specs.Roles.{value, presence, run_length, run_presence, run_address, run_word, link, count}
+use Rattle.graph_form.specs.Roles.{elements_address, entry_count, entries_address, case_word, element_words}
+use Rattle.graph_form.specs.Roles.{run_words, size_words, word_bytes}
 use Rattle.graph_form.specs.Placed.{IsFine}
 
 pub fine_value : (T : Table) (H : ℕ) (k : Kind) (v : ℕ) → IsWordForm k v → IsFine T H (value k) v
@@ -32,7 +34,9 @@ pub fine_run_address : (T : Table) (H : ℕ) (k : Kind) (bytes v : ℕ) → 1 �
 fine_run_address T H k bytes v from to Address h = h (record { from_one = from; to_end = to })
 fine_run_address T H k bytes v from to _ h = h
 
-pub fine_run_word : (T : Table) (H : ℕ) (k : Kind) (left : ℕ) (before : List ℕ) (v : ℕ) → (left < 8 → v < 2 ^ (8 * left)) → (k ≡ Text → left ≤ 8 → IsUtf8 (before ++ take left (word_bytes v))) → IsFine T H (run_word k left before) v
+pub fine_run_word : (T : Table) (H : ℕ) (k : Kind) (left : ℕ) (before : List ℕ) (v : ℕ)
+    → (left < 8 → v < 2 ^ (8 * left)) → (k ≡ Text → left ≤ 8 → IsUtf8 (before ++ take left (word_bytes v)))
+    → IsFine T H (run_word k left before) v
 fine_run_word T H k left before v narrow text Narrow h = let below = narrow h.0 in omega (arith, below, h.1)
 fine_run_word T H Text left before v narrow text Utf8 h = h.1 (text (λ i. Text) h.0)
 fine_run_word T H k left before v narrow text _ h = h
@@ -64,6 +68,8 @@ pub fine_entries : (T : Table) (H : ℕ) (key k : Kind) (entries depth v : ℕ) 
 fine_entries T H key k entries depth v from to Address h = h (record { from_one = from; to_end = to })
 fine_entries T H key k entries depth v from to _ h = h
 
-pub fine_case : (T : Table) (H : ℕ) (fs : List Field) (oneof depth v : ℕ) → (v ≢ 0 → (f : Field) × (field_at fs v ≡ Some f) × (f.label ≡ Member oneof)) → IsFine T H (case_word fs oneof depth) v
+pub fine_case : (T : Table) (H : ℕ) (fs : List Field) (oneof depth v : ℕ)
+    → (v ≢ 0 → (f : Field) × (field_at fs v ≡ Some f) × (f.label ≡ Member oneof))
+    → IsFine T H (case_word fs oneof depth) v
 fine_case T H fs oneof depth v known Case h = let f = known h.0 in h.1 f.0 f.1 f.2
 fine_case T H fs oneof depth v known _ h = h

@@ -1,5 +1,6 @@
 -- A tree is what it has under one number, put to the fields of the others.
-use Rattle.std.proofs.Common.{◌≡◌, ◌⊎◌, ℕ, ◌+◌, ◌<◌, ◌≤◌, Bool, true, false, cond, ◌||◌, ◌==◌, List, Option, Some, None, refl, sym, ap, subst, ◌∙◌, arith, inl, inr}
+use Rattle.std.proofs.Common.{◌≡◌, ◌⊎◌, ℕ, ◌+◌, ◌<◌, ◌≤◌, Bool, true, false, cond, ◌||◌, ◌==◌, List, Option, Some}
+use Rattle.std.proofs.Common.{None, refl, sym, ap, subst, ◌∙◌, arith, inl, inr}
 use Rattle.std.proofs.lemmas.Bool.{eq-eqb, ne_eqb, lt-ltb, le-ltb, cases_Bool, cases_lt, or_right}
 use Rattle.std.proofs.lemmas.Bool.Decides.{eqb_tells}
 use Rattle.mrpc_table.specs.Normal.{kind_at}
@@ -82,7 +83,8 @@ agree : (p q : ℕ → Bool) (m k : ℕ) → p k ≡ (q k || m == k) → m < k �
 agree p q m k h below = h ∙ ap (λ b. q k || b) (ne_eqb m k (λ e. omega (arith, e, below))) ∙ or_none (q k)
 
 -- the fields that pass one test and those that pass another, or have the number m
-pub keep_step : (p q : ℕ → Bool) (m last : ℕ) (t : Node) → NumbersAscend last t → Each (λ n. p n ≡ (q n || m == n)) t → q m ≡ false → keep p t ≡ with_field m (content_at t m) (keep q t)
+pub keep_step : (p q : ℕ → Bool) (m last : ℕ) (t : Node) → NumbersAscend last t → Each (λ n. p n ≡ (q n || m == n)) t
+    → q m ≡ false → keep p t ≡ with_field m (content_at t m) (keep q t)
 keep_step p q m last no_fields up h without = refl
 keep_step p q m last (field n c t) up h without =
     elim (eqb_tells n m) [
@@ -90,7 +92,9 @@ keep_step p q m last (field n c t) up h without =
           let is : m ≡ n = sym same.1 in
           let none : q n ≡ false = ap q same.1 ∙ without in
           let holds : p n ≡ true = h.0 ∙ or_right (q n) (m == n) (eq-eqb m n is) in
-          let rest : keep p t ≡ keep q t = keep_same p q t (each_both (λ k. p k ≡ (q k || m == k)) (λ k. n < k) (λ k. p k ≡ q k) t (λ k e above. agree p q m k e (omega (arith, above, is))) h.1 (each_above n t up.1)) in
+          let rest : keep p t ≡ keep q t =
+          keep_same p q t (each_both (λ k. p k ≡ (q k || m == k)) (λ k. n < k) (λ k. p k ≡ q k) t
+          (λ k e above. agree p q m k e (omega (arith, above, is))) h.1 (each_above n t up.1)) in
           let left : keep p (field n c t) ≡ field n c (keep q t) = ap (λ b. cond b (field n c (keep p t)) (keep p t)) holds ∙ ap (field n c) rest in
           let kept : keep q (field n c t) ≡ keep q t = ap (λ b. cond b (field n c (keep q t)) (keep q t)) none in
           let found : content_at (field n c t) m ≡ Some c = ap (λ b. cond b (Some c) (content_at t m)) same.0 in
@@ -102,7 +106,8 @@ keep_step p q m last (field n c t) up h without =
           let found : content_at (field n c t) m ≡ content_at t m = ap (λ b. cond b (Some c) (content_at t m)) other.0 in
           let rest : keep p t ≡ with_field m (content_at t m) (keep q t) = keep_step p q m n t up.1 h.1 without in
           let place : (content_at t m ≡ None) ⊎ (n < m) = elim (cases_lt n m) [ inl above ↦ inr above | inr le ↦ inl (absent m n t le up.1) ] in
-          let back : with_field m (content_at t m) (keep q (field n c t)) ≡ with_field m (content_at (field n c t) m) (keep q (field n c t)) = ap (λ o. with_field m o (keep q (field n c t))) (sym found) in
+          let back : with_field m (content_at t m) (keep q (field n c t)) ≡ with_field m (content_at (field n c t) m)
+          (keep q (field n c t)) = ap (λ o. with_field m o (keep q (field n c t))) (sym found) in
           elim (cases_Bool (q n)) [
             | inl holds ↦
                 ap (λ b. cond b (field n c (keep p t)) (keep p t)) (same ∙ holds) ∙ ap (field n c) rest ∙ sym (with_behind m n (content_at t m) c (keep q t) place)

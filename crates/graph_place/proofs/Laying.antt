@@ -1,5 +1,6 @@
 -- Values in plain and optional slots.
-use Rattle.std.proofs.Common.{◌≡◌, ◌≢◌, ℕ, ◌+◌, ◌-◌, ◌<◌, ◌≤◌, ◌^◌, Bool, cond, List, [], ◌∷◌, ◌++◌, length, Some, None, refl, sym, ap, subst, ◌∙◌, arith, inl, inr}
+use Rattle.std.proofs.Common.{◌≡◌, ◌≢◌, ℕ, ◌+◌, ◌-◌, ◌<◌, ◌≤◌, ◌^◌, Bool, cond, List, [], ◌∷◌, ◌++◌, length, Some}
+use Rattle.std.proofs.Common.{None, refl, sym, ap, subst, ◌∙◌, arith, inl, inr}
 use Rattle.std.specs.Str.{IsUtf8}
 use Rattle.std.proofs.lemmas.Bool.{ne_eqb, le-leb, lt-leb}
 use Rattle.std.proofs.lemmas.Bool.Decides.{eqb_tells}
@@ -19,7 +20,8 @@ use Rattle.graph_place.proofs.Spreads.{spread_one}
 use Rattle.graph_place.proofs.Beginning.{Loads, word_put, one_put, content_put}
 use Rattle.graph_place.proofs.Fine.{fine_value, fine_presence, fine_run_length, fine_run_presence, fine_link}
 
-pub lone_word : (T : Table) (H : ℕ) (r : Role) (p v b c : ℕ) (before after : Loads) (Here : Word → Type 0) → behind T r p v ≡ [] → v < 2 ^ 64 → IsFine T H r v → p < b → b ≤ c
+pub lone_word : (T : Table) (H : ℕ) (r : Role) (p v b c : ℕ) (before after : Loads) (Here : Word → Type 0)
+    → behind T r p v ≡ [] → v < 2 ^ 64 → IsFine T H r v → p < b → b ≤ c
     → after ≡ before ++ (p, v) ∷ [] → Here (word p v nothing) → PutsWord T H (r, p) b c c before after Here
 lone_word T H r p v b c before after Here none small fine pb bc is here = record {
   value = v;
@@ -107,7 +109,8 @@ empty_run : (bytes : List ℕ) → length bytes ≡ 0 → bytes ≡ []
 empty_run [] e = refl
 empty_run (b ∷ bytes) e = absurd (omega (arith, e))
 
-pub run_item : (T : Table) (H : ℕ) (k : Kind) (level : ℕ) (needed : Bool) (place : ℕ) (bytes : List ℕ) (c d : ℕ) (before mid next : Loads) → IsRun k bytes → length bytes < 2 ^ 64 → 1 ≤ place → place + element_words k ≤ c
+pub run_item : (T : Table) (H : ℕ) (k : Kind) (level : ℕ) (needed : Bool) (place : ℕ) (bytes : List ℕ) (c d : ℕ)
+    (before mid next : Loads) → IsRun k bytes → length bytes < 2 ^ 64 → 1 ≤ place → place + element_words k ≤ c
     → d ≡ c + run_words (length bytes) → d ≤ H → mid ≡ before ++ (place, length bytes) ∷ []
     → Puts T H (run_expected k (length bytes) (place + 1)) (place + 1) (place + 1 + 1) c d mid next (λ P. run_at (length bytes) P ≡ bytes)
     → PutsWord T H (plain_role k level needed, place) (place + element_words k) c d before next (HoldsItem T k (run bytes))
@@ -115,7 +118,9 @@ run_item T H k level needed place bytes c d before mid next is small from slot s
     let width = run_width k bytes is in
     let two : place + 1 + 1 ≡ place + element_words k = omega (arith, width) in
     let whole : PutsWord T H (run_length k, place) (place + 1 + 1) c d before next (HoldsItem T k (run bytes))
-    = word_put T H (run_length k) place (length bytes) (place + 1 + 1) c d before mid next (λ P. run_at (length bytes) P ≡ bytes) (HoldsItem T k (run bytes)) (omega arith) (omega (arith, slot, width)) (omega (arith, size)) small
+    = word_put T H (run_length k) place (length bytes) (place + 1 + 1) c d before mid next
+    (λ P. run_at (length bytes) P ≡ bytes) (HoldsItem T k (run bytes)) (omega arith) (omega (arith, slot, width))
+    (omega (arith, size)) small
     (fine_run_length T H k (length bytes) (omega (arith, size, within, slot, width, from))) put puts
     (λ P made. record { item = run_item_is T k bytes place (length bytes) P is ∙ ap run made; some = λ some_is zero_is. some_is (empty_run bytes zero_is) }) in
     subst (λ r. PutsWord T H (r, place) (place + element_words k) c d before next (HoldsItem T k (run bytes))) (sym (run_role k bytes level needed is))
@@ -130,7 +135,8 @@ depth_some (field n c t) = let rest = depth_some t in omega (arith, rest)
 node_behind : (T : Table) (m level c p : ℕ) (needed : Bool) → 1 ≤ c → behind T (link m level needed) p c ≡ node_words T m (level + 1) c
 node_behind T m level c p needed from = ap (λ b. cond b [] (node_words T m (level + 1) c)) (ne_eqb c 0 (λ e. omega (arith, e, from)))
 
-pub node_item : (T : Table) (H : ℕ) (k : Kind) (m level : ℕ) (needed : Bool) (place : ℕ) (t : Node) (c d : ℕ) (before mid next : Loads) → k ≡ OfMessage m → 1 ≤ place → place + element_words k ≤ c → c < 2 ^ 64
+pub node_item : (T : Table) (H : ℕ) (k : Kind) (m level : ℕ) (needed : Bool) (place : ℕ) (t : Node) (c d : ℕ)
+    (before mid next : Loads) → k ≡ OfMessage m → 1 ≤ place → place + element_words k ≤ c → c < 2 ^ 64
     → d ≡ c + tree_words T m t → d ≤ H → level + (1 + depth t) ≤ 33 → mid ≡ before ++ (place, c) ∷ []
     → ((level : ℕ) → level + depth t ≤ 33 → Puts T H (node_words T m level c) c c c d mid next (λ P. tree_of T m P ≡ t))
     → PutsWord T H (plain_role k level needed, place) (place + element_words k) c d before next (HoldsItem T k (node t))
@@ -143,7 +149,8 @@ node_item T H k m level needed place t c d before mid next kind from slot small 
     = subst (λ es. Puts T H es (place + 1) (place + 1) c d mid next (λ P. tree_of T m P ≡ t)) (sym (node_behind T m level c place needed (omega (arith, slot_one))))
     (content_put T H (node_words T m (level + 1) c) (place + 1) c c d mid next (λ P. tree_of T m P ≡ t) (λ P. tree_of T m P ≡ t) slot_one inner (λ P h. h)) in
     let whole : PutsWord T H (link m level needed, place) (place + 1) c d before next (HoldsItem T (OfMessage m) (node t))
-    = word_put T H (link m level needed) place c (place + 1) c d before mid next (λ P. tree_of T m P ≡ t) (HoldsItem T (OfMessage m) (node t)) (omega arith) slot_one (omega (arith, size)) small
+    = word_put T H (link m level needed) place c (place + 1) c d before mid next (λ P. tree_of T m P ≡ t)
+    (HoldsItem T (OfMessage m) (node t)) (omega arith) slot_one (omega (arith, size)) small
     (fine_link T H m level needed c (omega (arith, slot_one)) (omega (arith, size, within)) (omega (arith, deep, room))) put there
     (λ P made. record { item = ap node made; some = λ _. some }) in
     subst (λ x. PutsWord T H (plain_role x level needed, place) (place + element_words x) c d before next (HoldsItem T x (node t))) (sym kind) whole
@@ -162,7 +169,9 @@ optional_number T H k place n c before mid next form small slot put is =
     let there : Puts T H (behind T (presence k) place 1) (place + 1) (place + 2) c c mid next (λ P. number_at P ≡ n)
     = one_put T H (value k, place + 1) (place + 2) c c mid next (λ w. number_at (first w nothing) ≡ n) (λ P. number_at P ≡ n) inner (λ w h. h) in
     let whole : PutsWord T H (presence k, place) (place + 2) c c before next (λ w. slot_content T Optional k w ≡ Some (one (number n)))
-    = word_put T H (presence k) place 1 (place + 2) c c before mid next (λ P. number_at P ≡ n) (λ w. slot_content T Optional k w ≡ Some (one (number n))) (omega arith) slot (omega arith) (omega arith) (fine_presence T H k 1 (omega arith)) put there
+    = word_put T H (presence k) place 1 (place + 2) c c before mid next (λ P. number_at P ≡ n)
+    (λ w. slot_content T Optional k w ≡ Some (one (number n))) (omega arith) slot (omega arith) (omega arith)
+    (fine_presence T H k 1 (omega arith)) put there
     (λ P made. optional_says T k place 1 P (λ e. omega (arith, e)) ∙ ap (λ i. Some (one i)) (numeric_given k n 1 P form ∙ ap number made)) in
     subst (λ r. PutsWord T H (r, place) (place + 2) c c before next (λ w. slot_content T Optional k w ≡ Some (one (number n)))) (sym (numeric_optional k n form)) whole
 
@@ -191,7 +200,11 @@ optional_run T H k place bytes c d before mid next is small slot size within put
     = subst (λ b. Puts T H (behind T (run_presence k) place (length bytes + 1)) (place + 1) b c d mid next (λ P. run_at (length bytes) P ≡ bytes)) two
     (subst (λ es. Puts T H es (place + 1) (place + 1 + 1) c d mid next (λ P. run_at (length bytes) P ≡ bytes)) (sym (presence_behind T k place (length bytes))) puts) in
     let whole : PutsWord T H (run_presence k, place) (place + 2) c d before next (λ w. slot_content T Optional k w ≡ Some (one (run bytes)))
-    = word_put T H (run_presence k) place (length bytes + 1) (place + 2) c d before mid next (λ P. run_at (length bytes) P ≡ bytes) (λ w. slot_content T Optional k w ≡ Some (one (run bytes))) (omega arith) slot (omega (arith, size)) small
+    = word_put T H (run_presence k) place (length bytes + 1) (place + 2) c d before mid next
+    (λ P. run_at (length bytes) P ≡ bytes) (λ w. slot_content T Optional k w ≡ Some (one (run bytes)))
+    (omega arith) slot (omega (arith, size)) small
     (fine_run_presence T H k (length bytes + 1) (omega (arith, size, within, slot))) put there
-    (λ P made. optional_says T k place (length bytes + 1) P (λ e. omega (arith, e)) ∙ ap (λ i. Some (one i)) (run_given k bytes (length bytes + 1) P is ∙ ap (λ m. run (run_at m P)) less ∙ ap run made)) in
+    (λ P made. optional_says T k place (length bytes + 1) P (λ e. omega (arith, e))
+    ∙ ap (λ i. Some (one i)) (run_given k bytes (length bytes + 1) P is ∙ ap (λ m. run (run_at m P)) less
+    ∙ ap run made)) in
     subst (λ r. PutsWord T H (r, place) (place + 2) c d before next (λ w. slot_content T Optional k w ≡ Some (one (run bytes)))) (sym (run_optional k bytes is)) whole

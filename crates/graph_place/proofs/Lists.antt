@@ -41,7 +41,9 @@ pub record ElementsOn (T : Table) (k : Kind) (all : List Value) (at c : ℕ) (be
   pub on : (H level : ℕ) → free ≤ H → level + items_depth (items_of all) ≤ 33
       → Begun T H (elements_from (length all) k level at) (elements_from (length rest) k level next) at next c free before now (Elements T k all) (Elements T k rest)
 
-pub elements_begin : (T : Table) (k : Kind) (all : List Value) (at c : ℕ) (before : Loads) → AreItems T k (items_of all) → at + element_words k * length all ≡ c → ElementsOn T k all at c before all at c before
+pub elements_begin : (T : Table) (k : Kind) (all : List Value) (at c : ℕ) (before : Loads)
+    → AreItems T k (items_of all) → at + element_words k * length all ≡ c
+    → ElementsOn T k all at c before all at c before
 elements_begin T k all at c before kinds size = record {
   next_is = size;
   from = omega arith;
@@ -54,7 +56,9 @@ elements_begin T k all at c before kinds size = record {
 
 pub elements_more : (T : Table) (k : Kind) (all : List Value) (at c : ℕ) (before : Loads) (v : Value) (rest : List Value) (next free free2 : ℕ) (now now2 : Loads)
     → ElementsOn T k all at c before (v ∷ rest) next free now → free2 ≡ free + item_words T k (item_of v)
-    → ((H level : ℕ) → free2 ≤ H → level + item_depth (item_of v) ≤ 33 → PutsWord T H (plain_role k level true, next) (next + element_words k) free free2 now now2 (HoldsItem T k (item_of v)))
+    → ((H level : ℕ) → free2 ≤ H → level + item_depth (item_of v) ≤ 33
+    → PutsWord T H (plain_role k level true, next) (next + element_words k) free free2 now now2
+    (HoldsItem T k (item_of v)))
     → ElementsOn T k all at c before rest (next + element_words k) free2 now2
 elements_more T k all at c before v rest next free free2 now now2 r size puts = record {
   next_is = omega (arith, r.next_is);
@@ -73,7 +77,8 @@ elements_more T k all at c before v rest next free free2 now now2 r size puts = 
 }
 
 pub elements_end : (T : Table) (k : Kind) (all : List Value) (place at c free : ℕ) (old before now : Loads) (next : ℕ)
-    → ElementsOn T k all at c before [] next free now → at + element_words k * length all ≡ c → at < 2 ^ 64 → 1 ≤ place → place + 1 ≤ at → before ≡ old ++ (place, at) ∷ []
+    → ElementsOn T k all at c before [] next free now → at + element_words k * length all ≡ c → at < 2 ^ 64
+    → 1 ≤ place → place + 1 ≤ at → before ≡ old ++ (place, at) ∷ []
     → (H level : ℕ) → free ≤ H → level + items_depth (items_of all) ≤ 33
     → Puts T H ((elements_address k (length all) level, place) ∷ []) place (place + 1) at free old now (λ P. elements_at T k P ≡ items_of all)
 elements_end T k all place at c free old before now next r size small from slot is H level within deep =
@@ -81,12 +86,19 @@ elements_end T k all place at c free old before now next r size small from slot 
     let inner : Puts T H (elements_from (length all) k level at) at next c free before now (Elements T k all)
     = begun_end T H (elements_from (length all) k level at) at next c free before now (Elements T k all) (Elements T k []) (r.on H level within deep) refl in
     let there : Puts T H (elements_from (length all) k level at) (place + 1) (place + 1) at free before now (Elements T k all)
-    = content_put T H (elements_from (length all) k level at) (place + 1) at c free before now (Elements T k all) (Elements T k all) slot (subst (λ b. Puts T H (elements_from (length all) k level at) at b c free before now (Elements T k all)) end inner) (λ P made. made) in
+    = content_put T H (elements_from (length all) k level at) (place + 1) at c free before now (Elements T k all)
+    (Elements T k all) slot
+    (subst (λ b. Puts T H (elements_from (length all) k level at) at b c free before now (Elements T k all)) end
+    inner) (λ P made. made) in
     let lies : at + length all * element_words k ≤ H = omega (arith, size, r.past, within) in
     let whole : PutsWord T H (elements_address k (length all) level, place) (place + 1) at free old now (λ w. elements_at T k (first w nothing) ≡ items_of all)
-    = word_put T H (elements_address k (length all) level) place at (place + 1) at free old before now (Elements T k all) (λ w. elements_at T k (first w nothing) ≡ items_of all) (omega arith) slot (omega (arith, size, r.past)) small
+    = word_put T H (elements_address k (length all) level) place at (place + 1) at free old before now
+    (Elements T k all) (λ w. elements_at T k (first w nothing) ≡ items_of all) (omega arith) slot
+    (omega (arith, size, r.past)) small
     (fine_elements T H k (length all) level at (omega (arith, slot)) lies) is there (λ P made. made) in
-    one_put T H (elements_address k (length all) level, place) (place + 1) at free old now (λ w. elements_at T k (first w nothing) ≡ items_of all) (λ P. elements_at T k P ≡ items_of all) whole (λ w made. made)
+    one_put T H (elements_address k (length all) level, place) (place + 1) at free old now
+    (λ w. elements_at T k (first w nothing) ≡ items_of all) (λ P. elements_at T k P ≡ items_of all) whole
+    (λ w made. made)
 
 -- ---- entries
 
@@ -117,7 +129,8 @@ pub record EntriesOn (T : Table) (key k : Kind) (all : List (Value × Value)) (a
   pub on : (H level : ℕ) → free ≤ H → level + pairs_depth (pairs_of all) ≤ 33
       → Begun T H (entries_from (length all) key k level at) (entries_from (length rest) key k level next) at next c free before now (Entries T key k all) (Entries T key k rest)
 
-pub entries_begin : (T : Table) (key k : Kind) (all : List (Value × Value)) (at c : ℕ) (before : Loads) → ArePairs T key k (pairs_of all) → at + 4 * length all ≡ c → EntriesOn T key k all at c before all at c before
+pub entries_begin : (T : Table) (key k : Kind) (all : List (Value × Value)) (at c : ℕ) (before : Loads)
+    → ArePairs T key k (pairs_of all) → at + 4 * length all ≡ c → EntriesOn T key k all at c before all at c before
 entries_begin T key k all at c before kinds size = record {
   next_is = size;
   from = omega arith;
@@ -128,10 +141,15 @@ entries_begin T key k all at c before kinds size = record {
   on = λ H level within deep. begun_none T H (entries_from (length all) key k level at) at c before (Entries T key k all);
 }
 
-pub entries_more : (T : Table) (key k : Kind) (all : List (Value × Value)) (at c : ℕ) (before : Loads) (x y : Value) (rest : List (Value × Value)) (next free mid free2 : ℕ) (now then now2 : Loads)
+pub entries_more : (T : Table) (key k : Kind) (all : List (Value × Value)) (at c : ℕ) (before : Loads) (x y : Value)
+    (rest : List (Value × Value)) (next free mid free2 : ℕ) (now then now2 : Loads)
     → EntriesOn T key k all at c before ((x, y) ∷ rest) next free now → mid ≡ free + key_words (item_of x) → free2 ≡ mid + item_words T k (item_of y)
-    → ((H level : ℕ) → mid ≤ H → level + item_depth (item_of x) ≤ 33 → PutsWord T H (plain_role key level true, next) (next + element_words key) free mid now then (HoldsItem T key (item_of x)))
-    → ((H level : ℕ) → free2 ≤ H → level + item_depth (item_of y) ≤ 33 → PutsWord T H (plain_role k level true, next + 2) (next + 2 + element_words k) mid free2 then now2 (HoldsItem T k (item_of y)))
+    → ((H level : ℕ) → mid ≤ H → level + item_depth (item_of x) ≤ 33
+    → PutsWord T H (plain_role key level true, next) (next + element_words key) free mid now then
+    (HoldsItem T key (item_of x)))
+    → ((H level : ℕ) → free2 ≤ H → level + item_depth (item_of y) ≤ 33
+    → PutsWord T H (plain_role k level true, next + 2) (next + 2 + element_words k) mid free2 then now2
+    (HoldsItem T k (item_of y)))
     → EntriesOn T key k all at c before rest (next + 4) free2 now2
 entries_more T key k all at c before x y rest next free mid free2 now then now2 r keyed sized keys values =
     let slot_key = narrow key in
@@ -148,20 +166,31 @@ entries_more T key k all at c before x y rest next free mid free2 now then now2 
           let key_deep : level + item_depth (item_of x) ≤ 33 = omega (arith, deep, r.shallow) in
           let value_deep : level + item_depth (item_of y) ≤ 33 = omega (arith, deep, r.shallow) in
           let Behind : Placed → Type 0 = λ Q. (w : Word) → HoldsItem T key (item_of x) w → Entries T key k ((x, y) ∷ rest) (first w Q) in
-          let behind : Begun T H (entries_from (length all) key k level at) ((plain_role k level true, next + 2) ∷ entries_from (length rest) key k level (next + 4)) at (next + 2) c mid before then (Entries T key k all) Behind
-          = begun_more T H (entries_from (length all) key k level at) (plain_role key level true, next) ((plain_role k level true, next + 2) ∷ entries_from (length rest) key k level (next + 4))
+          let behind : Begun T H (entries_from (length all) key k level at) ((plain_role k level true, next + 2)
+          ∷ entries_from (length rest) key k level (next + 4)) at (next + 2) c mid before then
+          (Entries T key k all) Behind
+          = begun_more T H (entries_from (length all) key k level at) (plain_role key level true, next)
+          ((plain_role k level true, next + 2) ∷ entries_from (length rest) key k level (next + 4))
           at next (next + 2) c free mid before now then (Entries T key k all) (Entries T key k ((x, y) ∷ rest)) Behind (HoldsItem T key (item_of x))
           r.from (omega arith) (omega (arith, r.next_is)) r.past (omega (arith, keyed)) refl
           (r.on H level (omega (arith, within, keyed, sized)) deep)
-          (word_wide T H (plain_role key level true, next) (next + element_words key) (next + 2) free mid now then (HoldsItem T key (item_of x)) (HoldsItem T key (item_of x)) (omega (arith, slot_key)) (keys H level (omega (arith, within, sized)) key_deep) (λ w holds. holds))
+          (word_wide T H (plain_role key level true, next) (next + element_words key) (next + 2) free mid now then
+          (HoldsItem T key (item_of x)) (HoldsItem T key (item_of x)) (omega (arith, slot_key))
+          (keys H level (omega (arith, within, sized)) key_deep) (λ w holds. holds))
           (λ Q w holds less. less w holds) in
-          subst (λ b. Begun T H (entries_from (length all) key k level at) (entries_from (length rest) key k level (next + 4)) at b c free2 before now2 (Entries T key k all) (Entries T key k rest)) four
+          subst (λ b. Begun T H (entries_from (length all) key k level at)
+          (entries_from (length rest) key k level (next + 4)) at b c free2 before now2 (Entries T key k all)
+          (Entries T key k rest)) four
           (begun_more T H (entries_from (length all) key k level at) (plain_role k level true, next + 2) (entries_from (length rest) key k level (next + 4))
           at (next + 2) (next + 2 + 2) c mid free2 before then now2 (Entries T key k all) Behind (Entries T key k rest) (HoldsItem T k (item_of y))
           (omega (arith, r.from)) (omega arith) (omega (arith, r.next_is)) (omega (arith, r.past, keyed)) (omega (arith, sized)) refl
           behind
-          (word_wide T H (plain_role k level true, next + 2) (next + 2 + element_words k) (next + 2 + 2) mid free2 then now2 (HoldsItem T k (item_of y)) (HoldsItem T k (item_of y)) (omega (arith, slot_value)) (values H level within value_deep) (λ w holds. holds))
-          (λ Q w holds less. λ x1 first_holds. ap (λ i. (i, plain_item T k w) ∷ entries_in T key k Q) first_holds.item ∙ ap (λ j. (item_of x, j) ∷ entries_in T key k Q) holds.item ∙ ap (λ zs. (item_of x, item_of y) ∷ zs) less));
+          (word_wide T H (plain_role k level true, next + 2) (next + 2 + element_words k)
+          (next + 2 + 2) mid free2 then now2 (HoldsItem T k (item_of y)) (HoldsItem T k (item_of y))
+          (omega (arith, slot_value)) (values H level within value_deep) (λ w holds. holds))
+          (λ Q w holds less. λ x1 first_holds. ap (λ i. (i, plain_item T k w) ∷ entries_in T key k Q) first_holds.item
+          ∙ ap (λ j. (item_of x, j) ∷ entries_in T key k Q) holds.item
+          ∙ ap (λ zs. (item_of x, item_of y) ∷ zs) less));
     }
 
 pub entries_end : (T : Table) (key k : Kind) (all : List (Value × Value)) (place at c free : ℕ) (old before now : Loads) (next : ℕ)
@@ -173,8 +202,15 @@ entries_end T key k all place at c free old before now next r size small from sl
     let inner : Puts T H (entries_from (length all) key k level at) at next c free before now (Entries T key k all)
     = begun_end T H (entries_from (length all) key k level at) at next c free before now (Entries T key k all) (Entries T key k []) (r.on H level within deep) refl in
     let there : Puts T H (entries_from (length all) key k level at) (place + 1) (place + 1) at free before now (Entries T key k all)
-    = content_put T H (entries_from (length all) key k level at) (place + 1) at c free before now (Entries T key k all) (Entries T key k all) slot (subst (λ b. Puts T H (entries_from (length all) key k level at) at b c free before now (Entries T key k all)) end inner) (λ P made. made) in
+    = content_put T H (entries_from (length all) key k level at) (place + 1) at c free before now
+    (Entries T key k all) (Entries T key k all) slot
+    (subst (λ b. Puts T H (entries_from (length all) key k level at) at b c free before now (Entries T key k all))
+    end inner) (λ P made. made) in
     let whole : PutsWord T H (entries_address key k (length all) level, place) (place + 1) at free old now (λ w. entries_at T key k (first w nothing) ≡ listed (pairs_of all))
-    = word_put T H (entries_address key k (length all) level) place at (place + 1) at free old before now (Entries T key k all) (λ w. entries_at T key k (first w nothing) ≡ listed (pairs_of all)) (omega arith) slot (omega (arith, size, r.past)) small
+    = word_put T H (entries_address key k (length all) level) place at (place + 1) at free old before now
+    (Entries T key k all) (λ w. entries_at T key k (first w nothing) ≡ listed (pairs_of all)) (omega arith) slot
+    (omega (arith, size, r.past)) small
     (fine_entries T H key k (length all) level at (omega (arith, slot)) (omega (arith, size, r.past, within))) is there (λ P made. made) in
-    one_put T H (entries_address key k (length all) level, place) (place + 1) at free old now (λ w. entries_at T key k (first w nothing) ≡ listed (pairs_of all)) (λ P. entries_at T key k P ≡ listed (pairs_of all)) whole (λ w made. made)
+    one_put T H (entries_address key k (length all) level, place) (place + 1) at free old now
+    (λ w. entries_at T key k (first w nothing) ≡ listed (pairs_of all))
+    (λ P. entries_at T key k P ≡ listed (pairs_of all)) whole (λ w made. made)

@@ -1,5 +1,6 @@
 -- The member that a tree has of a oneof.
-use Rattle.std.proofs.Common.{◌≡◌, ◌≢◌, ◌⊎◌, ℕ, ◌+◌, ◌<◌, ◌≤◌, Bool, true, false, cond, ◌==◌, List, Option, Some, None, refl, sym, ap, subst, ◌∙◌, arith, inl, inr}
+use Rattle.std.proofs.Common.{◌≡◌, ◌≢◌, ◌⊎◌, ℕ, ◌+◌, ◌<◌, ◌≤◌, Bool, true, false, cond, ◌==◌, List, Option, Some}
+use Rattle.std.proofs.Common.{None, refl, sym, ap, subst, ◌∙◌, arith, inl, inr}
 use Rattle.std.specs.Prelude.{option_map, unwrap_or}
 use Rattle.std.proofs.lemmas.Bool.{eq-eqb, ne_eqb, cases_Bool, true≢false}
 use Rattle.mrpc_table.specs.Node.{Node, no_fields, field, Content, content_at, NumbersAscend}
@@ -60,18 +61,22 @@ one_more fs o last n c t found fails sole =
       alone = (fails ∙ sym (ne_eqb found n differ), sole.alone);
     }
 
-one_first : (fs : List Field) (o n : ℕ) (c : Content) (t : Node) (found : ℕ) → found ≡ n → is_member_of fs o n ≡ true → NumbersAscend n t → Each (λ k. is_member_of fs o k ≡ false) t → OneMember fs o (field n c t) found
+one_first : (fs : List Field) (o n : ℕ) (c : Content) (t : Node) (found : ℕ) → found ≡ n → is_member_of fs o n ≡ true
+    → NumbersAscend n t → Each (λ k. is_member_of fs o k ≡ false) t → OneMember fs o (field n c t) found
 one_first fs o n c t found e holds up none = record {
   content = c;
   at = ap (λ b. cond b (Some c) (content_at t found)) (eq-eqb n found (sym e));
   is = ap (is_member_of fs o) e ∙ holds;
   alone = (
     holds ∙ sym (eq-eqb found n e),
-    each_both (λ k. is_member_of fs o k ≡ false) (λ k. n < k) (λ k. is_member_of fs o k ≡ (found == k)) t (λ k fails above. fails ∙ sym (ne_eqb found k (λ same. omega (arith, same, e, above)))) none (each_above n t up),
+    each_both (λ k. is_member_of fs o k ≡ false) (λ k. n < k) (λ k. is_member_of fs o k ≡ (found == k)) t
+        (λ k fails above. fails ∙ sym (ne_eqb found k (λ same. omega (arith, same, e, above)))) none
+        (each_above n t up),
   );
 }
 
-pub one_member : (fs : List Field) (o otherwise last : ℕ) (t : Node) → NumbersAscend last t → members_in fs o t ≤ 1 → (members_in fs o t ≡ 0) ⊎ OneMember fs o t (member_of fs o otherwise t)
+pub one_member : (fs : List Field) (o otherwise last : ℕ) (t : Node) → NumbersAscend last t → members_in fs o t ≤ 1
+    → (members_in fs o t ≡ 0) ⊎ OneMember fs o t (member_of fs o otherwise t)
 one_member fs o otherwise last no_fields up few = inl refl
 one_member fs o otherwise last (field n c t) up few =
     elim (cases_Bool (is_member_of fs o n)) [

@@ -1,5 +1,6 @@
 -- What the parts of a node put, by what their calls put.
-use Rattle.std.proofs.Common.{◌≡◌, ◌≢◌, ℕ, suc, ◌+◌, ◌-◌, ◌*◌, ◌<◌, ◌≤◌, ◌^◌, Bool, true, false, cond, List, [], ◌∷◌, ◌++◌, length, drop, get_or, Some, sym, ap, subst, ◌∙◌, arith, inl, inr}
+use Rattle.std.proofs.Common.{◌≡◌, ◌≢◌, ℕ, suc, ◌+◌, ◌-◌, ◌*◌, ◌<◌, ◌≤◌, ◌^◌, Bool, true, false, cond, List, [], ◌∷◌}
+use Rattle.std.proofs.Common.{◌++◌, length, drop, get_or, Some, sym, ap, subst, ◌∙◌, arith, inl, inr}
 use Rattle.std.proofs.lemmas.Bool.{cases_Bool}
 use Rattle.mrpc_table.specs.Node.{Node, no_fields, field, Content, one, many, pairs, Item, content_at}
 use Rattle.mrpc_table.specs.Normal.{fields_of, field_at, HasFields, OneMemberEach, TakesMany, IsItem, depth, item_depth, kind_at}
@@ -43,7 +44,8 @@ keep_less T fs p (field n c t) =
       | inr fails ↦ let here = ap (λ b. fields_words T fs (cond b (field n c (keep p t)) (keep p t))) fails in omega (arith, here, rest)
     ]
 
-pub node_puts : (T : Table) (m : ℕ) (t : Node) (f0 at f1 place f2 f3 : ℕ) (w0 w1 w2 w3 : Loads) → at ≡ f0 → f1 ≡ f0 + size_words T m → w1 ≡ w0 → place ≡ at + 2 * length (own_slots (fields_of T m))
+pub node_puts : (T : Table) (m : ℕ) (t : Node) (f0 at f1 place f2 f3 : ℕ) (w0 w1 w2 w3 : Loads) → at ≡ f0
+    → f1 ≡ f0 + size_words T m → w1 ≡ w0 → place ≡ at + 2 * length (own_slots (fields_of T m))
     → f2 + fields_words T (fields_of T m) (members (fields_of T m) t) ≡ f1 + fields_words T (fields_of T m) t → f3 ≡ f2 + fields_words T (fields_of T m) (members (fields_of T m) t)
     → SlotsPut T m t at f1 w1 f2 w2 → CasesPut T m t place f2 w2 f3 w3 → NodePut T m t f0 w0 f3 w3
 node_puts T m t f0 at f1 place f2 f3 w0 w1 w2 w3 first grown words behind middle last slots cases =
@@ -62,7 +64,9 @@ node_puts T m t f0 at f1 place f2 f3 w0 w1 w2 w3 first grown words behind middle
 
 abbrev pub FieldPut : Table → Field → Node → ℕ → ℕ → Loads → ℕ → Loads → Type 0
 FieldPut T f t place c before d next =
-    (H level : ℕ) → d ≤ H → level + depth t ≤ 33 → PutsWord T H (slot_role f.label f.kind level, place) (place + 2) c d before next (λ w. slot_content T f.label f.kind w ≡ content_at t f.number)
+    (H level : ℕ) → d ≤ H → level + depth t ≤ 33
+    → PutsWord T H (slot_role f.label f.kind level, place) (place + 2) c d before next
+    (λ w. slot_content T f.label f.kind w ≡ content_at t f.number)
 
 -- what the slot of the next field may be given
 pub record FieldFits (T : Table) (f : Field) (t : Node) (place free : ℕ) : Type 0 where
@@ -72,19 +76,28 @@ pub record FieldFits (T : Table) (f : Field) (t : Node) (place free : ℕ) : Typ
   pub slot : is_member f.label ≡ false → place + 2 ≤ free
   pub room : is_member f.label ≡ false → free + found_words T f.kind (content_at t f.number) < 2 ^ 64
 
-pub field_fits : (T : Table) (m : ℕ) (t : Node) (at c : ℕ) (before : Loads) (all : List Field) (i : ℕ) (f : Field) (place free : ℕ) (now : Loads) → IsValid T → HasFields T (fields_of T m) 0 t → 1 ≤ at → at + 2 * length (own_slots (fields_of T m)) ≤ c
-    → c + fields_words T (fields_of T m) t < 2 ^ 64 → i < length all → f ≡ get_or all i f → SlotsOn T (fields_of T m) t at c before (drop i all) place free now → FieldFits T f t place free
+pub field_fits : (T : Table) (m : ℕ) (t : Node) (at c : ℕ) (before : Loads) (all : List Field) (i : ℕ) (f : Field)
+    (place free : ℕ) (now : Loads) → IsValid T → HasFields T (fields_of T m) 0 t → 1 ≤ at
+    → at + 2 * length (own_slots (fields_of T m)) ≤ c
+    → c + fields_words T (fields_of T m) t < 2 ^ 64 → i < length all → f ≡ get_or all i f
+    → SlotsOn T (fields_of T m) t at c before (drop i all) place free now → FieldFits T f t place free
 field_fits T m t at c before all i f place free now valid has from slots room within is on =
-    let r : SlotsOn T (fields_of T m) t at c before (f ∷ drop (i + 1) all) place free now = subst (λ rest. SlotsOn T (fields_of T m) t at c before rest place free now) (next_part all i f within is) on in
+    let r : SlotsOn T (fields_of T m) t at c before (f ∷ drop (i + 1) all) place free now =
+    subst (λ rest. SlotsOn T (fields_of T m) t at c before rest place free now) (next_part all i f within is) on
+    in
     record {
       known = (fields_of T m, has, r.each.0);
       field = (oneofs_of T m, field_is T (oneofs_of T m) (fields_of T m) f.number f (are_fields T m valid).each r.each.0);
       from = omega (arith, from, r.from);
-      slot = λ fails. let count : length (own_slots (f ∷ drop (i + 1) all)) ≡ suc (length (own_slots (drop (i + 1) all))) = ap length (own_here f (drop (i + 1) all) fails) in omega (arith, count, r.place_is, slots, r.past);
+      slot = λ fails. let count : length (own_slots (f ∷ drop (i + 1) all))
+          ≡ suc (length (own_slots (drop (i + 1) all))) = ap length (own_here f (drop (i + 1) all) fails) in
+          omega (arith, count, r.place_is, slots, r.past);
       room = λ fails. let sum = next_words T (fields_of T m) t at c before f (drop (i + 1) all) place free now has r fails in omega (arith, sum, room);
     }
 
-pub slots_step : (T : Table) (fs : List Field) (t : Node) (at c : ℕ) (before : Loads) (all : List Field) (i : ℕ) (f : Field) (place next free free2 : ℕ) (now now2 : Loads) → HasFields T fs 0 t → at + 2 * length (own_slots fs) ≤ c
+pub slots_step : (T : Table) (fs : List Field) (t : Node) (at c : ℕ) (before : Loads) (all : List Field) (i : ℕ)
+    (f : Field) (place next free free2 : ℕ) (now now2 : Loads) → HasFields T fs 0 t
+    → at + 2 * length (own_slots fs) ≤ c
     → i < length all → f ≡ get_or all i f → SlotsOn T fs t at c before (drop i all) place free now
     → (is_member f.label ≡ true → (next ≡ place) × (free2 ≡ free) × (now2 ≡ now))
     → (is_member f.label ≡ false → next ≡ place + 2)
@@ -112,7 +125,9 @@ CasePut T fs t member place c before d next =
     (H level oneof : ℕ) → d ≤ H → level + depth t ≤ 33 → IsMemberOf fs oneof t member
     → PutsWord T H (case_word fs oneof level, place) (place + 3) c d before next (λ w. (u : Node) → with_member T fs w u ≡ with_field member (content_at t member) u)
 
-pub cases_first : (T : Table) (m : ℕ) (t : Node) (at c : ℕ) (before : Loads) → IsValid T → HasFields T (fields_of T m) 0 t → CasesOn T (fields_of T m) t (oneofs_of T m) at c before 0 (oneofs_of T m - 0) at c before
+pub cases_first : (T : Table) (m : ℕ) (t : Node) (at c : ℕ) (before : Loads) → IsValid T
+    → HasFields T (fields_of T m) 0 t
+    → CasesOn T (fields_of T m) t (oneofs_of T m) at c before 0 (oneofs_of T m - 0) at c before
 cases_first T m t at c before valid has =
     let all : oneofs_of T m ≡ oneofs_of T m - 0 = omega arith in
     subst (λ n. CasesOn T (fields_of T m) t (oneofs_of T m) at c before 0 n at c before) all
@@ -127,8 +142,10 @@ pub record CaseFits (T : Table) (fs : List Field) (t : Node) (member place free 
 tells : (T : Table) (fs : List Field) (o : ℕ) (t : Node) (member : ℕ) → HasFields T fs 0 t → OneMemberEach fs t → member ≡ member_of fs o 0 t → Tells fs o t member
 tells T fs o t member has few is = subst (Tells fs o t) (sym is) (member_tells fs o t (fields_ascend T fs 0 t has) (few o))
 
-pub case_fits : (T : Table) (fs : List Field) (t : Node) (all at c : ℕ) (before : Loads) (o place free member : ℕ) (now : Loads) → HasFields T fs 0 t → OneMemberEach fs t → 1 ≤ at → at + 3 * all ≤ c
-    → c + fields_words T fs (members fs t) < 2 ^ 64 → o < all → member ≡ member_of fs o 0 t → CasesOn T fs t all at c before o (all - o) place free now → CaseFits T fs t member place free
+pub case_fits : (T : Table) (fs : List Field) (t : Node) (all at c : ℕ) (before : Loads) (o place free member : ℕ)
+    (now : Loads) → HasFields T fs 0 t → OneMemberEach fs t → 1 ≤ at → at + 3 * all ≤ c
+    → c + fields_words T fs (members fs t) < 2 ^ 64 → o < all → member ≡ member_of fs o 0 t
+    → CasesOn T fs t all at c before o (all - o) place free now → CaseFits T fs t member place free
 case_fits T fs t all at c before o place free member now has few from slots room more is on =
     let next : all - o ≡ suc (all - (o + 1)) = omega (arith, more) in
     let r : CasesOn T fs t all at c before o (suc (all - (o + 1))) place free now = subst (λ n. CasesOn T fs t all at c before o n place free now) next on in
@@ -142,8 +159,12 @@ case_fits T fs t all at c before o place free member now has few from slots room
       room = omega (arith, sum, room);
     }
 
-pub cases_step : (T : Table) (fs : List Field) (t : Node) (all at c : ℕ) (before : Loads) (o place next free free2 member : ℕ) (now now2 : Loads) → HasFields T fs 0 t → OneMemberEach fs t → at + 3 * all ≤ c → o < all
-    → member ≡ member_of fs o 0 t → next ≡ place + 3 → CasesOn T fs t all at c before o (all - o) place free now → free2 ≡ free + found_words T (kind_at fs member) (content_at t member) → CasePut T fs t member place free now free2 now2
+pub cases_step : (T : Table) (fs : List Field) (t : Node) (all at c : ℕ) (before : Loads)
+    (o place next free free2 member : ℕ) (now now2 : Loads) → HasFields T fs 0 t → OneMemberEach fs t
+    → at + 3 * all ≤ c → o < all
+    → member ≡ member_of fs o 0 t → next ≡ place + 3 → CasesOn T fs t all at c before o (all - o) place free now
+    → free2 ≡ free + found_words T (kind_at fs member) (content_at t member)
+    → CasePut T fs t member place free now free2 now2
     → CasesOn T fs t all at c before (o + 1) (all - (o + 1)) next free2 now2
 cases_step T fs t all at c before o place next free free2 member now now2 has few slots more is step on size puts =
     let left : all - o ≡ suc (all - (o + 1)) = omega (arith, more) in
@@ -157,13 +178,17 @@ cases_step T fs t all at c before o place next free free2 member now now2 has fe
 -- ---- the slot of a oneof
 
 -- no member
-pub case_none : (T : Table) (fs : List Field) (t : Node) (member place c d : ℕ) (before next : Loads) → member ≡ 0 → place + 3 ≤ c → d ≡ c → next ≡ before ++ (place, member) ∷ [] → CasePut T fs t member place c before d next
+pub case_none : (T : Table) (fs : List Field) (t : Node) (member place c d : ℕ) (before next : Loads) → member ≡ 0
+    → place + 3 ≤ c → d ≡ c → next ≡ before ++ (place, member) ∷ [] → CasePut T fs t member place c before d next
 case_none T fs t member place c d before next none slot size put = λ H level oneof within deep known.
-    subst (λ e. PutsWord T H (case_word fs oneof level, place) (place + 3) c e before next (λ w. (u : Node) → with_member T fs w u ≡ with_field member (content_at t member) u)) (sym size)
+    subst (λ e. PutsWord T H (case_word fs oneof level, place) (place + 3) c e before next (λ w. (u : Node)
+    → with_member T fs w u ≡ with_field member (content_at t member) u)) (sym size)
     (no_case T H fs oneof level place c member t before next none (known.some none) slot put)
 
 -- a member
-pub case_some : (T : Table) (fs : List Field) (t : Node) (member place c mid_free d : ℕ) (i : Item) (before mid next : Loads) → member ≢ 0 → member < 2 ^ 64 → content_at t member ≡ Some (one i) → place + 3 ≤ c → mid_free ≡ c → c ≤ d
+pub case_some : (T : Table) (fs : List Field) (t : Node) (member place c mid_free d : ℕ) (i : Item)
+    (before mid next : Loads) → member ≢ 0 → member < 2 ^ 64 → content_at t member ≡ Some (one i) → place + 3 ≤ c
+    → mid_free ≡ c → c ≤ d
     → mid ≡ before ++ (place, member) ∷ [] → ItemPut T (kind_at fs member) i (place + 1) mid_free mid d next → CasePut T fs t member place c before d next
 case_some T fs t member place c mid_free d i before mid next some small found slot same grown put puts = λ H level oneof within deep known.
     let there : ItemPut T (kind_at fs member) i (place + 1) c mid d next = subst (λ e. ItemPut T (kind_at fs member) i (place + 1) e mid d next) same puts in
@@ -178,7 +203,8 @@ no_map : (key : Kind) (o : ℕ) → Map key ≡ Member o → ⊥
 no_map key o same = subst IsMap same tt
 
 -- the content of a member is one value
-pub member_item : (T : Table) (fs : List Field) (t : Node) (o n : ℕ) (c : Content) → HasFields T fs 0 t → is_member_of fs o n ≡ true → content_at t n ≡ Some c → (i : Item) × (content_at t n ≡ Some (one i))
+pub member_item : (T : Table) (fs : List Field) (t : Node) (o n : ℕ) (c : Content) → HasFields T fs 0 t
+    → is_member_of fs o n ≡ true → content_at t n ≡ Some c → (i : Item) × (content_at t n ≡ Some (one i))
 member_item T fs t o n (one i) has member at = (i, at)
 member_item T fs t o n (many is) has member at =
     let h = content_has T fs 0 n (many is) t has at in

@@ -17,12 +17,14 @@ element_at (x ∷ xs) (suc i) d h = let rest = element_at xs i d (omega (arith, 
 pub element_weight : (xs : List Value) (i : ℕ) (x : Value) → i < length xs → x ≡ get_or xs i x → item_weight (item_of x) ≤ items_weight (items_of xs)
 element_weight xs i x h is = let below = element_at xs i x h in let same = ap (λ (y : Value). item_weight (item_of y)) is in omega (arith, below, same)
 
-entry_at : (xs : List (Value × Value)) (i : ℕ) (d : Value × Value) → i < length xs → item_weight (item_of (get_or xs i d).0) + item_weight (item_of (get_or xs i d).1) ≤ pairs_weight (pairs_of xs)
+entry_at : (xs : List (Value × Value)) (i : ℕ) (d : Value × Value) → i < length xs
+    → item_weight (item_of (get_or xs i d).0) + item_weight (item_of (get_or xs i d).1) ≤ pairs_weight (pairs_of xs)
 entry_at [] i d h = absurd (omega (arith, h))
 entry_at (x ∷ xs) zero d h = omega arith
 entry_at (x ∷ xs) (suc i) d h = let rest = entry_at xs i d (omega (arith, h)) in omega (arith, rest)
 
-pub entry_weight : (xs : List (Value × Value)) (i : ℕ) (x : Value × Value) → i < length xs → x ≡ get_or xs i x → item_weight (item_of x.0) + item_weight (item_of x.1) ≤ pairs_weight (pairs_of xs)
+pub entry_weight : (xs : List (Value × Value)) (i : ℕ) (x : Value × Value) → i < length xs → x ≡ get_or xs i x
+    → item_weight (item_of x.0) + item_weight (item_of x.1) ≤ pairs_weight (pairs_of xs)
 entry_weight xs i x h is = let below = entry_at xs i x h in let same = ap (λ (y : Value × Value). item_weight (item_of y.0) + item_weight (item_of y.1)) is in omega (arith, below, same)
 
 content_there : (xs : List (ℕ × FieldValue)) (i : ℕ) (d : ℕ × FieldValue) → i < length xs → content_weight (content_of (get_or xs i d).1) < weight (node_of xs)

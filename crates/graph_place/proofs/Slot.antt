@@ -1,5 +1,6 @@
 -- The slot of a field by what it has.
-use Rattle.std.proofs.Common.{◌≡◌, ◌≢◌, ℕ, ◌+◌, ◌*◌, ◌<◌, ◌≤◌, ◌^◌, false, cond, List, [], ◌∷◌, ◌++◌, length, Some, None, refl, sym, ap, subst, ◌∙◌, arith}
+use Rattle.std.proofs.Common.{◌≡◌, ◌≢◌, ℕ, ◌+◌, ◌*◌, ◌<◌, ◌≤◌, ◌^◌, false, cond, List, [], ◌∷◌, ◌++◌, length, Some}
+use Rattle.std.proofs.Common.{None, refl, sym, ap, subst, ◌∙◌, arith}
 use Rattle.std.specs.Ordering.{nat_cmp, ordering_then}
 use Rattle.std.specs.declared.cmp.Ordering.TheVariants.{Less, Equal, Greater}
 use Rattle.std.proofs.lemmas.Bool.{ne_eqb, true≢false, false≢true}
@@ -34,7 +35,8 @@ is_true_key T oneofs f key is e m same =
     let goes : GoesWith oneofs (Map (OfMessage m)) f.kind = subst (λ k. GoesWith oneofs (Map k) f.kind) same (subst (λ l. GoesWith oneofs l f.kind) e is.label) in
     false≢true goes
 
-pub content_holds : (T : Table) (oneofs : ℕ) (fs : List Field) (n : ℕ) (f : Field) (c : Content) → IsField T oneofs f → field_at fs n ≡ Some f → HasContent T fs n c → HoldsContent T f.label f.kind c
+pub content_holds : (T : Table) (oneofs : ℕ) (fs : List Field) (n : ℕ) (f : Field) (c : Content) → IsField T oneofs f
+    → field_at fs n ≡ Some f → HasContent T fs n c → HoldsContent T f.label f.kind c
 content_holds T oneofs fs n f (one i) is at h =
     let e : h.0 ≡ f = (let s : Some h.0 ≡ Some f = sym h.1 ∙ at in cc) in (
       (subst (λ g. TakesOne g.label i) e h.2, subst (λ g. IsItem T g.kind i) e h.3),
@@ -97,7 +99,8 @@ slot_plain T H l k level place i c d before next fails other takes puts =
     let some : IsDefault i → ⊥ = subst (λ x. TakesOne x i) plain takes in
     let wide = narrow k in
     let whole : PutsWord T H (plain_role k level false, place) (place + 2) c d before next (λ w. slot_content T Plain k w ≡ Some (one i))
-    = word_wide T H (plain_role k level false, place) (place + element_words k) (place + 2) c d before next (HoldsItem T k i) (λ w. slot_content T Plain k w ≡ Some (one i)) (omega (arith, wide)) puts
+    = word_wide T H (plain_role k level false, place) (place + element_words k) (place + 2) c d before next
+    (HoldsItem T k i) (λ w. slot_content T Plain k w ≡ Some (one i)) (omega (arith, wide)) puts
     (λ w holds. plain_says T k w (holds.some some) ∙ ap (λ j. Some (one j)) holds.item) in
     subst (λ x. PutsWord T H (slot_role x k level, place) (place + 2) c d before next (λ w. slot_content T x k w ≡ Some (one i))) (sym plain) whole
 
@@ -116,7 +119,8 @@ some_pairs (x ∷ es) some e = omega (arith, e)
 many_says : (T : Table) (k : Kind) (p v : ℕ) (P : Placed) (is : Items) → v ≢ 0 → elements_at T k P ≡ is → slot_content T Repeated k (word p v P) ≡ Some (many is)
 many_says T k p v P is some made = ap (λ b. cond b None (Some (many (elements_at T k P)))) (ne_eqb v 0 some) ∙ ap (λ x. Some (many x)) made
 
-repeated_put : (T : Table) (H : ℕ) (k : Kind) (level place : ℕ) (vs : List Value) (c d : ℕ) (before mid next : Loads) → items_of vs ≢ no_items → length vs < 2 ^ 64 → place + 2 ≤ c → d ≡ c + many_words T k (items_of vs) → d ≤ H
+repeated_put : (T : Table) (H : ℕ) (k : Kind) (level place : ℕ) (vs : List Value) (c d : ℕ) (before mid next : Loads)
+    → items_of vs ≢ no_items → length vs < 2 ^ 64 → place + 2 ≤ c → d ≡ c + many_words T k (items_of vs) → d ≤ H
     → mid ≡ before ++ (place, length vs) ∷ []
     → Puts T H ((elements_address k (length vs) level, place + 1) ∷ []) (place + 1) (place + 1 + 1) c d mid next (λ P. elements_at T k P ≡ items_of vs)
     → PutsWord T H (count k level, place) (place + 2) c d before next (λ w. slot_content T Repeated k w ≡ Some (many (items_of vs)))
@@ -125,7 +129,9 @@ repeated_put T H k level place vs c d before mid next some small slot size withi
     let there = some_items vs some in
     let sum = many_are T k vs in
     let few : length vs * element_words k < H = omega (arith, sum, size, within, slot) in
-    word_put T H (count k level) place (length vs) (place + 2) c d before mid next (λ P. elements_at T k P ≡ items_of vs) (λ w. slot_content T Repeated k w ≡ Some (many (items_of vs))) (omega arith) slot (omega (arith, size)) small
+    word_put T H (count k level) place (length vs) (place + 2) c d before mid next
+    (λ P. elements_at T k P ≡ items_of vs) (λ w. slot_content T Repeated k w ≡ Some (many (items_of vs)))
+    (omega arith) slot (omega (arith, size)) small
     (fine_count T H k level (length vs) few) put
     (subst (λ es. Puts T H es (place + 1) (place + 2) c d mid next (λ P. elements_at T k P ≡ items_of vs)) (sym (count_behind T k level place (length vs) there))
     (subst (λ b. Puts T H ((elements_address k (length vs) level, place + 1) ∷ []) (place + 1) b c d mid next (λ P. elements_at T k P ≡ items_of vs)) two puts))
@@ -134,14 +140,19 @@ repeated_put T H k level place vs c d before mid next some small slot size withi
 packed_same : (T : Table) (k : Kind) (c : Content) (w : Word) → slot_content T Repeated k w ≡ Some c → slot_content T Packed k w ≡ Some c
 packed_same T k c (word p v P) made = made
 
-pub slot_many : (T : Table) (H : ℕ) (l : Label) (k : Kind) (level place : ℕ) (vs : List Value) (c d : ℕ) (before mid next : Loads) → TakesMany l → items_of vs ≢ no_items → length vs < 2 ^ 64 → place + 2 ≤ c → d ≡ c + many_words T k (items_of vs) → d ≤ H
+pub slot_many : (T : Table) (H : ℕ) (l : Label) (k : Kind) (level place : ℕ) (vs : List Value) (c d : ℕ)
+    (before mid next : Loads) → TakesMany l → items_of vs ≢ no_items → length vs < 2 ^ 64 → place + 2 ≤ c
+    → d ≡ c + many_words T k (items_of vs) → d ≤ H
     → mid ≡ before ++ (place, length vs) ∷ []
     → Puts T H ((elements_address k (length vs) level, place + 1) ∷ []) (place + 1) (place + 1 + 1) c d mid next (λ P. elements_at T k P ≡ items_of vs)
     → PutsWord T H (slot_role l k level, place) (place + 2) c d before next (λ w. slot_content T l k w ≡ Some (many (items_of vs)))
-slot_many T H Repeated k level place vs c d before mid next takes some small slot size within put puts = repeated_put T H k level place vs c d before mid next some small slot size within put puts
+slot_many T H Repeated k level place vs c d before mid next takes some small slot size within put puts =
+    repeated_put T H k level place vs c d before mid next some small slot size within put puts
 slot_many T H Packed k level place vs c d before mid next takes some small slot size within put puts =
     let whole = repeated_put T H k level place vs c d before mid next some small slot size within put puts in
-    word_wide T H (count k level, place) (place + 2) (place + 2) c d before next (λ w. slot_content T Repeated k w ≡ Some (many (items_of vs))) (λ w. slot_content T Packed k w ≡ Some (many (items_of vs))) (omega arith) whole (packed_same T k (many (items_of vs)))
+    word_wide T H (count k level, place) (place + 2) (place + 2) c d before next (λ w. slot_content T Repeated k w
+    ≡ Some (many (items_of vs))) (λ w. slot_content T Packed k w ≡ Some (many (items_of vs))) (omega arith) whole
+    (packed_same T k (many (items_of vs)))
 slot_many T H Plain k level place vs c d before mid next takes some small slot size within put puts = absurd takes
 slot_many T H Optional k level place vs c d before mid next takes some small slot size within put puts = absurd takes
 slot_many T H (Map key) k level place vs c d before mid next takes some small slot size within put puts = absurd takes
@@ -151,11 +162,15 @@ slot_many T H (Member o) k level place vs c d before mid next takes some small s
 entries_behind : (T : Table) (key k : Kind) (level p n : ℕ) → n ≢ 0 → behind T (entry_count key k level) p n ≡ (entries_address key k n level, p + 1) ∷ []
 entries_behind T key k level p n some = ap (λ b. cond b [] ((entries_address key k n level, p + 1) ∷ [])) (ne_eqb n 0 some)
 
-pairs_say : (T : Table) (key k : Kind) (p v : ℕ) (P : Placed) (ps : Pairs) → v ≢ 0 → KeysAscend key ps → entries_at T key k P ≡ listed ps → slot_content T (Map key) k (word p v P) ≡ Some (pairs ps)
+pairs_say : (T : Table) (key k : Kind) (p v : ℕ) (P : Placed) (ps : Pairs) → v ≢ 0 → KeysAscend key ps
+    → entries_at T key k P ≡ listed ps → slot_content T (Map key) k (word p v P) ≡ Some (pairs ps)
 pairs_say T key k p v P ps some up made =
-    ap (λ b. cond b None (Some (pairs (last_of_each key (entries_at T key k P))))) (ne_eqb v 0 some) ∙ ap (λ es. Some (pairs (last_of_each key es))) made ∙ ap (λ x. Some (pairs x)) (last_kept key ps up)
+    ap (λ b. cond b None (Some (pairs (last_of_each key (entries_at T key k P))))) (ne_eqb v 0 some)
+    ∙ ap (λ es. Some (pairs (last_of_each key es))) made ∙ ap (λ x. Some (pairs x)) (last_kept key ps up)
 
-pub slot_pairs : (T : Table) (H : ℕ) (l : Label) (key k : Kind) (level place : ℕ) (es : List (Value × Value)) (c d : ℕ) (before mid next : Loads) → l ≡ Map key → pairs_of es ≢ no_pairs → KeysAscend key (pairs_of es) → length es < 2 ^ 64 → place + 2 ≤ c
+pub slot_pairs : (T : Table) (H : ℕ) (l : Label) (key k : Kind) (level place : ℕ) (es : List (Value × Value))
+    (c d : ℕ) (before mid next : Loads) → l ≡ Map key → pairs_of es ≢ no_pairs → KeysAscend key (pairs_of es)
+    → length es < 2 ^ 64 → place + 2 ≤ c
     → d ≡ c + pairs_words T k (pairs_of es) → d ≤ H
     → mid ≡ before ++ (place, length es) ∷ []
     → Puts T H ((entries_address key k (length es) level, place + 1) ∷ []) (place + 1) (place + 1 + 1) c d mid next (λ P. entries_at T key k P ≡ listed (pairs_of es))
@@ -166,7 +181,9 @@ slot_pairs T H l key k level place es c d before mid next label some up small sl
     let sum = pairs_are T k es in
     let few : 4 * length es < H = omega (arith, sum, size, within, slot) in
     let whole : PutsWord T H (entry_count key k level, place) (place + 2) c d before next (λ w. slot_content T (Map key) k w ≡ Some (pairs (pairs_of es)))
-    = word_put T H (entry_count key k level) place (length es) (place + 2) c d before mid next (λ P. entries_at T key k P ≡ listed (pairs_of es)) (λ w. slot_content T (Map key) k w ≡ Some (pairs (pairs_of es))) (omega arith) slot (omega (arith, size)) small
+    = word_put T H (entry_count key k level) place (length es) (place + 2) c d before mid next
+    (λ P. entries_at T key k P ≡ listed (pairs_of es)) (λ w. slot_content T (Map key) k w
+    ≡ Some (pairs (pairs_of es))) (omega arith) slot (omega (arith, size)) small
     (fine_entry_count T H key k level (length es) few) put
     (subst (λ xs. Puts T H xs (place + 1) (place + 2) c d mid next (λ P. entries_at T key k P ≡ listed (pairs_of es))) (sym (entries_behind T key k level place (length es) there))
     (subst (λ b. Puts T H ((entries_address key k (length es) level, place + 1) ∷ []) (place + 1) b c d mid next (λ P. entries_at T key k P ≡ listed (pairs_of es))) two puts))

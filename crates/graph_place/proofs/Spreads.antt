@@ -38,7 +38,8 @@ between_apart a b b2 c d d2 p q hc hx hy e =
 
 -- ---- words
 
-pub spread_join : (a b b2 c d d2 : ℕ) (xs ys : List (ℕ × ℕ)) → a ≤ b → b ≤ b2 → b2 ≤ c → c ≤ d → d ≤ d2 → Spread a b c d xs → Spread b b2 d d2 ys → Spread a b2 c d2 (xs ++ ys)
+pub spread_join : (a b b2 c d d2 : ℕ) (xs ys : List (ℕ × ℕ)) → a ≤ b → b ≤ b2 → b2 ≤ c → c ≤ d → d ≤ d2
+    → Spread a b c d xs → Spread b b2 d d2 ys → Spread a b2 c d2 (xs ++ ys)
 spread_join a b b2 c d d2 xs ys ab bb bc cd dd h g = record {
   within =
       each_append (λ x. Between a b2 c d2 x.0) xs ys (each_weaker (λ x. Between a b c d x.0) (λ x. Between a b2 c d2 x.0) (λ x. between_left a b b2 c d d2 x.0 bb dd) xs h.within)

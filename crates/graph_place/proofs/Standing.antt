@@ -50,7 +50,8 @@ differs p (y ∷ ys) h = (λ e. h (0, omega arith, sym e), differs p ys (λ c. h
 last_here : (before : Stores) (x : ℕ × ℕ) (xs : Stores) → AllByRecursion (λ (y : ℕ × ℕ). x.0 ≡ y.0 → ⊥) xs → word_after (before ++ x ∷ xs) x.0 ≡ x.1
 unfolding word_after
 last_here before x xs none =
-    let tail : stored (x ∷ xs) x.0 ≡ x.1 ∷ [] = stored_append (x ∷ []) xs x.0 ∙ ap (λ zs. zs ++ stored xs x.0) (stored_one x) ∙ ap (λ zs. x.1 ∷ zs) (stored_none x.0 xs none) in
+    let tail : stored (x ∷ xs) x.0 ≡ x.1 ∷ [] = stored_append (x ∷ []) xs x.0 ∙ ap (λ zs. zs ++ stored xs x.0)
+    (stored_one x) ∙ ap (λ zs. x.1 ∷ zs) (stored_none x.0 xs none) in
     ap (last_or 0) (stored_append before (x ∷ xs) x.0 ∙ ap (λ zs. stored before x.0 ++ zs) tail) ∙ last_end 0 (stored before x.0) x.1
 
 each_stands : (before xs : Stores) → StandApart xs → AllByRecursion (λ (w : ℕ × ℕ). word_after (before ++ xs) w.0 ≡ w.1) xs

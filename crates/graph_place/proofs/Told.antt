@@ -18,7 +18,8 @@ use Rattle.graph_place.proofs.Spreads.{spread_within, apart_distinct}
 abbrev pub LaidOut : Table → ℕ → ℕ → ℕ → ℕ → Node → Loads → Type 0
 LaidOut T H msg at d t words = Puts T H (node_words T msg 1 at) at at at d [] words (λ P. tree_of T msg P ≡ t)
 
-pub laid_out : (T : Table) (H msg at d free : ℕ) (t : Node) (before words : Loads) → before ≡ [] → free ≡ at → NodePut T msg t free before d words → d ≤ H → depth t ≤ 32 → LaidOut T H msg at d t words
+pub laid_out : (T : Table) (H msg at d free : ℕ) (t : Node) (before words : Loads) → before ≡ [] → free ≡ at
+    → NodePut T msg t free before d words → d ≤ H → depth t ≤ 32 → LaidOut T H msg at d t words
 laid_out T H msg at d free t before words none first puts within deep =
     let there : NodePut T msg t at [] d words = subst (λ a. NodePut T msg t a [] d words) first (subst (λ xs. NodePut T msg t free xs d words) none puts) in
     there H 1 within (omega (arith, deep))

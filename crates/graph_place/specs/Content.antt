@@ -1,4 +1,4 @@
--- Which oneof a field is a member of, and which member a message has.
+-- The code's own: which oneof a field is a member of, and which member a message has.
 use Rattle.std.specs.Prelude.{ℕ, ◌==◌, Bool, false, List, option_map, unwrap_or, if◌then◌else◌}
 use Rattle.mrpc_table.specs.Node.{Node, no_fields, field}
 use Rattle.mrpc_table.specs.Normal.{field_at}

@@ -1,4 +1,4 @@
--- What a pass over a part of a message puts behind the words so far, in the words of the builder.
+-- The code's own: what a pass over a part of a message puts behind the words so far, in the words of the builder.
 use Rattle.std.specs.Prelude.{◌≡◌, ◌≢◌, ℕ, ◌+◌, ◌*◌, ◌<◌, ◌≤◌, ◌^◌, take, Bool, true, false, List, [], ◌∷◌, ◌++◌, length, Option, Some, None, if◌then◌else◌, ◌==◌}
 use Rattle.std.specs.List.{AllByRecursion}
 use Rattle.mrpc_table.specs.Node.{Node, no_fields, field, Content, one, many, pairs, Item, run, node, no_items, Pairs, no_pairs, pair, content_at}

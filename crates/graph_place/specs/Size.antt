@@ -1,5 +1,5 @@
 -- How many words a message takes in a heap: those of its node, and those of the content that stands behind.
-use Rattle.std.specs.Prelude.{ℕ, ◌+◌, ◌-◌, ◌^◌, min, List, length}
+use Rattle.std.specs.Prelude.{ℕ, ◌+◌, List, length}
 use Rattle.mrpc_table.specs.Node.{Node, no_fields, field, Content, one, many, pairs, Item, number, run, node, Items, no_items, item, Pairs, no_pairs, pair}
 use Rattle.mrpc_table.specs.Normal.{fields_of, kind_at}
 use Rattle.mrpc_table.specs.Words.{message_of}
@@ -43,7 +43,3 @@ abbrev mutual
 -- the words of a tree of the message at a place of the table
 abbrev pub tree_words : Table → ℕ → Node → ℕ
 tree_words T msg t = size_words T msg + fields_words T (fields_of T msg) t
-
--- a number of words, or the largest number of 64 bits where it is larger
-abbrev pub capped : ℕ → ℕ
-capped n = min n (2 ^ 64 - 1)

@@ -40,7 +40,7 @@ impl Builder {
         })
     }
 
-    /// Appends a word.
+    // Appends a word.
     fn put(&mut self, place: u64, value: u64) -> Result<(), Memory>
         ensures words { OnOk result (self.new.words.items ≡ self.old.words.items ++ (place, value) ∷ []) }
         ensures free { self.new.free ≡ self.old.free }
@@ -49,7 +49,7 @@ impl Builder {
         Ok(())
     }
 
-    /// The first of so many places that are taken now.
+    // The first of so many places that are taken now.
     fn take(&mut self, words: u64) -> u64
         requires { self.old.free + words < 2 ^ 64 }
         ensures first { result ≡ self.old.free }
@@ -80,7 +80,7 @@ impl Builder {
         self.cases(table, message, tree, place)
     }
 
-    /// The slots of the fields that are no members, from a place on. The place behind them.
+    // The slots of the fields that are no members, from a place on. The place behind them.
     #[cycle(builder)]
     fn slots(&mut self, table: &Table, message: u32, tree: &Tree, at: u64) -> Result<u64, Memory>
         requires valid { IsValid table.now }
@@ -107,7 +107,7 @@ impl Builder {
         Ok(place)
     }
 
-    /// The slot of a field, if it has one of its own. The place behind it.
+    // The slot of a field, if it has one of its own. The place behind it.
     #[cycle(builder)]
     fn field(
         &mut self,
@@ -150,7 +150,7 @@ impl Builder {
         }
     }
 
-    /// The slots of the oneofs, from a place on.
+    // The slots of the oneofs, from a place on.
     #[cycle(builder)]
     fn cases(&mut self, table: &Table, message: u32, tree: &Tree, at: u64) -> Result<(), Memory>
         requires valid { IsValid table.now }
@@ -179,7 +179,7 @@ impl Builder {
         Ok(())
     }
 
-    /// The slot of a oneof that has the member of a number, or none where it is 0.
+    // The slot of a oneof that has the member of a number, or none where it is 0.
     #[cycle(builder)]
     fn case(
         &mut self,
@@ -216,7 +216,7 @@ impl Builder {
         }
     }
 
-    /// The slot of a field that has this content.
+    // The slot of a field that has this content.
     #[cycle(builder)]
     fn slot(
         &mut self,
@@ -256,7 +256,7 @@ impl Builder {
         }
     }
 
-    /// The address of elements, and they with their content.
+    // The address of elements, and they with their content.
     #[cycle(builder)]
     fn elements(
         &mut self,
@@ -289,7 +289,7 @@ impl Builder {
         Ok(())
     }
 
-    /// The address of entries, and they with the content of their keys and values.
+    // The address of entries, and they with the content of their keys and values.
     #[cycle(builder)]
     fn entries(
         &mut self,
@@ -324,7 +324,7 @@ impl Builder {
         Ok(())
     }
 
-    /// A value in a slot that begins with its number, its length or its address, with its content.
+    // A value in a slot that begins with its number, its length or its address, with its content.
     #[cycle(builder)]
     fn item(&mut self, table: &Table, kind: Kind, value: &Value, place: u64) -> Result<(), Memory>
         requires valid { IsValid table.now }
@@ -352,7 +352,7 @@ impl Builder {
         }
     }
 
-    /// A number behind its presence, or a run behind its length and one more.
+    // A number behind its presence, or a run behind its length and one more.
     fn optional(&mut self, value: &Value, place: u64) -> Result<(), Memory>
         requires from_one { 1 ≤ place }
         requires slot { place + 2 ≤ self.old.free }
@@ -379,7 +379,7 @@ impl Builder {
         }
     }
 
-    /// The address of a run, and its words; nothing where it has no byte.
+    // The address of a run, and its words; nothing where it has no byte.
     fn run(&mut self, bytes: &[u8], place: u64) -> Result<(), Memory>
         requires from_one { 1 ≤ place }
         requires slot { place + 1 ≤ self.old.free }
@@ -404,7 +404,7 @@ impl Builder {
         self.run_word(rest)
     }
 
-    /// A word of a run.
+    // A word of a run.
     fn run_word(&mut self, bytes: &[u8]) -> Result<(), Memory>
         requires few { length bytes.now ≤ 8 }
         requires room { self.old.free + 1 < 2 ^ 64 }
@@ -417,7 +417,7 @@ impl Builder {
     }
 }
 
-/// The word that has these bytes, at most eight, in its low ones, and 0 in the others.
+// The word that has these bytes, at most eight, in its low ones, and 0 in the others.
 fn word_of(bytes: &[u8]) -> u64
     requires { length bytes.now ≤ 8 }
     ensures { HasBytes result bytes.now }

@@ -51,7 +51,7 @@ pub fn members_of(table: &Table, message: u32, tree: &Tree) -> [u32; MAX_FIELDS]
     members
 }
 
-/// Notes a number in the place of the oneof of which its field is a member.
+// Notes a number in the place of the oneof of which its field is a member.
 fn note_number(members: &mut [u32], table: &Table, message: u32, number: u32)
     requires valid { IsValid table.now }
     requires places { length members.old ≡ MAX_FIELDS }
@@ -64,7 +64,7 @@ fn note_number(members: &mut [u32], table: &Table, message: u32, number: u32)
     }
 }
 
-/// Notes a number in the place of the oneof of a label.
+// Notes a number in the place of the oneof of a label.
 fn note_label(members: &mut [u32], label: Label, number: u32)
     requires { (oneof : ℕ) → label ≡ Member oneof → oneof < length members.old }
     ensures { (oneof : ℕ) → slice_index members.new oneof

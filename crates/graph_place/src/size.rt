@@ -4,7 +4,8 @@ ghost use Rattle.std.specs.Prelude.{◌≡◌, ◌<◌, length};
 ghost use Rattle.mrpc_table.specs.Normal.{IsNormal};
 ghost use Rattle.mrpc_table.specs.Valid.{IsValid};
 ghost use Rattle.mrpc_table.specs.View.{item_of, items_of, pairs_of, content_of};
-ghost use Rattle.graph_place.specs.Size.{capped, tree_words, content_words, item_words, many_words, pairs_words, key_words};
+ghost use Rattle.mrpc_table.specs.Capped.{capped};
+ghost use Rattle.graph_place.specs.Size.{tree_words, content_words, item_words, many_words, pairs_words, key_words};
 
 use crate::look_up::kind_of;
 use graph_form::{element_words, run_words, size_words};
@@ -21,7 +22,7 @@ pub fn place_words(tree: &Tree, table: &Table, msg: u32) -> u64
     node_words(tree, table, msg)
 }
 
-/// The words of a node with all its content.
+// The words of a node with all its content.
 #[cycle(size)]
 fn node_words(tree: &Tree, table: &Table, msg: u32) -> u64
     requires { IsValid table.now }
@@ -35,7 +36,7 @@ fn node_words(tree: &Tree, table: &Table, msg: u32) -> u64
     total
 }
 
-/// The words of what a field has, beside its slot.
+// The words of what a field has, beside its slot.
 #[cycle(size)]
 fn content_words(content: &FieldValue, table: &Table, kind: Kind) -> u64
     requires { IsValid table.now }
@@ -48,7 +49,7 @@ fn content_words(content: &FieldValue, table: &Table, kind: Kind) -> u64
     }
 }
 
-/// The words of elements with their content.
+// The words of elements with their content.
 #[cycle(size)]
 fn elements_words(values: &Values, table: &Table, kind: Kind) -> u64
     requires { IsValid table.now }
@@ -63,7 +64,7 @@ fn elements_words(values: &Values, table: &Table, kind: Kind) -> u64
     total
 }
 
-/// The words of entries with the content of their keys and values.
+// The words of entries with the content of their keys and values.
 #[cycle(size)]
 fn entries_words(entries: &Entries, table: &Table, kind: Kind) -> u64
     requires { IsValid table.now }
@@ -77,7 +78,7 @@ fn entries_words(entries: &Entries, table: &Table, kind: Kind) -> u64
     total
 }
 
-/// The words behind a value of the kind.
+// The words behind a value of the kind.
 #[cycle(size)]
 fn item_words(value: &Value, table: &Table, kind: Kind) -> u64
     requires { IsValid table.now }
@@ -90,7 +91,7 @@ fn item_words(value: &Value, table: &Table, kind: Kind) -> u64
     }
 }
 
-/// The words behind a key, which is a number or a run.
+// The words behind a key, which is a number or a run.
 fn key_words(key: &Value) -> u64
     ensures { result ≡ capped (key_words (item_of key.now)) }
 {

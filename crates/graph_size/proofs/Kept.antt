@@ -21,10 +21,16 @@ abbrev pub all_bytes : Table → ℕ → Kind → Kind → List (Item × Item) �
 all_bytes T n key k [] = 0
 all_bytes T n key k (e ∷ es) = length (entry_bytes T n key k e.0 e.1) + all_bytes T n key k es
 
-pair-bytes : (T : Table) (n : ℕ) (key k : Kind) (i j : Item) (ps : Pairs) → length (entries_bytes T n key k (pair i j ps)) ≡ length (entry_bytes T n key k i j) + length (entries_bytes T n key k ps)
+pair-bytes : (T : Table) (n : ℕ) (key k : Kind) (i j : Item) (ps : Pairs)
+    → length (entries_bytes T n key k (pair i j ps)) ≡ length (entry_bytes T n key k i j)
+    + length (entries_bytes T n key k ps)
 pair-bytes T n key k i j ps = length-append (entry_bytes T n key k i j) (entries_bytes T n key k ps)
 
-with-go : (T : Table) (n : ℕ) (key k : Kind) (i j l w : Item) (ps rest : Pairs) (o : Ordering) → length (entries_bytes T n key k rest) ≤ length (entry_bytes T n key k i j) + length (entries_bytes T n key k ps) → length (entries_bytes T n key k (elim o [ Less ↦ pair i j (pair l w ps) | Equal ↦ pair l w ps | Greater ↦ pair l w rest ])) ≤ length (entry_bytes T n key k i j) + length (entries_bytes T n key k (pair l w ps))
+with-go : (T : Table) (n : ℕ) (key k : Kind) (i j l w : Item) (ps rest : Pairs) (o : Ordering)
+    → length (entries_bytes T n key k rest) ≤ length (entry_bytes T n key k i j) + length (entries_bytes T n key k ps)
+    → length (entries_bytes T n key k
+    (elim o [ Less ↦ pair i j (pair l w ps) | Equal ↦ pair l w ps | Greater ↦ pair l w rest ]))
+    ≤ length (entry_bytes T n key k i j) + length (entries_bytes T n key k (pair l w ps))
 with-go T n key k i j l w ps rest Less h = let e = pair-bytes T n key k i j (pair l w ps) in omega (arith, e)
 with-go T n key k i j l w ps rest Equal h = omega arith
 with-go T n key k i j l w ps rest Greater h =
@@ -32,7 +38,9 @@ with-go T n key k i j l w ps rest Greater h =
     let b = pair-bytes T n key k l w ps in
     omega (arith, a, b, h)
 
-with-short : (T : Table) (n : ℕ) (key k : Kind) (i j : Item) (ps : Pairs) → length (entries_bytes T n key k (with_pair key i j ps)) ≤ length (entry_bytes T n key k i j) + length (entries_bytes T n key k ps)
+with-short : (T : Table) (n : ℕ) (key k : Kind) (i j : Item) (ps : Pairs)
+    → length (entries_bytes T n key k (with_pair key i j ps)) ≤ length (entry_bytes T n key k i j)
+    + length (entries_bytes T n key k ps)
 with-short T n key k i j no_pairs = let e = pair-bytes T n key k i j no_pairs in omega (arith, e)
 with-short T n key k i j (pair l w ps) = with-go T n key k i j l w ps (with_pair key i j ps) (key_cmp key i l) (with-short T n key k i j ps)
 

@@ -120,7 +120,8 @@ entries-loads = refl
 abbrev one_key : Placed
 one_key = first (word 1 2 (first (word 2 3 (alone 3 largest (alone 5 0 (alone 7 largest (alone 9 largest nothing))))) nothing)) nothing
 
-one_key-bytes : bytes_of maps one_key ≡ 250 ∷ 255 ∷ 255 ∷ 255 ∷ 15 ∷ 22 ∷ 8 ∷ 255 ∷ 255 ∷ 255 ∷ 255 ∷ 255 ∷ 255 ∷ 255 ∷ 255 ∷ 255 ∷ 1 ∷ 16 ∷ 255 ∷ 255 ∷ 255 ∷ 255 ∷ 255 ∷ 255 ∷ 255 ∷ 255 ∷ 255 ∷ 1 ∷ []
+one_key-bytes : bytes_of maps one_key ≡ 250 ∷ 255 ∷ 255 ∷ 255 ∷ 15 ∷ 22 ∷ 8 ∷ 255 ∷ 255 ∷ 255 ∷ 255 ∷ 255 ∷ 255 ∷ 255
+    ∷ 255 ∷ 255 ∷ 1 ∷ 16 ∷ 255 ∷ 255 ∷ 255 ∷ 255 ∷ 255 ∷ 255 ∷ 255 ∷ 255 ∷ 255 ∷ 1 ∷ []
 unfolding varint groups
 one_key-bytes = refl
 

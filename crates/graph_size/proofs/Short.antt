@@ -1,6 +1,7 @@
 -- The encoding of the tree of a placed tree has at most 15 bytes for each load: a number has at most ten bytes and its
 -- tag five. A value has at most 15 bytes for each load less the five of a tag, so that a tag in front of it has room.
-use Rattle.std.proofs.Common.{◌≡◌, ℕ, ◌+◌, ◌-◌, ◌*◌, ◌<◌, ◌≤◌, ◌^◌, Bool, true, false, cond, List, [], ◌∷◌, ◌++◌, length, take, Option, Some, None, refl, sym, ap, subst, arith, length-append, ◌==◌}
+use Rattle.std.proofs.Common.{◌≡◌, ℕ, ◌+◌, ◌-◌, ◌*◌, ◌<◌, ◌≤◌, ◌^◌, Bool, true, false, cond, List, [], ◌∷◌, ◌++◌}
+use Rattle.std.proofs.Common.{length, take, Option, Some, None, refl, sym, ap, subst, arith, length-append, ◌==◌}
 use Rattle.std.proofs.lemmas.List.{length-take}
 use Rattle.std.specs.Prelude.{option_map, unwrap_or, nat_lt}
 use Rattle.mrpc_table.specs.Node.{Node, no_fields, field, Content, one, many, pairs, Item, number, Items, no_items, item}
@@ -18,7 +19,9 @@ use Rattle.mrpc_table.specs.Words.{key_kind}
 use Rattle.mrpc_table.specs.WireTypes.{wire_len, wire_type_of}
 use Rattle.graph_form.specs.Roles.{own_slots, word_bytes}
 use Rattle.graph_form.specs.Placed.{Placed, nothing, first, Word, word, loads}
-use Rattle.graph_form.specs.Forgotten.{insert_field, with_field, chain_bytes, run_at, number_at, unless_zero, optional_item, slots_tree, slot_content, with_member, plain_item, elements_at, elements_in, entries_at, entries_in, tree_of}
+use Rattle.graph_form.specs.Forgotten.{insert_field, with_field, chain_bytes, run_at, number_at, unless_zero}
+use Rattle.graph_form.specs.Forgotten.{optional_item, slots_tree, slot_content, with_member, plain_item, elements_at}
+use Rattle.graph_form.specs.Forgotten.{elements_in, entries_at, entries_in, tree_of}
 use Rattle.graph_size.proofs.Bytes.{TenBytes, wire_type-small, tag-at_most_five, tag-at_most_one, number-at_most_ten, delimited-short}
 use Rattle.graph_size.proofs.Kept.{entry_payload, entry_bytes, all_bytes, kept-short}
 use Rattle.graph_size.proofs.Slots.{AreFound, slots-found}
@@ -84,17 +87,22 @@ record ItemsShort (T : Table) (k : Kind) (is : Items) (loads : ℕ) : Type 0 whe
   records : (n : ℕ) → n < 2 ^ 29 → length (records_bytes T n k is) ≤ 15 * loads
   joined : length (joined_bytes T k is) ≤ 15 * loads
 
-one-at : (T : Table) (fs : List Field) (n : ℕ) (k : Kind) (i : Item) (tagged loads : ℕ) → kind_at fs n ≡ k → length (tag n (wire_type_of k)) ≤ tagged → ItemShort T k i loads → length (content_bytes T fs n (one i)) + 5 ≤ tagged + 15 * loads
+one-at : (T : Table) (fs : List Field) (n : ℕ) (k : Kind) (i : Item) (tagged loads : ℕ) → kind_at fs n ≡ k
+    → length (tag n (wire_type_of k)) ≤ tagged → ItemShort T k i loads
+    → length (content_bytes T fs n (one i)) + 5 ≤ tagged + 15 * loads
 one-at T fs n k i tagged loads kind short h =
     subst (λ (x : Kind). length (tag n (wire_type_of x) ++ item_bytes T x i) + 5 ≤ tagged + 15 * loads) (sym kind)
     (let e = length-append (tag n (wire_type_of k)) (item_bytes T k i) in omega (arith, e, short, h))
 
-one-short : (T : Table) (fs : List Field) (n : ℕ) (k : Kind) (i : Item) (loads : ℕ) → n < 2 ^ 29 → kind_at fs n ≡ k → ItemShort T k i loads → length (content_bytes T fs n (one i)) ≤ 15 * loads
+one-short : (T : Table) (fs : List Field) (n : ℕ) (k : Kind) (i : Item) (loads : ℕ) → n < 2 ^ 29 → kind_at fs n ≡ k
+    → ItemShort T k i loads → length (content_bytes T fs n (one i)) ≤ 15 * loads
 one-short T fs n k i loads small kind h =
     let e = one-at T fs n k i 5 loads kind (tag-at_most_five n (wire_type_of k) small (wire_type-small k)) h in
     omega (arith, e)
 
-many-go : (T : Table) (n : ℕ) (k : Kind) (is : Items) (loads : ℕ) (b : Bool) → n < 2 ^ 29 → loads ≤ 16384 → ItemsShort T k is loads → length (cond b (tag n wire_len ++ delimited (joined_bytes T k is)) (records_bytes T n k is)) ≤ 15 * (1 + loads)
+many-go : (T : Table) (n : ℕ) (k : Kind) (is : Items) (loads : ℕ) (b : Bool) → n < 2 ^ 29 → loads ≤ 16384
+    → ItemsShort T k is loads
+    → length (cond b (tag n wire_len ++ delimited (joined_bytes T k is)) (records_bytes T n k is)) ≤ 15 * (1 + loads)
 many-go T n k is loads true small few h =
     let joined = h.joined in
     let t = tag-at_most_five n wire_len small (omega arith) in
@@ -103,7 +111,8 @@ many-go T n k is loads true small few h =
     omega (arith, joined, t, d, e)
 many-go T n k is loads false small few h = let records = h.records n small in omega (arith, records)
 
-many-short : (T : Table) (fs : List Field) (n : ℕ) (k : Kind) (is : Items) (loads : ℕ) → n < 2 ^ 29 → kind_at fs n ≡ k → loads ≤ 16384 → ItemsShort T k is loads → length (content_bytes T fs n (many is)) ≤ 15 * (1 + loads)
+many-short : (T : Table) (fs : List Field) (n : ℕ) (k : Kind) (is : Items) (loads : ℕ) → n < 2 ^ 29 → kind_at fs n ≡ k
+    → loads ≤ 16384 → ItemsShort T k is loads → length (content_bytes T fs n (many is)) ≤ 15 * (1 + loads)
 many-short T fs n k is loads small kind few h =
     subst (λ (x : Kind). length (cond (is_packed (label_at fs n)) (tag n wire_len ++ delimited (joined_bytes T x is)) (records_bytes T n x is)) ≤ 15 * (1 + loads)) (sym kind)
     (many-go T n k is loads (is_packed (label_at fs n)) small few h)
@@ -123,7 +132,8 @@ no_items-short : (T : Table) (k : Kind) (loads : ℕ) → ItemsShort T k no_item
 no_items-short T k loads = record { records = λ n small. omega arith; joined = omega arith }
 
 -- an entry: its tag and its prefix have eight bytes, the tags in it two, and of its key's and its value's loads ten are left
-entry-short : (T : Table) (n : ℕ) (key k : Kind) (i j : Item) (a b : ℕ) → n < 2 ^ 29 → a + b ≤ 16384 → ItemShort T key i a → ItemShort T k j b → length (entry_bytes T n key k i j) ≤ 15 * (a + b)
+entry-short : (T : Table) (n : ℕ) (key k : Kind) (i j : Item) (a b : ℕ) → n < 2 ^ 29 → a + b ≤ 16384
+    → ItemShort T key i a → ItemShort T k j b → length (entry_bytes T n key k i j) ≤ 15 * (a + b)
 entry-short T n key k i j a b small few h g =
     let s = tag-at_most_one 1 (wire_type_of key) (omega arith) (wire_type-small key) in
     let t = tag-at_most_one 2 (wire_type_of k) (omega arith) (wire_type-small k) in
@@ -152,7 +162,8 @@ record Facts (T : Table) (P : Placed) : Type 0 where
   head : (k : Kind) → HeadShort T k P
   elements : (k : Kind) → ItemsShort T k (elements_in T k P) (count P)
   elements_at : (k : Kind) → ItemsShort T k (elements_at T k P) (count P)
-  behind_key : (n : ℕ) (key k : Kind) (i : Item) (a : ℕ) → n < 2 ^ 29 → a + count P ≤ 16384 → ItemShort T key i a → all_bytes T n key k (entries_behind T key k i P) ≤ 15 * (a + count P)
+  behind_key : (n : ℕ) (key k : Kind) (i : Item) (a : ℕ) → n < 2 ^ 29 → a + count P ≤ 16384 → ItemShort T key i a
+      → all_bytes T n key k (entries_behind T key k i P) ≤ 15 * (a + count P)
   entries : (n : ℕ) (key k : Kind) → n < 2 ^ 29 → all_bytes T n key k (entries_in T key k P) ≤ 15 * count P
   entries_at : (n : ℕ) (key k : Kind) → n < 2 ^ 29 → all_bytes T n key k (entries_at T key k P) ≤ 15 * count P
 
@@ -176,20 +187,26 @@ member-content : (T : Table) (o : ℕ) (k : Kind) (p v : ℕ) (c : Placed) → s
 member-content T o (OfMessage m) p v c = refl
 member-content T o k p v c = refl
 
-plain-short : (ten : TenBytes) (T : Table) (fs : List Field) (n : ℕ) (k : Kind) (p v : ℕ) (c : Placed) (o : Option Content) → o ≡ unless_zero v (one (plain_item T k (word p v c))) → IsValid T → n < 2 ^ 29 → kind_at fs n ≡ k → count c ≤ 16384 → Facts T c → content_count T fs n o ≤ 15 * (1 + count c)
+plain-short : (ten : TenBytes) (T : Table) (fs : List Field) (n : ℕ) (k : Kind) (p v : ℕ) (c : Placed)
+    (o : Option Content) → o ≡ unless_zero v (one (plain_item T k (word p v c))) → IsValid T → n < 2 ^ 29
+    → kind_at fs n ≡ k → count c ≤ 16384 → Facts T c → content_count T fs n o ≤ 15 * (1 + count c)
 plain-short ten T fs n k p v c o same valid small kind few facts =
     subst (λ x. content_count T fs n x ≤ 15 * (1 + count c)) (sym same)
     (unless-short T fs n v (one (plain_item T k (word p v c))) (15 * (1 + count c))
     (one-short T fs n k (plain_item T k (word p v c)) (1 + count c) small kind (item-short ten T k p v c few (node-short T c valid facts))))
 
-entries-short : (T : Table) (fs : List Field) (n : ℕ) (key k : Kind) (c : Placed) → n < 2 ^ 29 → kind_at fs n ≡ k → label_at fs n ≡ Map key → Facts T c → length (content_bytes T fs n (pairs (last_of_each key (entries_at T key k c)))) ≤ 15 * (1 + count c)
+entries-short : (T : Table) (fs : List Field) (n : ℕ) (key k : Kind) (c : Placed) → n < 2 ^ 29 → kind_at fs n ≡ k
+    → label_at fs n ≡ Map key → Facts T c
+    → length (content_bytes T fs n (pairs (last_of_each key (entries_at T key k c)))) ≤ 15 * (1 + count c)
 entries-short T fs n key k c small kind label facts =
     let es = entries_at T key k c in
     subst (λ (x : Kind). length (entries_bytes T n (key_kind (label_at fs n)) x (last_of_each key es)) ≤ 15 * (1 + count c)) (sym kind)
     (subst (λ (l : Label). length (entries_bytes T n (key_kind l) k (last_of_each key es)) ≤ 15 * (1 + count c)) (sym label)
     (let kept = kept-short T n key k es in let all = facts.entries_at n key k small in omega (arith, kept, all)))
 
-content-short : (ten : TenBytes) (T : Table) (fs : List Field) (n : ℕ) (l : Label) (k : Kind) (p v : ℕ) (c : Placed) → IsValid T → n < 2 ^ 29 → kind_at fs n ≡ k → label_at fs n ≡ l → count c ≤ 16384 → Facts T c → content_count T fs n (slot_content T l k (word p v c)) ≤ 15 * (1 + count c)
+content-short : (ten : TenBytes) (T : Table) (fs : List Field) (n : ℕ) (l : Label) (k : Kind) (p v : ℕ) (c : Placed)
+    → IsValid T → n < 2 ^ 29 → kind_at fs n ≡ k → label_at fs n ≡ l → count c ≤ 16384 → Facts T c
+    → content_count T fs n (slot_content T l k (word p v c)) ≤ 15 * (1 + count c)
 content-short ten T fs n Plain k p v c valid small kind label few facts =
     plain-short ten T fs n k p v c (slot_content T Plain k (word p v c)) (plain-content T k p v c) valid small kind few facts
 content-short ten T fs n (Member o) k p v c valid small kind label few facts =
@@ -205,23 +222,30 @@ content-short ten T fs n (Map key) k p v c valid small kind label few facts =
 
 -- ---- the fields of a message
 
-insert-go : (T : Table) (fs : List Field) (n : ℕ) (c : Content) (m : ℕ) (d : Content) (t : Node) (b : Bool) → length (fields_bytes T fs (insert_field n c t)) ≡ length (content_bytes T fs n c) + length (fields_bytes T fs t) → length (fields_bytes T fs (cond b (field n c (field m d t)) (field m d (insert_field n c t)))) ≡ length (content_bytes T fs n c) + length (fields_bytes T fs (field m d t))
+insert-go : (T : Table) (fs : List Field) (n : ℕ) (c : Content) (m : ℕ) (d : Content) (t : Node) (b : Bool)
+    → length (fields_bytes T fs (insert_field n c t)) ≡ length (content_bytes T fs n c) + length (fields_bytes T fs t)
+    → length (fields_bytes T fs (cond b (field n c (field m d t)) (field m d (insert_field n c t))))
+    ≡ length (content_bytes T fs n c) + length (fields_bytes T fs (field m d t))
 insert-go T fs n c m d t true h = length-append (content_bytes T fs n c) (fields_bytes T fs (field m d t))
 insert-go T fs n c m d t false h =
     let e = length-append (content_bytes T fs m d) (fields_bytes T fs (insert_field n c t)) in
     let f = length-append (content_bytes T fs m d) (fields_bytes T fs t) in
     omega (arith, e, f, h)
 
-insert-length : (T : Table) (fs : List Field) (n : ℕ) (c : Content) (t : Node) → length (fields_bytes T fs (insert_field n c t)) ≡ length (content_bytes T fs n c) + length (fields_bytes T fs t)
+insert-length : (T : Table) (fs : List Field) (n : ℕ) (c : Content) (t : Node)
+    → length (fields_bytes T fs (insert_field n c t)) ≡ length (content_bytes T fs n c) + length (fields_bytes T fs t)
 insert-length T fs n c no_fields = length-append (content_bytes T fs n c) []
 insert-length T fs n c (field m d t) = insert-go T fs n c m d t (nat_lt n m) (insert-length T fs n c t)
 
-with_field-length : (T : Table) (fs : List Field) (n : ℕ) (o : Option Content) (t : Node) → length (fields_bytes T fs (with_field n o t)) ≡ content_count T fs n o + length (fields_bytes T fs t)
+with_field-length : (T : Table) (fs : List Field) (n : ℕ) (o : Option Content) (t : Node)
+    → length (fields_bytes T fs (with_field n o t)) ≡ content_count T fs n o + length (fields_bytes T fs t)
 with_field-length T fs n None t = omega arith
 with_field-length T fs n (Some c) t = insert-length T fs n c t
 
 -- a member: the word of the case leaves room for a tag of ten bytes
-member-short : (ten : TenBytes) (T : Table) (fs : List Field) (p v : ℕ) (c : Placed) (t : Node) (bound : ℕ) → Facts T c → length (fields_bytes T fs t) ≤ bound → length (fields_bytes T fs (with_member T fs (word p v c) t)) ≤ 15 * (1 + count c) + bound
+member-short : (ten : TenBytes) (T : Table) (fs : List Field) (p v : ℕ) (c : Placed) (t : Node) (bound : ℕ)
+    → Facts T c → length (fields_bytes T fs t) ≤ bound → length (fields_bytes T fs (with_member T fs (word p v c) t))
+    ≤ 15 * (1 + count c) + bound
 member-short ten T fs p v nothing t bound facts rest = omega (arith, rest)
 member-short ten T fs p v (first w P) t bound facts rest =
     let k = kind_at fs v in
@@ -230,7 +254,9 @@ member-short ten T fs p v (first w P) t bound facts rest =
     let f = insert-length T fs v (one i) t in
     omega (arith, e, f, rest)
 
-slots-step : (ten : TenBytes) (T : Table) (p v : ℕ) (c P : Placed) → IsValid T → count (first (word p v c) P) ≤ 16384 → Facts T c → Facts T P → (fs slots : List Field) → AreFound fs slots → length (fields_bytes T fs (slots_tree T fs slots (first (word p v c) P))) ≤ 15 * count (first (word p v c) P)
+slots-step : (ten : TenBytes) (T : Table) (p v : ℕ) (c P : Placed) → IsValid T → count (first (word p v c) P) ≤ 16384
+    → Facts T c → Facts T P → (fs slots : List Field) → AreFound fs slots
+    → length (fields_bytes T fs (slots_tree T fs slots (first (word p v c) P))) ≤ 15 * count (first (word p v c) P)
 slots-step ten T p v c P valid few inside behind fs [] found =
     let e = count-first p v c P in
     let m = member-short ten T fs p v c (slots_tree T fs [] P) (15 * count P) inside (behind.slots fs [] tt) in
@@ -246,20 +272,26 @@ slots-step ten T p v c P valid few inside behind fs (f ∷ slots) found =
 
 -- ---- elements and entries
 
-elements-step : (ten : TenBytes) (T : Table) (p v : ℕ) (c P : Placed) → IsValid T → count (first (word p v c) P) ≤ 16384 → Facts T c → Facts T P → (k : Kind) → ItemsShort T k (elements_in T k (first (word p v c) P)) (count (first (word p v c) P))
+elements-step : (ten : TenBytes) (T : Table) (p v : ℕ) (c P : Placed) → IsValid T
+    → count (first (word p v c) P) ≤ 16384 → Facts T c → Facts T P → (k : Kind)
+    → ItemsShort T k (elements_in T k (first (word p v c) P)) (count (first (word p v c) P))
 elements-step ten T p v c P valid few inside behind k =
     let e = count-first p v c P in
     let i = item-short ten T k p v c (omega (arith, e, few)) (node-short T c valid inside) in
     subst (λ n. ItemsShort T k (elements_in T k (first (word p v c) P)) n) (sym e)
     (items-more T k (plain_item T k (word p v c)) (elements_in T k P) (1 + count c) (count P) i (behind.elements k))
 
-head-step : (ten : TenBytes) (T : Table) (p v : ℕ) (c P : Placed) → IsValid T → count (first (word p v c) P) ≤ 16384 → Facts T c → (k : Kind) → ItemShort T k (plain_item T k (word p v c)) (count (first (word p v c) P))
+head-step : (ten : TenBytes) (T : Table) (p v : ℕ) (c P : Placed) → IsValid T → count (first (word p v c) P) ≤ 16384
+    → Facts T c → (k : Kind) → ItemShort T k (plain_item T k (word p v c)) (count (first (word p v c) P))
 head-step ten T p v c P valid few inside k =
     let e = count-first p v c P in
     let i = item-short ten T k p v c (omega (arith, e, few)) (node-short T c valid inside) in
     omega (arith, e, i)
 
-behind_key-step : (ten : TenBytes) (T : Table) (p v : ℕ) (c P : Placed) → IsValid T → Facts T c → Facts T P → (n : ℕ) (key k : Kind) (i : Item) (a : ℕ) → n < 2 ^ 29 → a + count (first (word p v c) P) ≤ 16384 → ItemShort T key i a → all_bytes T n key k (entries_behind T key k i (first (word p v c) P)) ≤ 15 * (a + count (first (word p v c) P))
+behind_key-step : (ten : TenBytes) (T : Table) (p v : ℕ) (c P : Placed) → IsValid T → Facts T c → Facts T P
+    → (n : ℕ) (key k : Kind) (i : Item) (a : ℕ) → n < 2 ^ 29 → a + count (first (word p v c) P) ≤ 16384
+    → ItemShort T key i a → all_bytes T n key k (entries_behind T key k i (first (word p v c) P))
+    ≤ 15 * (a + count (first (word p v c) P))
 behind_key-step ten T p v c P valid inside behind n key k i a small few h =
     let e = count-first p v c P in
     let value = item-short ten T k p v c (omega (arith, e, few)) (node-short T c valid inside) in
@@ -272,7 +304,9 @@ entries-behind : (T : Table) (key k : Kind) (w : Word) (P : Placed) → entries_
 entries-behind T key k w nothing = refl
 entries-behind T key k w (first x P) = refl
 
-entries-step : (ten : TenBytes) (T : Table) (p v : ℕ) (c P : Placed) → IsValid T → count (first (word p v c) P) ≤ 16384 → Facts T c → Facts T P → (n : ℕ) (key k : Kind) → n < 2 ^ 29 → all_bytes T n key k (entries_in T key k (first (word p v c) P)) ≤ 15 * count (first (word p v c) P)
+entries-step : (ten : TenBytes) (T : Table) (p v : ℕ) (c P : Placed) → IsValid T
+    → count (first (word p v c) P) ≤ 16384 → Facts T c → Facts T P → (n : ℕ) (key k : Kind) → n < 2 ^ 29
+    → all_bytes T n key k (entries_in T key k (first (word p v c) P)) ≤ 15 * count (first (word p v c) P)
 entries-step ten T p v c P valid few inside behind n key k small =
     let e = count-first p v c P in
     let i = item-short ten T key p v c (omega (arith, e, few)) (node-short T c valid inside) in
@@ -288,7 +322,8 @@ elements_at-step T p v c P inside k =
       joined = let j = h.joined in omega (arith, e, j);
     }
 
-entries_at-step : (T : Table) (p v : ℕ) (c P : Placed) → Facts T c → (n : ℕ) (key k : Kind) → n < 2 ^ 29 → all_bytes T n key k (entries_in T key k c) ≤ 15 * count (first (word p v c) P)
+entries_at-step : (T : Table) (p v : ℕ) (c P : Placed) → Facts T c → (n : ℕ) (key k : Kind) → n < 2 ^ 29
+    → all_bytes T n key k (entries_in T key k c) ≤ 15 * count (first (word p v c) P)
 entries_at-step T p v c P inside n key k small =
     let e = count-first p v c P in
     let h = inside.entries n key k small in
@@ -318,5 +353,6 @@ facts ten T (first (word p v c) P) valid few =
       entries_at = entries_at-step T p v c P inside;
     }
 
-pub encoding-short : (ten : TenBytes) (T : Table) (msg : ℕ) (P : Placed) → IsValid T → length (loads P) ≤ 16384 → length (encoding T msg (tree_of T msg P)) ≤ 15 * length (loads P)
+pub encoding-short : (ten : TenBytes) (T : Table) (msg : ℕ) (P : Placed) → IsValid T → length (loads P) ≤ 16384
+    → length (encoding T msg (tree_of T msg P)) ≤ 15 * length (loads P)
 encoding-short ten T msg P valid few = node-short T P valid (facts ten T P valid few) msg

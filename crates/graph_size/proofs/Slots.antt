@@ -1,5 +1,6 @@
 -- In each message of a valid table a field with a slot of its own is found by its number, which is below 2^29.
-use Rattle.std.proofs.Common.{◌≡◌, ℕ, zero, suc, ◌<◌, ◌^◌, Bool, true, false, cond, List, [], ◌∷◌, length, All, Some, refl, ap, ◌∙◌, arith, slice_get, option_map, unwrap_or}
+use Rattle.std.proofs.Common.{◌≡◌, ℕ, zero, suc, ◌<◌, ◌^◌, Bool, true, false, cond, List, [], ◌∷◌, length, All, Some}
+use Rattle.std.proofs.Common.{refl, ap, ◌∙◌, arith, slice_get, option_map, unwrap_or}
 use Rattle.std.proofs.lemmas.Bool.{eq-eqb, ne_eqb}
 use Rattle.std.proofs.lemmas.List.Elements.{All-head, All-tail}
 use Rattle.mrpc_table.specs.Normal.{fields_of, field_at}
@@ -46,7 +47,8 @@ found-here f fs = ap (λ b. cond b (Some f) (field_at fs f.number)) (eq-eqb f.nu
 found-later : (f : Field) (fs : List Field) (n : ℕ) → f.number < n → field_at (f ∷ fs) n ≡ field_at fs n
 found-later f fs n less = ap (λ b. cond b (Some f) (field_at fs n)) (ne_eqb f.number n (omega (arith, less)))
 
-own-go : (all : List Field) (f : Field) (slots : List Field) (b : Bool) → f.number < 2 ^ 29 → field_at all f.number ≡ Some f → AreFound all slots → AreFound all (cond b (f ∷ slots) slots)
+own-go : (all : List Field) (f : Field) (slots : List Field) (b : Bool) → f.number < 2 ^ 29
+    → field_at all f.number ≡ Some f → AreFound all slots → AreFound all (cond b (f ∷ slots) slots)
 own-go all f slots true small at h = (small, at, h)
 own-go all f slots false small at h = h
 

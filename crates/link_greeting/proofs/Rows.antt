@@ -1,6 +1,7 @@
 -- Small streams, and what they make of a connection, as terms. A frame has its length, and nothing is at fault before a
 -- length is there: these are laws of frames.
-use Rattle.std.proofs.Common.{◌≡◌, ◌≢◌, ℕ, zero, suc, ◌+◌, ◌<◌, List, [], ◌∷◌, ◌++◌, codes, get_or, length, Some, None, inl, refl, sym, ap, arith, append-nil, length-append}
+use Rattle.std.proofs.Common.{◌≡◌, ◌≢◌, ℕ, zero, suc, ◌+◌, ◌<◌, List, [], ◌∷◌, ◌++◌, codes, get_or, length, Some}
+use Rattle.std.proofs.Common.{None, inl, refl, sym, ap, arith, append-nil, length-append}
 use Rattle.std.specs.Prelude.{Contains}
 use Rattle.std.specs.Fmt.{digits}
 use Rattle.std.proofs.lemmas.List.Elements.{All-cons, All-nil}

@@ -1,9 +1,9 @@
 //! Where frames end in a stream.
 
-/// How many bytes stand in front of a payload.
+// How many bytes stand in front of a payload.
 const HEADER: u64 = 16;
 
-/// How many of them tell its length, most significant byte first.
+// How many of them tell its length, most significant byte first.
 const LENGTH: u64 = 4;
 
 /// How far a stream of frames has come within its present frame.

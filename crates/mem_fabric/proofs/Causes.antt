@@ -35,13 +35,15 @@ fresh calls sends receives end of_sends of_receives none e =
     })
 
 module _ {E : Type 0} where
-  pub fresh_first : (r : Result (PairEnd × PairEnd) E) (calls : EndCalls) (sends receives : List ℕ) → IsPermutation sends calls.sends.failing → IsPermutation receives calls.receives.failing
+  pub fresh_first : (r : Result (PairEnd × PairEnd) E) (calls : EndCalls) (sends receives : List ℕ)
+      → IsPermutation sends calls.sends.failing → IsPermutation receives calls.receives.failing
       → (calls.sends.calls ≡ 0) × (calls.receives.calls ≡ 0) × (calls.faults ≡ 0)
       → IfOk r (λ ends. ends.0 ≡ fresh_end calls ends.0.outward ends.0.inward) → IfOk r (λ ends. IsFresh sends receives ends.0)
   fresh_first (Ok ends) calls sends receives of_sends of_receives none e = fresh calls sends receives ends.0 of_sends of_receives none e
   fresh_first (Err x) calls sends receives of_sends of_receives none e = tt
 
-  pub fresh_second : (r : Result (PairEnd × PairEnd) E) (calls : EndCalls) (sends receives : List ℕ) → IsPermutation sends calls.sends.failing → IsPermutation receives calls.receives.failing
+  pub fresh_second : (r : Result (PairEnd × PairEnd) E) (calls : EndCalls) (sends receives : List ℕ)
+      → IsPermutation sends calls.sends.failing → IsPermutation receives calls.receives.failing
       → (calls.sends.calls ≡ 0) × (calls.receives.calls ≡ 0) × (calls.faults ≡ 0)
       → IfOk r (λ ends. ends.1 ≡ fresh_end calls ends.1.outward ends.1.inward) → IfOk r (λ ends. IsFresh sends receives ends.1)
   fresh_second (Ok ends) calls sends receives of_sends of_receives none e = fresh calls sends receives ends.1 of_sends of_receives none e

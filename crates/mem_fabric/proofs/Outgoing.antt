@@ -5,9 +5,9 @@ use Rattle.std.proofs.lemmas.List.{append-nil}
 use mathlib.Core.List.{IsPrefix}
 use Rattle.one_way_queue.specs.declared.piece.Piece.{Piece}
 use Rattle.one_way_queue.specs.declared.piece.Piece.TheVariants.{Bytes, Mark}
-use Rattle.one_way_queue.specs.Pieces.{bytes_of, marks_of}
+use Rattle.one_way_queue.specs.Pieces.{bytes_of, marks_of, frames_of}
 use Rattle.one_way_queue.specs.Sides.{Agree}
-use Rattle.mem_fabric.specs.Pair.{frames_of, IsOutgoing, HasTakenAll}
+use Rattle.mem_fabric.specs.Pair.{IsOutgoing, HasTakenAll}
 
 module _ {M : Type 0} where
   pub frames_snoc_bytes : (pieces : List (Piece M)) (frame : List ℕ) → frames_of (pieces ++ Bytes frame ∷ []) ≡ frames_of pieces ++ frame ∷ []
@@ -31,7 +31,8 @@ module _ {M : Type 0} where
   outgoing_mark (Mark m ∷ ps) mark h = absurd (cc (h.0))
 
   -- a beginning with an end mark is the whole
-  pub whole_with_mark : (finished : Bool) (xs pieces : List (Piece M)) → IsOutgoing finished pieces → IsPrefix xs pieces → (marks_of xs ≡ [] → ⊥) → (finished ≡ true) × (xs ≡ pieces)
+  pub whole_with_mark : (finished : Bool) (xs pieces : List (Piece M)) → IsOutgoing finished pieces
+      → IsPrefix xs pieces → (marks_of xs ≡ [] → ⊥) → (finished ≡ true) × (xs ≡ pieces)
   whole_with_mark finished [] pieces h p marked = absurd (marked refl)
   whole_with_mark finished (x ∷ xs) [] h p marked = absurd (cc (p.1))
   whole_with_mark finished (Bytes b ∷ xs) (Bytes c ∷ ps) h p marked =

@@ -4,7 +4,8 @@ use Rattle.atomic_table.specs.Seated.{TableId}
 use Rattle.one_way_queue.specs.declared.piece.Piece.{Piece}
 use Rattle.one_way_queue.specs.declared.piece.Piece.TheVariants.{Bytes, Mark}
 use Rattle.mem_fabric.specs.Fabric.{numbers_of}
-use Rattle.mem_fabric.specs.Pair.{PairEnd, ArePair, IsHandedOn, told_of_all, frames_of, IsOutgoing, HasTakenAll}
+use Rattle.one_way_queue.specs.Pieces.{frames_of}
+use Rattle.mem_fabric.specs.Pair.{PairEnd, ArePair, IsHandedOn, told_of_all, IsOutgoing, HasTakenAll}
 
 -- a queue, by a number
 abbrev queue : ℕ → TableId

@@ -1,4 +1,4 @@
--- The calls of a device in memory, and those that are to fail.
+-- The code's own: the calls of a device in memory, and those that are to fail.
 use Rattle.std.specs.Prelude.{ℕ, Bool, true, false, List}
 use Rattle.mrpc_base.specs.Faults.{raised}
 

@@ -43,12 +43,6 @@ pub record IsHandedOn (from to : PairEnd) : Type 0 where
 abbrev pub told_of_all : PairEnd → PairEnd → PairEnd
 told_of_all other end = record end { told = concat other.handed }
 
--- the frames among some pieces
-abbrev pub frames_of : {M : Type 0} → List (Piece M) → List (List ℕ)
-frames_of [] = []
-frames_of (Bytes frame ∷ pieces) = frame ∷ frames_of pieces
-frames_of (Mark mark ∷ pieces) = frames_of pieces
-
 -- what an end puts: frames, and behind them the end mark exactly where it has finished
 abbrev pub IsOutgoing : {M : Type 0} → Bool → List (Piece M) → Type 0
 IsOutgoing finished [] = finished ≡ false

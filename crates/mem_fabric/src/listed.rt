@@ -1,4 +1,5 @@
-// The calls of a device in memory, and those that are to fail.
+//! The calls of a device in memory, and those that are to fail.
+
 ghost use Rattle.std.specs.Prelude.{◌≡◌, ◌≤◌, ◌↔◌, ◌⊎◌, Contains, IfOk, IsFalse, IsPermutation, IsTrue};
 ghost use Rattle.mrpc_base.specs.Faults.{raised};
 ghost use Rattle.mem_fabric.specs.Fabric.{numbers_of};

@@ -1,4 +1,5 @@
-// A fabric in memory.
+//! A fabric in memory.
+
 ghost use Rattle.std.specs.Prelude.{◌≡◌, ◌<◌, ◌+◌, ◌≤◌, ◌↔◌, [], ◌∷◌, false, Contains, IfOk, IsErrOf, IsPermutation, OnErr, length, slice_get};
 ghost use Rattle.mrpc_base.specs.Faults.{HasCause, raised};
 ghost use Rattle.mem_fabric.specs.Fabric.{IsNewEnd, numbers_of};

@@ -1,4 +1,5 @@
-// One end of a link in memory.
+//! One end of a link in memory.
+
 ghost use Rattle.std.specs.Prelude.{◌≡◌, ◌≢◌, ◌<◌, ◌≤◌, ◌↔◌, ◌⊎◌, [], ◌∷◌, ◌++◌, Contains, IfOk, IsTrue, length, take, true, false};
 ghost use mathlib.Core.List.{IsPrefix};
 ghost use Rattle.one_way_queue.specs.Ends.{put_of, taken_of, told_of, free_of, producer_queue, consumer_queue};
@@ -57,9 +58,9 @@ impl<'r, R> Drop for PairLink<'r, R> {
 impl<'r, R> Model for PairLink<'r, R> {
     ghost use Rattle.std.specs.Prelude.{◌≡◌, ◌<◌, Bool, true, false};
     ghost use Rattle.one_way_queue.specs.Ends.{put_of, free_of, producer_queue};
-    ghost use Rattle.one_way_queue.specs.Pieces.{bytes_of};
+    ghost use Rattle.one_way_queue.specs.Pieces.{bytes_of, frames_of};
     ghost use Rattle.one_way_queue.specs.Readers.{given_by, taken_by, told_by, reader_queue};
-    ghost use Rattle.mem_fabric.specs.Pair.{PairEnd, frames_of, IsOutgoing, HasTakenAll};
+    ghost use Rattle.mem_fabric.specs.Pair.{PairEnd, IsOutgoing, HasTakenAll};
 
     ghost Value = { PairEnd };
 

@@ -1,5 +1,6 @@
 -- The values of an enum stand by ascending number.
-use Rattle.std.proofs.Common.{◌≡◌, ◌≢◌, ℕ, zero, suc, ◌<◌, ◌≤◌, ℤ, ◌<ℤ◌, ◌≤ℤ◌, List, [], ◌∷◌, length, get_or, int_lt, Less, refl, ap, ◌∙◌, arith}
+use Rattle.std.proofs.Common.{◌≡◌, ◌≢◌, ℕ, zero, suc, ◌<◌, ◌≤◌, ℤ, ◌<ℤ◌, ◌≤ℤ◌, List, [], ◌∷◌, length, get_or, int_lt}
+use Rattle.std.proofs.Common.{Less, refl, ap, ◌∙◌, arith}
 use Rattle.std.specs.List.{AllWithin}
 use Rattle.std.specs.List.Sorted.{IsPartitionedBy}
 use Rattle.std.proofs.lemmas.Bool.{cases_lt}
@@ -67,7 +68,9 @@ none_here vs n p v up before behind here is other = record {
 }
 
 -- and it has its name there
-pub named_here : (vs : List (ℤ × List ℕ)) (n : ℤ) (p : ℕ) (v : ℤ × List ℕ) → AllWithin (λ (w : ℤ × List ℕ). w.0 <ℤ n) vs 0 p → p < length vs → v ≡ get_or vs p v → v.0 ≡ n → IsFirstName vs n v.1
+pub named_here : (vs : List (ℤ × List ℕ)) (n : ℤ) (p : ℕ) (v : ℤ × List ℕ)
+    → AllWithin (λ (w : ℤ × List ℕ). w.0 <ℤ n) vs 0 p → p < length vs → v ≡ get_or vs p v → v.0 ≡ n
+    → IsFirstName vs n v.1
 named_here vs n p v before here is equal = record {
   at = p;
   within = here;

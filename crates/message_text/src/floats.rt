@@ -12,12 +12,12 @@ use std::alloc::Global;
 
 const NAN: &[u8] = b"nan";
 
-/// The sign of a float, and of a double.
+// The sign of a float, and of a double.
 const SIGN: u32 = 0x8000_0000;
 
 const DOUBLE_SIGN: u64 = 0x8000_0000_0000_0000;
 
-/// The bits of the infinite float, and of the infinite double, beyond which there is no number.
+// The bits of the infinite float, and of the infinite double, beyond which there is no number.
 const INFINITE: u32 = 0x7f80_0000;
 
 const DOUBLE_INFINITE: u64 = 0x7ff0_0000_0000_0000;

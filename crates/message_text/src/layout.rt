@@ -6,7 +6,7 @@ use std::alloc::Global;
 
 const MINUS: &[u8] = b"-";
 
-/// How many places behind the point a number below 1 begins at the most, without an exponent.
+// How many places behind the point a number below 1 begins at the most, without an exponent.
 const PLACES: u64 = 4;
 
 /// The layout of a number that is given as `-d.ddde-x`, in so many digits at the most. Zeros at its end fall away, and an

@@ -1,4 +1,5 @@
-// The words of the command line.
+//! The words of the command line.
+
 ghost use Rattle.std.specs.Prelude.{◌≡◌, ◌↔◌, IsSome};
 ghost use Rattle.mrpc.specs.CommandLine.{Asks, AsksAlone};
 

@@ -1,4 +1,5 @@
-// What was read, and the line of a fault that was written, kept for whoever says what stands against the input.
+//! What was read, and the line of a fault that was written, kept for whoever says what stands against the input.
+
 ghost use Rattle.std.specs.Prelude.{◌≡◌, ◌<◌, ◌≤◌, length, take};
 ghost use Rattle.std.specs.Io.KnownBytes.{Appends, Consumes, IsAtEnd, Keeps};
 ghost use Rattle.mrpc_base.specs.Faults.{HasCause};
@@ -13,10 +14,10 @@ use std::alloc::Global;
 use std::io::Eprint;
 use std::time::Clock;
 
-/// How the line of a fault begins.
+// How the line of a fault begins.
 const FAULT: &[u8] = b"fault ";
 
-/// How long it is, at the most.
+// How long it is, at the most.
 const LONGEST: usize = 64;
 
 /// A source whose bytes are kept as they are read.

@@ -36,10 +36,10 @@ use usage::{failure, usage};
 
 const VERSION: &str = "mrpc 0.1.0\n";
 
-/// How many bytes of a line of the input are shown beside its fault.
+// How many bytes of a line of the input are shown beside its fault.
 const WIDTH: usize = 100;
 
-/// What is said of a faulty input where there is no memory to say more.
+// What is said of a faulty input where there is no memory to say more.
 const SEE_FAULT: &str = "mrpc: the input has a fault, which the last line of the output names\n";
 
 fn main(rt: HostRuntime) -> ExitCode {

@@ -1,4 +1,5 @@
-// What is shown of a run on a terminal.
+//! What is shown of a run on a terminal.
+
 ghost use Rattle.std.specs.Prelude.{IsTrue};
 
 use link_tally::Tally;
@@ -8,7 +9,7 @@ use std::io::Eprint;
 use std::sync::atomic::{AtomicBool, AtomicU64, Ordering};
 use std::time::{Clock, Instant};
 
-/// How often the line is written anew, in milliseconds.
+// How often the line is written anew, in milliseconds.
 const EVERY: u64 = 1000;
 
 /// How a run goes, on standard error where that is a terminal: one line, which the worker writes anew that asks the gate
@@ -41,7 +42,7 @@ impl<'r, R> Drop for Progress<'r, R> {
     }
 }
 
-/// No round has begun.
+// No round has begun.
 const NEVER: u64 = u64::MAX;
 
 impl<'r, R: Eprint + Clock> Progress<'r, R> {

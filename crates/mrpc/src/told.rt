@@ -1,4 +1,4 @@
-// How many calls a run tells of.
+//! How many calls a run tells of.
 
 use memchr::memrchr;
 use mrpc_table::{Decimal, cut, is_word, number_of};

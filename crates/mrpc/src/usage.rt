@@ -1,4 +1,4 @@
-// What the program says on standard error.
+//! What the program says on standard error.
 
 use clap::Command;
 use mrpc_top::{FABRIC_FAILED, INPUT_FAILED, NO_COMMAND, NO_MEMORY, OUTPUT_FAILED, WIRE_FAILED};
@@ -29,7 +29,7 @@ Exit status:
   6  the file mrpc.wire could not be written, or a link of a run failed
   7  a link of a run could not be opened";
 
-/// The commands, with what each does.
+// The commands, with what each does.
 const COMMANDS: [(&str, &str); 6] = [
     (
         "replay",

@@ -1,5 +1,6 @@
 -- One more ticket of a counter.
-use Rattle.std.proofs.Common.{arith, ◌∙◌, ap, sym, subst, ◌≡◌, ◌<◌, ◌≤◌, ◌+◌, ◌-◌, ◌^◌, ℕ, zero, suc, List, [], ◌∷◌, ◌++◌, true, false, inl, inr}
+use Rattle.std.proofs.Common.{arith, ◌∙◌, ap, sym, subst, ◌≡◌, ◌<◌, ◌≤◌, ◌+◌, ◌-◌, ◌^◌, ℕ, zero, suc, List, [], ◌∷◌}
+use Rattle.std.proofs.Common.{◌++◌, true, false, inl, inr}
 use Rattle.std.specs.Prelude.{Option, Some, None, IfSome, IsSomeAnd, nat_lt, ◌⊎◌}
 use Rattle.std.specs.List.{range_with_len}
 use Rattle.std.proofs.lemmas.Bool.{cond-true, cond-false}

@@ -1,5 +1,6 @@
 -- Of races in order, those of loads up to a number and those past it.
-use Rattle.std.proofs.Common.{◌≡◌, ◌<◌, ◌≤◌, ℕ, nat_lt, nat_le, List, [], ◌∷◌, ◌++◌, All, refl, ap, ◌∙◌, sym, append_assoc, length, subst, ◌+◌, arith, true, false}
+use Rattle.std.proofs.Common.{◌≡◌, ◌<◌, ◌≤◌, ℕ, nat_lt, nat_le, List, [], ◌∷◌, ◌++◌, All, refl, ap, ◌∙◌, sym}
+use Rattle.std.proofs.Common.{append_assoc, length, subst, ◌+◌, arith, true, false}
 use Rattle.std.proofs.lemmas.Bool.{cond-true, cond-false}
 use Rattle.std.proofs.lemmas.Bool.Decides.{nat_tests}
 use Rattle.std.proofs.lemmas.List.Elements.{All-head, All-tail}
@@ -49,7 +50,8 @@ first_store : (old new : List Race) (store : ℕ × ℕ) (stores : List (ℕ × 
     → (stores ++ store ∷ []) ++ stores_of rest ≡ stores ++ stores_of (race ∷ rest)
 first_store old new store stores rest race is = append_assoc stores (store ∷ []) (stores_of rest) ∙ ap (λ first. stores ++ first ∷ stores_of rest) is
 
-pub stores-first : (old new : List Race) (store : ℕ × ℕ) (stores : List (ℕ × ℕ)) → IsFirstRace old new store → (stores ++ store ∷ []) ++ stores_of new ≡ stores ++ stores_of old
+pub stores-first : (old new : List Race) (store : ℕ × ℕ) (stores : List (ℕ × ℕ)) → IsFirstRace old new store
+    → (stores ++ store ∷ []) ++ stores_of new ≡ stores ++ stores_of old
 stores-first old new store stores (race, old-is, store-is) = first_store old new store stores new race store-is ∙ ap (λ races. stores ++ stores_of races) (sym old-is)
 
 pub stores_up_to-first : (number : ℕ) (old new : List Race) (store : ℕ × ℕ) (stores : List (ℕ × ℕ)) → IsFirstDue number old new store
@@ -67,7 +69,8 @@ first_of_due number old new store (race, old-is, store-is, due) = (race, old-is,
 pub length-first : (old new : List Race) (store : ℕ × ℕ) → IsFirstRace old new store → length old ≡ length new + 1
 length-first old new store (race, old-is, store-is) = let e = ap length old-is in omega (arith, e)
 
-pub in_heap-first : (size : ℕ) (old new : List Race) (store : ℕ × ℕ) → IsFirstRace old new store → All (λ race. race.place < size) old → (store.0 < size) × All (λ race. race.place < size) new
+pub in_heap-first : (size : ℕ) (old new : List Race) (store : ℕ × ℕ) → IsFirstRace old new store
+    → All (λ race. race.place < size) old → (store.0 < size) × All (λ race. race.place < size) new
 in_heap-first size old new store (race, old-is, store-is) inside =
     let all = subst (All (λ r. r.place < size)) old-is inside in
     (subst (λ (s : ℕ × ℕ). s.0 < size) (sym store-is) (All-head (λ r. r.place < size) race new all), All-tail (λ r. r.place < size) race new all)

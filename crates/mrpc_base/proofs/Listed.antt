@@ -15,7 +15,9 @@ pub length-races_with : (races : List Race) (race : Race) → length (races_with
 length-races_with races race =
     let front = races_up_to race.load races in
     let back = races_past race.load races in
-    let parts = length_permutation races (front ++ back) (IsPermutation-filter_both (λ (r : Race). nat_le r.load race.load) (λ (r : Race). nat_lt race.load r.load) (λ r. up_to_or_past race.load r.load) races) in
+    let parts = length_permutation races (front ++ back)
+    (IsPermutation-filter_both (λ (r : Race). nat_le r.load race.load) (λ (r : Race). nat_lt race.load r.load)
+    (λ r. up_to_or_past race.load r.load) races) in
     omega (arith, parts, length-append front back, length-append front (race ∷ back))
 
 pub All-races_with : (P : Race → Type 0) (races : List Race) (race : Race) → P race → All P races → All P (races_with races race)

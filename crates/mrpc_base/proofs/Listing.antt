@@ -49,7 +49,8 @@ insert_entry-behind entry entries load next store behind listed =
     ap (λ order. match_ordering order (((load, next), store) ∷ entry ∷ entries) ((entry.0, store) ∷ entries) (entry ∷ insert_entry key_cmp entries (load, next) store))
     (key_cmp-behind load next entry.0.0 entry.0.1 behind listed)
 
-pub listed_more : (entries : List Entry) (load next : ℕ) (store : ℕ × ℕ) → AreListedBelow next entries → AreListedBelow (next + 1) (insert_entry key_cmp entries (load, next) store)
+pub listed_more : (entries : List Entry) (load next : ℕ) (store : ℕ × ℕ) → AreListedBelow next entries
+    → AreListedBelow (next + 1) (insert_entry key_cmp entries (load, next) store)
 listed_more [] load next store below = All-cons (λ e. e.0.1 < next + 1) ((load, next), store) [] (omega arith) (All-nil (λ e. e.0.1 < next + 1))
 listed_more (entry ∷ entries) load next store below =
     let P : Entry → Type 0 = λ e. e.0.1 < next + 1 in
@@ -64,7 +65,9 @@ listed_more (entry ∷ entries) load next store below =
     (cases_lt load entry.0.0)
 
 -- keys behind a key are of no earlier load
-later_loads : (number : ℕ) (key : ℕ × ℕ) (entries : List Entry) → number < key.0 → AllByRecursion (λ k. key.0 ≤ k.0) (map (λ e. e.0) entries) → AllByRecursion (λ race. number < race.load) (map race_of entries)
+later_loads : (number : ℕ) (key : ℕ × ℕ) (entries : List Entry) → number < key.0
+    → AllByRecursion (λ k. key.0 ≤ k.0) (map (λ e. e.0) entries)
+    → AllByRecursion (λ race. number < race.load) (map race_of entries)
 later_loads number key [] later up = tt
 later_loads number key (entry ∷ entries) later up = (omega (arith, up.0), later_loads number key entries later up.1)
 
@@ -80,7 +83,9 @@ map-insert_entry (entry ∷ entries) load next place value below sorted =
     let keys = map (λ (e : Entry). e.0) entries in
     ⊎_elim
     (λ before.
-    let behind = All-from_recursion (λ r. load < r.load) (map race_of entries) (later_loads load entry.0 entries before (no_earlier entry.0 keys (sorted_head key_cmp entry.0 keys sorted))) in
+    let behind = All-from_recursion (λ r. load < r.load) (map race_of entries)
+    (later_loads load entry.0 entries before (no_earlier entry.0 keys (sorted_head key_cmp entry.0 keys sorted)))
+    in
     ap (map race_of) (insert_entry-before entry entries load next (place, value) before)
     ∙ sym (races_with-before (race_of entry ∷ map race_of entries) race (All-cons (λ r. load < r.load) (race_of entry) (map race_of entries) before behind)))
     (λ behind.
@@ -108,7 +113,8 @@ from_keys key [] from = tt
 from_keys key (k ∷ keys) from = (le_from_not_gt key k from.0, from_keys key keys from.1)
 
 -- where the first key is of a later load, all races are
-pub none_due : (number : ℕ) (entries : List Entry) (key : ℕ × ℕ) → number < key.0 → All (IsLeBy key_cmp key) (map (λ e. e.0) entries) → All (λ race. number < race.load) (map race_of entries)
+pub none_due : (number : ℕ) (entries : List Entry) (key : ℕ × ℕ) → number < key.0
+    → All (IsLeBy key_cmp key) (map (λ e. e.0) entries) → All (λ race. number < race.load) (map race_of entries)
 none_due number entries key later from =
     let keys = map (λ (e : Entry). e.0) entries in
     All-from_recursion (λ race. number < race.load) (map race_of entries) (later_loads number key entries later (from_keys key keys (recursion_from_All (IsLeBy key_cmp key) keys from)))

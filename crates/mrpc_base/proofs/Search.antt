@@ -15,7 +15,8 @@ absent xs x i below above found =
     ⊎_elim (λ before. omega (arith, at, below found.0 before)) (λ behind. omega (arith, at, above found.0 behind found.1)) (cases_lt found.0 i)
 
 decides : (xs : List ℕ) (x : ℕ) (r : Result ℕ ℕ)
-    → MatchResult r (λ i. (i < length xs) × (get_or xs i 0 ≡ x)) (λ i. (i ≤ length xs) × ((k : ℕ) → k < i → get_or xs k 0 < x) × ((k : ℕ) → i ≤ k → k < length xs → x < get_or xs k 0))
+    → MatchResult r (λ i. (i < length xs) × (get_or xs i 0 ≡ x)) (λ i. (i ≤ length xs) × ((k : ℕ) → k < i
+    → get_or xs k 0 < x) × ((k : ℕ) → i ≤ k → k < length xs → x < get_or xs k 0))
     → IsTrue (is_ok r) ↔ Contains xs x
 decides xs x (Ok i) h = (λ _. subst (Contains xs) h.1 (Contains-get_or xs i 0 h.0), λ _. refl)
 decides xs x (Err i) h = (λ impossible. cc, λ found. absurd (absent xs x i h.1 h.2 found))

@@ -1,4 +1,4 @@
--- The calls of a device in memory, and those that are to fail.
+-- The code's own: the calls of a device in memory, and those that are to fail.
 use Rattle.std.specs.Prelude.{ℕ, List}
 
 -- how often a device in memory was called and failed, and the numbers of the calls that are to fail, counted from 1

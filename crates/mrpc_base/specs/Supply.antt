@@ -1,4 +1,4 @@
--- Bytes that are given in order, a piece at a time.
+-- The code's own: bytes that are given in order, a piece at a time.
 use Rattle.std.specs.Prelude.{ℕ, List}
 
 -- the bytes that were given, and those that are left

@@ -1,4 +1,5 @@
-// The calls of a device in memory: how many there were, which are to fail, and how many failed.
+//! The calls of a device in memory: how many there were, which are to fail, and how many failed.
+
 ghost use Rattle.std.specs.Prelude.{◌≡◌, ◌≤◌, ◌↔◌, Contains, IsPermutation, IsTrue};
 ghost use Rattle.mrpc_base.specs.Faults.{raised};
 

@@ -1,4 +1,5 @@
-// A link in memory, whose sends and receives can be made to fail, and whose receives can be made short.
+//! A link in memory, whose sends and receives can be made to fail, and whose receives can be made short.
+
 ghost use Rattle.std.specs.Prelude.{◌≡◌, ◌≢◌, ◌<◌, ◌≤◌, ◌↔◌, ◌⊎◌, [], ◌∷◌, ◌++◌, Contains, IsPermutation, IsTrue, length, map, slice_get, take, drop, true, false};
 ghost use Rattle.mrpc_base.specs.Faults.{HasCause, raised};
 ghost use Rattle.mrpc_base.specs.Linking.{OnCame, OnNoneCame};

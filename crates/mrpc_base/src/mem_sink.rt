@@ -1,4 +1,5 @@
-// A sink in memory, whose writes can be made to fail.
+//! A sink in memory, whose writes can be made to fail.
+
 ghost use Rattle.std.specs.Prelude.{◌≡◌, ◌≢◌, ◌<◌, ◌≤◌, [], ◌++◌, Contains, IsPermutation, length, take};
 ghost use Rattle.mrpc_base.specs.Faults.{HasCause, raised};
 ghost use Rattle.mrpc_base.specs.Writing.{OnTook};

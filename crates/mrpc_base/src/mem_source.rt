@@ -1,4 +1,5 @@
-// A source in memory, whose reads can be made short or made to fail.
+//! A source in memory, whose reads can be made short or made to fail.
+
 ghost use Rattle.std.specs.Prelude.{◌≡◌, ◌≢◌, ◌<◌, ◌≤◌, ◌↔◌, [], ◌++◌, All, Contains, IsPermutation, length, min, slice_get, take, drop};
 ghost use Rattle.mrpc_base.specs.Faults.{HasCause, raised};
 ghost use Rattle.mrpc_base.specs.Reading.{OnBytes, OnNoBytes, given_count};

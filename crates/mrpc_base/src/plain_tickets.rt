@@ -1,4 +1,5 @@
-// Quotas that one holder counts by itself.
+//! Quotas that one holder counts by itself.
+
 ghost use Rattle.std.specs.Prelude.{◌≡◌, ◌≢◌, ◌<◌, ◌≤◌, ◌⊎◌, ◌∷◌, [], ◌++◌, ℕ, IfOk, IfSome, IsSomeAnd};
 ghost use Rattle.mrpc_base.specs.Faults.{raised};
 ghost use Rattle.mrpc_base.specs.Quota.{drawn_in, tickets_of};

@@ -1,4 +1,5 @@
-// The words of a heap in memory, with stores that race with its reader's loads.
+//! The words of a heap in memory, with stores that race with its reader's loads.
+
 ghost use Rattle.std.specs.Prelude.{◌≡◌, ◌<◌, ◌≤◌, ◌+◌, ◌^◌, ℕ, [], ◌∷◌, ◌++◌, All, IfOk, length};
 ghost use Rattle.std.specs.Vec.{vec_capacity};
 ghost use Rattle.mrpc_base.specs.Heap.{word_after, stores_of, races_up_to, races_past, races_with, AfterRoom, AfterLoad};

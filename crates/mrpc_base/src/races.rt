@@ -1,4 +1,5 @@
-// The races that wait for a submission's loads.
+//! The races that wait for a submission's loads.
+
 ghost use Rattle.std.specs.Prelude.{◌≡◌, ◌<◌, ◌≤◌, ◌+◌, ◌-◌, ◌^◌, [], All, IfSome, IfNone, length};
 ghost use Rattle.mrpc_base.specs.Heap.{races_with};
 ghost use Rattle.mrpc_base.specs.Parts.{IsFirstRace, IsFirstDue};

@@ -1,4 +1,5 @@
-// The words of a heap beside the list of the stores that made them what they are.
+//! The words of a heap beside the list of the stores that made them what they are.
+
 ghost use Rattle.std.specs.Prelude.{◌≡◌, ◌<◌, ◌≤◌, ◌+◌, ◌^◌, [], ◌∷◌, ◌++◌, IfOk, length};
 ghost use Rattle.mrpc_base.specs.Heap.{word_after};
 

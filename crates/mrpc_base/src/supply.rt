@@ -1,4 +1,5 @@
-// Bytes that are given in order, a piece at a time.
+//! Bytes that are given in order, a piece at a time.
+
 ghost use Rattle.std.specs.Prelude.{◌≡◌, ◌≤◌, [], ◌++◌, length, take, drop};
 
 use std::marker::Model;

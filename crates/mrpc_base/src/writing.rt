@@ -1,4 +1,4 @@
-// Writing bytes whole, however few a sink takes at a time.
+//! Writing bytes whole, however few a sink takes at a time.
 
 ghost use Rattle.std.specs.Prelude.{◌≡◌, ◌<◌, ◌≤◌, ℕ, length, take, IsTrue, true, false};
 ghost use Rattle.std.specs.Io.KnownBytes.{Appends};

@@ -20,6 +20,8 @@ capped_step v n d base cap positive e = elim (cases_lt v cap) [
       omega arith
 ]
 
-pub capped_more : (base : ℕ) (ds : List ℕ) (i n cap : ℕ) → i < length ds → 0 < base → n ≡ min (digits_value base (take i ds)) cap → min (n * base + digit_value (get_or ds i 0)) cap ≡ min (digits_value base (take (i + 1) ds)) cap
+pub capped_more : (base : ℕ) (ds : List ℕ) (i n cap : ℕ) → i < length ds → 0 < base
+    → n ≡ min (digits_value base (take i ds)) cap
+    → min (n * base + digit_value (get_or ds i 0)) cap ≡ min (digits_value base (take (i + 1) ds)) cap
 capped_more base ds i n cap within positive so_far =
     rw (digits_value_more base ds i within) (capped_step (digits_value base (take i ds)) n (digit_value (get_or ds i 0)) base cap positive so_far)

@@ -1,5 +1,6 @@
 -- A field of a tree is found by its number, since numbers ascend.
-use Rattle.std.proofs.Common.{◌≡◌, ◌≢◌, ℕ, zero, suc, ◌<◌, ◌≤◌, ◌==◌, false, List, [], ◌∷◌, length, get_or, Some, None, refl, ap, sym, ◌∙◌, arith, inl, inr}
+use Rattle.std.proofs.Common.{◌≡◌, ◌≢◌, ℕ, zero, suc, ◌<◌, ◌≤◌, ◌==◌, false, List, [], ◌∷◌, length, get_or, Some}
+use Rattle.std.proofs.Common.{None, refl, ap, sym, ◌∙◌, arith, inl, inr}
 use Rattle.std.proofs.lemmas.Bool.{eq-eqb, cases_lt}
 use Rattle.std.specs.Ordering.{nat_cmp, ordering_index}
 use Rattle.std.specs.List.Sorted.{IsNonDecreasingBy, IsPartitionPoint}
@@ -19,7 +20,8 @@ read_again [] i d within = absurd (omega arith)
 read_again (f ∷ fs) zero d within = refl
 read_again (f ∷ fs) (suc i) d within = read_again fs i d (omega arith)
 
-found : (fs : List (ℕ × FieldValue)) (last n i : ℕ) (f : ℕ × FieldValue) → NumbersAscend last (node_of fs) → i < length fs → f ≡ get_or fs i f → f.0 ≡ n → content_at (node_of fs) n ≡ Some (content_of f.1)
+found : (fs : List (ℕ × FieldValue)) (last n i : ℕ) (f : ℕ × FieldValue) → NumbersAscend last (node_of fs)
+    → i < length fs → f ≡ get_or fs i f → f.0 ≡ n → content_at (node_of fs) n ≡ Some (content_of f.1)
 found [] last n i f up within at is = absurd (omega arith)
 found (g ∷ gs) last n zero f up within at is =
     let e : g.0 ≡ n = ap (λ (h : ℕ × FieldValue). h.0) (sym at) ∙ is in rw (eq-eqb g.0 n e) (ap (λ (h : ℕ × FieldValue). Some (content_of h.1)) (sym at))
@@ -29,7 +31,8 @@ found (g ∷ gs) last n (suc i) f up within at is =
     let ne : (g.0 == n) ≡ false = grind arith in
     rw ne (found gs g.0 n i f up.1 (omega arith) at is)
 
-pub found-at : (fs : List (ℕ × FieldValue)) (n i : ℕ) (d : ℕ × FieldValue) → NumbersAscend 0 (node_of fs) → i < length fs → (get_or fs i d).0 ≡ n → content_at (node_of fs) n ≡ Some (content_of (get_or fs i d).1)
+pub found-at : (fs : List (ℕ × FieldValue)) (n i : ℕ) (d : ℕ × FieldValue) → NumbersAscend 0 (node_of fs)
+    → i < length fs → (get_or fs i d).0 ≡ n → content_at (node_of fs) n ≡ Some (content_of (get_or fs i d).1)
 found-at fs n i d up within is = found fs 0 n i (get_or fs i d) up within (read_again fs i d within) is
 
 not_found : (fs : List (ℕ × FieldValue)) (n : ℕ) → ((k : ℕ) (d : ℕ × FieldValue) → k < length fs → (get_or fs k d).0 ≢ n) → content_at (node_of fs) n ≡ None
@@ -39,7 +42,8 @@ not_found (g ∷ gs) n none =
     let ne : (g.0 == n) ≡ false = grind arith in
     rw ne (not_found gs n (λ k d within. none (suc k) d (omega arith)))
 
-numbers_rise : (fs : List (ℕ × FieldValue)) (last : ℕ) → NumbersAscend last (node_of fs) → (i j : ℕ) (d : ℕ × FieldValue) → i ≤ j → j < length fs → (get_or fs i d).0 ≤ (get_or fs j d).0
+numbers_rise : (fs : List (ℕ × FieldValue)) (last : ℕ) → NumbersAscend last (node_of fs)
+    → (i j : ℕ) (d : ℕ × FieldValue) → i ≤ j → j < length fs → (get_or fs i d).0 ≤ (get_or fs j d).0
 numbers_rise [] last up i j d le within = absurd (omega arith)
 numbers_rise (f ∷ fs) last up zero zero d le within = omega arith
 numbers_rise (f ∷ fs) last up zero (suc j) d le within = omega (arith, numbers_above fs f.0 up.1 j d (omega arith))
@@ -62,11 +66,18 @@ pub equal_is : (a b : ℕ) → nat_cmp a b ≡ Equal → a ≡ b
 equal_is a b e = grind arith
 
 pub missed : (fs : List (ℕ × FieldValue)) (last n i : ℕ) → NumbersAscend last (node_of fs)
-    → (IsNonDecreasingBy (λ (f : ℕ × FieldValue). ordering_index (nat_cmp f.0 n)) fs → IsPartitionPoint (λ (f : ℕ × FieldValue). nat_cmp f.0 n ≡ Less) (λ (f : ℕ × FieldValue). nat_cmp f.0 n ≡ Greater) fs i)
+    → (IsNonDecreasingBy (λ (f : ℕ × FieldValue). ordering_index (nat_cmp f.0 n)) fs
+    → IsPartitionPoint (λ (f : ℕ × FieldValue). nat_cmp f.0 n ≡ Less) (λ (f : ℕ × FieldValue). nat_cmp f.0 n
+    ≡ Greater) fs i)
     → content_at (node_of fs) n ≡ None
 missed fs last n i up parts =
     let point = parts (orders_rise fs last n up) in
-    not_found fs n (λ k d within. elim (cases_lt k i) [ inl lt ↦ differs_less (get_or fs k d).0 n (point.0 k d (omega arith) lt) | inr le ↦ differs_greater (get_or fs k d).0 n (point.1 k d le within) ])
+    not_found fs n (λ k d within.
+    elim (cases_lt k i) [
+      | inl lt ↦ differs_less (get_or fs k d).0 n (point.0 k d (omega arith) lt)
+      | inr le ↦
+          differs_greater (get_or fs k d).0 n (point.1 k d le within)
+    ])
 
 -- what a field has weighs less than the message
 pub weight_at : (xs : List (ℕ × FieldValue)) (i : ℕ) (d : ℕ × FieldValue) → i < length xs → content_weight (content_of (get_or xs i d).1) < weight (node_of xs)

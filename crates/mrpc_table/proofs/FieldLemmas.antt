@@ -1,5 +1,6 @@
 -- A field is found by its number, since numbers ascend.
-use Rattle.std.proofs.Common.{◌≡◌, ◌≢◌, ℕ, zero, suc, ◌<◌, ◌≤◌, ◌==◌, false, List, [], ◌∷◌, length, get_or, Some, None, refl, ap, sym, ◌∙◌, arith, inl, inr}
+use Rattle.std.proofs.Common.{◌≡◌, ◌≢◌, ℕ, zero, suc, ◌<◌, ◌≤◌, ◌==◌, false, List, [], ◌∷◌, length, get_or, Some}
+use Rattle.std.proofs.Common.{None, refl, ap, sym, ◌∙◌, arith, inl, inr}
 use Rattle.std.proofs.lemmas.Bool.{eq-eqb}
 use Rattle.std.specs.Ordering.{nat_cmp, ordering_index}
 use Rattle.std.specs.List.Sorted.{IsNonDecreasingBy, IsPartitionPoint}
@@ -59,10 +60,18 @@ differs_greater a b e same = grind arith
 equal_is : (a b : ℕ) → nat_cmp a b ≡ Equal → a ≡ b
 equal_is a b e = grind arith
 
-pub missed : (fs : List Field) (n i : ℕ) → FieldsAscend fs → (IsNonDecreasingBy (λ f. ordering_index (nat_cmp f.number n)) fs → IsPartitionPoint (λ f. nat_cmp f.number n ≡ Less) (λ f. nat_cmp f.number n ≡ Greater) fs i) → field_at fs n ≡ None
+pub missed : (fs : List Field) (n i : ℕ) → FieldsAscend fs
+    → (IsNonDecreasingBy (λ f. ordering_index (nat_cmp f.number n)) fs
+    → IsPartitionPoint (λ f. nat_cmp f.number n ≡ Less) (λ f. nat_cmp f.number n ≡ Greater) fs i)
+    → field_at fs n ≡ None
 missed fs n i up parts =
     let point = parts (orders_rise fs n up) in
-    not_found fs n (λ k d within. elim (cases_lt k i) [ inl lt ↦ differs_less (get_or fs k d).number n (point.0 k d (omega arith) lt) | inr le ↦ differs_greater (get_or fs k d).number n (point.1 k d le within) ])
+    not_found fs n (λ k d within.
+    elim (cases_lt k i) [
+      | inl lt ↦ differs_less (get_or fs k d).number n (point.0 k d (omega arith) lt)
+      | inr le ↦
+          differs_greater (get_or fs k d).number n (point.1 k d le within)
+    ])
 
 -- the place that a binary search found
 pub slice_get_found : (fs : List Field) → FieldsAscend fs → (n i : ℕ) → i < length fs → HoldsAt (λ y. nat_cmp y.number n ≡ Equal) fs i → slice_get fs i ≡ field_at fs n

@@ -1,5 +1,8 @@
 -- Parts of a tree fit where their first part fits and the rest do.
-use Rattle.std.proofs.Common.{◌≡◌, ◌≢◌, ℕ, zero, suc, ◌+◌, ◌-◌, ◌<◌, ◌≤◌, ◌==◌, ◌↔◌, Bool, true, false, not, cond, List, [], ◌∷◌, length, drop, get_or, set, Option, Some, None, refl, ap, sym, subst, ◌∙◌, arith, inl, inr, drop-cons, get_or-set_same, get_or-set_other, IsTrue, length-drop, replicate}
+use Rattle.std.proofs.Common.{◌≡◌, ◌≢◌, ℕ, zero, suc, ◌+◌, ◌-◌, ◌<◌, ◌≤◌, ◌==◌, ◌↔◌, Bool, true, false, not, cond}
+use Rattle.std.proofs.Common.{List, [], ◌∷◌, length, drop, get_or, set, Option, Some, None, refl, ap, sym, subst, ◌∙◌}
+use Rattle.std.proofs.Common.{arith, inl, inr, drop-cons, get_or-set_same, get_or-set_other, IsTrue, length-drop}
+use Rattle.std.proofs.Common.{replicate}
 use Rattle.std.proofs.lemmas.Bool.{cases_eq, eq-eqb}
 use Rattle.mrpc_table.specs.Node.{Node, no_fields, field, Content, one, many, pairs}
 use Rattle.mrpc_table.specs.Normal.{fields_of, field_at, HasContent, TakesMany, members_in, membership, KeysAscend, depth}
@@ -12,7 +15,10 @@ use Rattle.mrpc_table.specs.Words.{is_key}
 use Rattle.mrpc_table.specs.Valid.{IsMessage, IsField, IsKnown, GoesWith, Joins, OneofsFollow}
 use Rattle.mrpc_table.specs.declared.table.Message.{Message}
 use Rattle.mrpc_table.specs.declared.table.Kind.{Kind}
-use Rattle.mrpc_table.specs.declared.table.Kind.TheVariants.{Int32, Int64, Uint32, Uint64, Sint32, Sint64, Bool as TheBool, Fixed32, Fixed64, Sfixed32, Sfixed64, Float, Double, Text, Octets, Message as OfMessage, Choice}
+use Rattle.mrpc_table.specs.declared.table.Kind.TheVariants.{Int32, Int64, Uint32, Uint64, Sint32, Sint64}
+use Rattle.mrpc_table.specs.declared.table.Kind.TheVariants.{Bool as TheBool, Fixed32, Fixed64, Sfixed32, Sfixed64}
+use Rattle.mrpc_table.specs.declared.table.Kind.TheVariants.{Float, Double, Text, Octets, Message as OfMessage}
+use Rattle.mrpc_table.specs.declared.table.Kind.TheVariants.{Choice}
 use Rattle.mrpc_table.specs.declared.table.Label.{Label}
 use Rattle.mrpc_table.specs.declared.table.Label.TheVariants.{Plain, Optional, Repeated, Packed, Map, Member}
 use Rattle.mrpc_table.specs.declared.table.Field.{Field}
@@ -66,7 +72,8 @@ false_from_not : (b : Bool) → not b ≡ true → b ≡ false
 false_from_not true e = absurd cc
 false_from_not false e = refl
 
-free_down : (taken : List Bool) (label : Label) (m : ℕ → ℕ) → IsPlaced (length taken) label → ((o : ℕ) → cond (get_or taken o false) 1 0 + (membership label o + m o) ≤ 1) → is_free taken label ≡ true
+free_down : (taken : List Bool) (label : Label) (m : ℕ → ℕ) → IsPlaced (length taken) label
+    → ((o : ℕ) → cond (get_or taken o false) 1 0 + (membership label o + m o) ≤ 1) → is_free taken label ≡ true
 free_down taken Plain m placed h = refl
 free_down taken Optional m placed h = refl
 free_down taken Repeated m placed h = refl
@@ -77,7 +84,9 @@ free_down taken (Member p) m placed h =
     let at : cond (get_or taken p false) 1 0 + (1 + m p) ≤ 1 = rw self at (h p) in
     elim (get_or taken p false) as (λ (b : Bool). cond b 1 0 + (1 + m p) ≤ 1 → not b ≡ true) [ true ↦ λ le. absurd (omega arith) | false ↦ λ le. refl ] at
 
-taken_down : (taken : List Bool) (label : Label) (m : ℕ → ℕ) → IsPlaced (length taken) label → ((o : ℕ) → cond (get_or taken o false) 1 0 + (membership label o + m o) ≤ 1) → (o : ℕ) → cond (get_or (taken_after taken label) o false) 1 0 + m o ≤ 1
+taken_down : (taken : List Bool) (label : Label) (m : ℕ → ℕ) → IsPlaced (length taken) label
+    → ((o : ℕ) → cond (get_or taken o false) 1 0 + (membership label o + m o) ≤ 1) → (o : ℕ)
+    → cond (get_or (taken_after taken label) o false) 1 0 + m o ≤ 1
 taken_down taken Plain m placed h o = omega (arith, h o)
 taken_down taken Optional m placed h o = omega (arith, h o)
 taken_down taken Repeated m placed h o = omega (arith, h o)
@@ -94,7 +103,9 @@ taken_down taken (Member p) m placed h o =
           rw (get_or-set_other taken p o true false differs) (omega (arith, h o))
     ]
 
-taken_up : (taken : List Bool) (label : Label) (m : ℕ → ℕ) → IsPlaced (length taken) label → is_free taken label ≡ true → ((o : ℕ) → cond (get_or (taken_after taken label) o false) 1 0 + m o ≤ 1) → (o : ℕ) → cond (get_or taken o false) 1 0 + (membership label o + m o) ≤ 1
+taken_up : (taken : List Bool) (label : Label) (m : ℕ → ℕ) → IsPlaced (length taken) label
+    → is_free taken label ≡ true → ((o : ℕ) → cond (get_or (taken_after taken label) o false) 1 0 + m o ≤ 1) → (o : ℕ)
+    → cond (get_or taken o false) 1 0 + (membership label o + m o) ≤ 1
 taken_up taken Plain m placed free h o = omega (arith, h o)
 taken_up taken Optional m placed free h o = omega (arith, h o)
 taken_up taken Repeated m placed free h o = omega (arith, h o)
@@ -140,7 +151,8 @@ rest_up T fs room last n taken f c t e placed first rest = record {
   depth = omega (arith, first.content.depth, rest.depth);
 }
 
-pub rest_unknown : (T : Table) (fs : List Field) (room last n : ℕ) (taken : List Bool) (c : Content) (t : Node) → field_at fs n ≡ None → RestFits T fs room last taken (field n c t) → ⊥
+pub rest_unknown : (T : Table) (fs : List Field) (room last n : ℕ) (taken : List Bool) (c : Content) (t : Node)
+    → field_at fs n ≡ None → RestFits T fs room last taken (field n c t) → ⊥
 rest_unknown T fs room last n taken c t e h = no_content T fs n c e h.fields.1
 
 depth_positive : (t : Node) → 0 < depth t
@@ -184,7 +196,9 @@ kind_known T m n f ok e = (found_all (IsField T (length m.oneofs)) m.fields n f 
 
 pub map_key_known : (T : Table) (m : Message) (n : ℕ) (f : Field) → IsMessage T m → field_at m.fields n ≡ Some f → (k : Kind) → f.label ≡ Map k → IsKnown T k
 map_key_known T m n f ok e k is =
-    let goes : GoesWith (length m.oneofs) (Map k) f.kind = subst (λ (l : Label). GoesWith (length m.oneofs) l f.kind) is (found_all (IsField T (length m.oneofs)) m.fields n f ok.fields e).label in
+    let goes : GoesWith (length m.oneofs) (Map k) f.kind =
+    subst (λ (l : Label). GoesWith (length m.oneofs) l f.kind) is
+    (found_all (IsField T (length m.oneofs)) m.fields n f ok.fields e).label in
     key_known T k goes
 
 joined_le : (met all n : ℕ) (l : Label) (Same Next : Type 0) → (Same → all ≤ met + n) → (Next → all ≤ met + 1 + n) → Joins met l Same Next → all ≤ met + suc n
@@ -209,13 +223,18 @@ placed_below n m (Member o) k le h = omega (arith, h)
 
 pub label_placed : (T : Table) (m : Message) (n places : ℕ) (f : Field) → IsMessage T m → field_at m.fields n ≡ Some f → places ≡ 128 → IsPlaced places f.label
 label_placed T m n places f ok e enough =
-    placed_below (length m.oneofs) places f.label f.kind (omega (arith, follow_le 0 (length m.oneofs) m.fields ok.oneof_order, ok.few)) (found_all (IsField T (length m.oneofs)) m.fields n f ok.fields e).label
+    placed_below (length m.oneofs) places f.label f.kind
+    (omega (arith, follow_le 0 (length m.oneofs) m.fields ok.oneof_order, ok.few))
+    (found_all (IsField T (length m.oneofs)) m.fields n f ok.fields e).label
 
 pub rest_more : (T : Table) (fs : List Field) (room last : ℕ) (taken : List Bool) (f : Field) (items : List (ℕ × FieldValue)) (i : ℕ) (x : ℕ × FieldValue) (All : Type 0)
-    → i < length items → x ≡ get_or items i x → field_at fs x.0 ≡ Some f → IsPlaced (length taken) f.label → last < x.0 → ContentFits T f room (content_of x.1) → is_free taken f.label ≡ true
+    → i < length items → x ≡ get_or items i x → field_at fs x.0 ≡ Some f → IsPlaced (length taken) f.label
+    → last < x.0 → ContentFits T f room (content_of x.1) → is_free taken f.label ≡ true
     → All ↔ RestFits T fs room last taken (node_of (drop i items)) → All ↔ RestFits T fs room x.0 (taken_after taken f.label) (node_of (drop (i + 1) items))
 rest_more T fs room last taken f items i x All within at e placed above fits free so_far =
-    let both : All ↔ RestFits T fs room last taken (field x.0 (content_of x.1) (node_of (drop (i + 1) items))) = subst (λ (xs : List (ℕ × FieldValue)). All ↔ RestFits T fs room last taken (node_of xs)) (from_here items i x within at) so_far in (
+    let both : All ↔ RestFits T fs room last taken (field x.0 (content_of x.1) (node_of (drop (i + 1) items))) =
+    subst (λ (xs : List (ℕ × FieldValue)). All ↔ RestFits T fs room last taken (node_of xs))
+    (from_here items i x within at) so_far in (
       λ all. (rest_down T fs room last x.0 taken f (content_of x.1) (node_of (drop (i + 1) items)) e placed (both.0 all)).1,
       λ rest. both.1 (rest_up T fs room last x.0 taken f (content_of x.1) (node_of (drop (i + 1) items)) e placed (record { above = above; content = fits; free = free }) rest),
     )
@@ -223,19 +242,22 @@ rest_more T fs room last taken f items i x All within at e placed above fits fre
 -- ---- a whole tree
 
 fields_at : (T : Table) (msg : ℕ) (m : Message) → msg < length T.messages → m ≡ get_or T.messages msg m → fields_of T msg ≡ m.fields
-fields_at T msg m within at = ap (λ (o : Option Message). unwrap_or (option_map (λ x. x.fields) o) []) (slice_get-get_or T.messages msg m within) ∙ ap (λ (x : Message). x.fields) (sym at)
+fields_at T msg m within at = ap (λ (o : Option Message). unwrap_or (option_map (λ x. x.fields) o) [])
+    (slice_get-get_or T.messages msg m within) ∙ ap (λ (x : Message). x.fields) (sym at)
 
 get_or-nothing : (n i : ℕ) → get_or (replicate n false) i false ≡ false
 get_or-nothing zero i = refl
 get_or-nothing (suc n) zero = refl
 get_or-nothing (suc n) (suc i) = get_or-nothing n i
 
-pub whole_down : (T : Table) (msg room n : ℕ) (m : Message) (t : Node) → msg < length T.messages → m ≡ get_or T.messages msg m → FitsWithin T msg room t → RestFits T m.fields room 0 (replicate n false) t
+pub whole_down : (T : Table) (msg room n : ℕ) (m : Message) (t : Node) → msg < length T.messages
+    → m ≡ get_or T.messages msg m → FitsWithin T msg room t → RestFits T m.fields room 0 (replicate n false) t
 whole_down T msg room n m t within at h =
     subst (λ (fs : List Field). RestFits T fs room 0 (replicate n false) t) (fields_at T msg m within at)
     (record { fields = h.fields; oneofs = λ o. let le : cond false 1 0 + members_in (fields_of T msg) o t ≤ 1 = omega (arith, h.oneofs o) in rw (get_or-nothing n o) le; depth = h.depth })
 
-pub whole_up : (T : Table) (msg room n : ℕ) (m : Message) (t : Node) → msg < length T.messages → m ≡ get_or T.messages msg m → RestFits T m.fields room 0 (replicate n false) t → FitsWithin T msg room t
+pub whole_up : (T : Table) (msg room n : ℕ) (m : Message) (t : Node) → msg < length T.messages
+    → m ≡ get_or T.messages msg m → RestFits T m.fields room 0 (replicate n false) t → FitsWithin T msg room t
 whole_up T msg room n m t within at h =
     let k = subst (λ (fs : List Field). RestFits T fs room 0 (replicate n false) t) (sym (fields_at T msg m within at)) h in
     record { fields = k.fields; oneofs = λ o. let le : cond false 1 0 + members_in (fields_of T msg) o t ≤ 1 = rw (get_or-nothing n o) at (k.oneofs o) in omega arith; depth = k.depth }
@@ -248,7 +270,9 @@ many_is T f room (v ∷ vs) r takes some both = (
   λ h. both.1 (record { items = h.content.2; depth = h.depth }),
 )
 
-pub pairs_is : (T : Table) (f : Field) (room : ℕ) (key : Kind) (ps : List (Value × Value)) (r : Bool) → f.label ≡ Map key → ps ≢ [] → PairsFit T key f.kind room (pairs_of ps) → (r ≡ true) ↔ KeysAscend key (pairs_of ps)
+pub pairs_is : (T : Table) (f : Field) (room : ℕ) (key : Kind) (ps : List (Value × Value)) (r : Bool)
+    → f.label ≡ Map key → ps ≢ [] → PairsFit T key f.kind room (pairs_of ps) → (r ≡ true)
+    ↔ KeysAscend key (pairs_of ps)
     → (r ≡ true) ↔ ContentFits T f room (pairs (pairs_of ps))
 pairs_is T f room key [] r is some fit both = absurd (some refl)
 pairs_is T f room key (p ∷ ps) r is some fit both = (

@@ -1,5 +1,7 @@
 -- The entries of a map: the last of each key, by ascending key.
-use Rattle.std.proofs.Common.{◌≡◌, ◌≢◌, ◌&&◌, ℕ, zero, suc, ◌<◌, List, [], ◌∷◌, ◌++◌, length, take, get_or, map, filter, Option, Some, None, Bool, true, false, not, cond, refl, ap, sym, subst, ◌∙◌, arith}
+use Rattle.std.proofs.Common.{◌≡◌, ◌≢◌, ◌&&◌, ℕ, zero, suc, ◌<◌, List, [], ◌∷◌, ◌++◌, length, take, get_or, map}
+use Rattle.std.proofs.Common.{filter, Option, Some, None, Bool, true, false, not, cond, refl, ap, sym, subst, ◌∙◌}
+use Rattle.std.proofs.Common.{arith}
 use Rattle.std.specs.Ordering.{nat_cmp, is_lt, is_eq, is_gt, ordering_reverse}
 use Rattle.std.specs.declared.cmp.Ordering.{Ordering}
 use Rattle.std.specs.declared.cmp.Ordering.TheVariants.{Less, Equal, Greater}
@@ -35,7 +37,14 @@ abbrev made : Kind → List E → List E
 made k [] = []
 made k (e ∷ es) = ins k e (made k es)
 
-ins-go : (k : Kind) (e f : E) (fs rest : List E) (ps : Pairs) (r : Ordering) → pairs_of rest ≡ ps → pairs_of (elim r [ Less ↦ e ∷ f ∷ fs | Equal ↦ f ∷ fs | Greater ↦ f ∷ rest ]) ≡ elim r [ Less ↦ pair (item_of e.0) (item_of e.1) (pairs_of (f ∷ fs)) | Equal ↦ pairs_of (f ∷ fs) | Greater ↦ pair (item_of f.0) (item_of f.1) ps ]
+ins-go : (k : Kind) (e f : E) (fs rest : List E) (ps : Pairs) (r : Ordering) → pairs_of rest ≡ ps
+    → pairs_of (elim r [ Less ↦ e ∷ f ∷ fs | Equal ↦ f ∷ fs | Greater ↦ f ∷ rest ])
+    ≡ elim r [
+      | Less ↦ pair (item_of e.0) (item_of e.1) (pairs_of (f ∷ fs))
+      | Equal ↦ pairs_of
+          (f ∷ fs)
+      | Greater ↦ pair (item_of f.0) (item_of f.1) ps
+    ]
 ins-go k e f fs rest ps Less h = refl
 ins-go k e f fs rest ps Equal h = refl
 ins-go k e f fs rest ps Greater h = ap (pair (item_of f.0) (item_of f.1)) h
@@ -90,14 +99,17 @@ is-equal Less h = absurd (cc)
 is-equal Equal h = refl
 is-equal Greater h = absurd (cc)
 
-found-less : (k : Kind) (x : List ℕ) (e f : E) (fs : List E) (b : Bool) → is_eq (ord x (code k e)) ≡ b → ord (code k e) (code k f) ≡ Less → AscFrom k f fs → cond b (Some e) (found k x (f ∷ fs)) ≡ or_some (found k x (f ∷ fs)) (cond b (Some e) None)
+found-less : (k : Kind) (x : List ℕ) (e f : E) (fs : List E) (b : Bool) → is_eq (ord x (code k e)) ≡ b
+    → ord (code k e) (code k f) ≡ Less → AscFrom k f fs
+    → cond b (Some e) (found k x (f ∷ fs)) ≡ or_some (found k x (f ∷ fs)) (cond b (Some e) None)
 found-less k x e f fs false t q a = sym (or-none (found k x (f ∷ fs)))
 found-less k x e f fs true t q a =
     let l : ord x (code k f) ≡ Less = o.congr x (code k e) (code k f) (is-equal (ord x (code k e)) t) ∙ q in
     let none : found k x (f ∷ fs) ≡ None = ap (λ r. cond (is_eq r) (Some f) (found k x fs)) l ∙ none-less k x f fs a l in
     sym (ap (λ p. or_some p (Some e)) none)
 
-found-equal : (k : Kind) (x : List ℕ) (e f : E) (fs : List E) (b : Bool) → is_eq (ord x (code k e)) ≡ b → ord (code k e) (code k f) ≡ Equal → found k x (f ∷ fs) ≡ or_some (found k x (f ∷ fs)) (cond b (Some e) None)
+found-equal : (k : Kind) (x : List ℕ) (e f : E) (fs : List E) (b : Bool) → is_eq (ord x (code k e)) ≡ b
+    → ord (code k e) (code k f) ≡ Equal → found k x (f ∷ fs) ≡ or_some (found k x (f ∷ fs)) (cond b (Some e) None)
 found-equal k x e f fs false t q = sym (or-none (found k x (f ∷ fs)))
 found-equal k x e f fs true t q =
     let l : ord x (code k f) ≡ Equal = o.congr x (code k e) (code k f) (is-equal (ord x (code k e)) t) ∙ q in
@@ -108,7 +120,10 @@ found-more : (b : Bool) (f : E) (p q : Option E) → cond b (Some f) (or_some p 
 found-more true f p q = refl
 found-more false f p q = refl
 
-found-go : (k : Kind) (x : List ℕ) (e f : E) (fs rest : List E) (r : Ordering) → ord (code k e) (code k f) ≡ r → AscFrom k f fs → found k x rest ≡ or_some (found k x fs) (cond (is_eq (ord x (code k e))) (Some e) None) → found k x (elim r [ Less ↦ e ∷ f ∷ fs | Equal ↦ f ∷ fs | Greater ↦ f ∷ rest ]) ≡ or_some (found k x (f ∷ fs)) (cond (is_eq (ord x (code k e))) (Some e) None)
+found-go : (k : Kind) (x : List ℕ) (e f : E) (fs rest : List E) (r : Ordering) → ord (code k e) (code k f) ≡ r
+    → AscFrom k f fs → found k x rest ≡ or_some (found k x fs) (cond (is_eq (ord x (code k e))) (Some e) None)
+    → found k x (elim r [ Less ↦ e ∷ f ∷ fs | Equal ↦ f ∷ fs | Greater ↦ f ∷ rest ]) ≡ or_some (found k x (f ∷ fs))
+    (cond (is_eq (ord x (code k e))) (Some e) None)
 found-go k x e f fs rest Less q a h = found-less k x e f fs (is_eq (ord x (code k e))) refl q a
 found-go k x e f fs rest Equal q a h = found-equal k x e f fs (is_eq (ord x (code k e))) refl q
 found-go k x e f fs rest Greater q a h =
@@ -122,7 +137,10 @@ found-ins : (k : Kind) (x : List ℕ) (e : E) (fs : List E) → Asc k fs → fou
 found-ins k x e [] a = refl
 found-ins k x e (f ∷ fs) a = found-go k x e f fs (ins k e fs) (ord (code k e) (code k f)) refl a (found-ins k x e fs (asc-tail k f fs a))
 
-asc-go : (k : Kind) (g e f : E) (fs rest : List E) (r : Ordering) → ord (code k e) (code k f) ≡ r → ord (code k g) (code k e) ≡ Less → ord (code k g) (code k f) ≡ Less → AscFrom k f fs → (ord (code k f) (code k e) ≡ Less → AscFrom k f rest) → AscFrom k g (elim r [ Less ↦ e ∷ f ∷ fs | Equal ↦ f ∷ fs | Greater ↦ f ∷ rest ])
+asc-go : (k : Kind) (g e f : E) (fs rest : List E) (r : Ordering) → ord (code k e) (code k f) ≡ r
+    → ord (code k g) (code k e) ≡ Less → ord (code k g) (code k f) ≡ Less → AscFrom k f fs
+    → (ord (code k f) (code k e) ≡ Less → AscFrom k f rest)
+    → AscFrom k g (elim r [ Less ↦ e ∷ f ∷ fs | Equal ↦ f ∷ fs | Greater ↦ f ∷ rest ])
 asc-go k g e f fs rest Less q h l a more = (h, (q, a))
 asc-go k g e f fs rest Equal q h l a more = (l, a)
 asc-go k g e f fs rest Greater q h l a more = (l, more (flip-greater (code k e) (code k f) q))
@@ -131,7 +149,9 @@ asc-ins_from : (k : Kind) (g e : E) (fs : List E) → ord (code k g) (code k e) 
 asc-ins_from k g e [] h a = (h, tt)
 asc-ins_from k g e (f ∷ fs) h a = asc-go k g e f fs (ins k e fs) (ord (code k e) (code k f)) refl h a.0 a.1 (λ l. asc-ins_from k f e fs l a.1)
 
-asc-first : (k : Kind) (e f : E) (fs rest : List E) (r : Ordering) → ord (code k e) (code k f) ≡ r → AscFrom k f fs → (ord (code k f) (code k e) ≡ Less → AscFrom k f rest) → Asc k (elim r [ Less ↦ e ∷ f ∷ fs | Equal ↦ f ∷ fs | Greater ↦ f ∷ rest ])
+asc-first : (k : Kind) (e f : E) (fs rest : List E) (r : Ordering) → ord (code k e) (code k f) ≡ r → AscFrom k f fs
+    → (ord (code k f) (code k e) ≡ Less → AscFrom k f rest)
+    → Asc k (elim r [ Less ↦ e ∷ f ∷ fs | Equal ↦ f ∷ fs | Greater ↦ f ∷ rest ])
 asc-first k e f fs rest Less q a more = (q, a)
 asc-first k e f fs rest Equal q a more = a
 asc-first k e f fs rest Greater q a more = more (flip-greater (code k e) (code k f) q)
@@ -154,14 +174,17 @@ found-itself k e es = ap (λ r. cond (is_eq r) (Some e) (found k (code k e) es))
 found-not : (k : Kind) (e f : E) (fs : List E) → ord (code k e) (code k f) ≡ Less → AscFrom k f fs → found k (code k e) (f ∷ fs) ≡ None
 found-not k e f fs l a = ap (λ r. cond (is_eq r) (Some f) (found k (code k e) fs)) l ∙ none-less k (code k e) f fs a l
 
-rest-same : (k : Kind) (w e f : E) (ps qs : List E) (b : Bool) → is_eq (ord (code k w) (code k e)) ≡ b → e ≡ f → AscFrom k e ps → AscFrom k f qs → found k (code k w) (e ∷ ps) ≡ found k (code k w) (f ∷ qs) → found k (code k w) ps ≡ found k (code k w) qs
+rest-same : (k : Kind) (w e f : E) (ps qs : List E) (b : Bool) → is_eq (ord (code k w) (code k e)) ≡ b → e ≡ f
+    → AscFrom k e ps → AscFrom k f qs → found k (code k w) (e ∷ ps) ≡ found k (code k w) (f ∷ qs)
+    → found k (code k w) ps ≡ found k (code k w) qs
 rest-same k w e f ps qs true t same a b h =
     let eq = is-equal (ord (code k w) (code k e)) t in
     none-equal k (code k w) e ps a eq ∙ sym (none-equal k (code k w) f qs b (ap (λ x. ord (code k w) (code k x)) (sym same) ∙ eq))
 rest-same k w e f ps qs false t same a b h =
     sym (ap (λ c. cond c (Some e) (found k (code k w) ps)) t) ∙ h ∙ ap (λ c. cond c (Some f) (found k (code k w) qs)) (ap (λ x. is_eq (ord (code k w) (code k x))) (sym same) ∙ t)
 
-heads-same : (k : Kind) (e f : E) (ps qs : List E) (r : Ordering) → ord (code k e) (code k f) ≡ r → AscFrom k e ps → AscFrom k f qs → ((w : E) → found k (code k w) (e ∷ ps) ≡ found k (code k w) (f ∷ qs)) → e ≡ f
+heads-same : (k : Kind) (e f : E) (ps qs : List E) (r : Ordering) → ord (code k e) (code k f) ≡ r → AscFrom k e ps
+    → AscFrom k f qs → ((w : E) → found k (code k w) (e ∷ ps) ≡ found k (code k w) (f ∷ qs)) → e ≡ f
 heads-same k e f ps qs Less q a b h = absurd (let bad : Some e ≡ None = sym (found-itself k e ps) ∙ h e ∙ found-not k e f qs q b in cc)
 heads-same k e f ps qs Greater q a b h = absurd (let bad : Some f ≡ None = sym (found-itself k f qs) ∙ sym (h f) ∙ found-not k f e ps (flip-greater (code k e) (code k f) q) a in cc)
 heads-same k e f ps qs Equal q a b h =
@@ -185,7 +208,9 @@ tie-test Less = refl
 tie-test Equal = refl
 tie-test Greater = refl
 
-last-step : (k : Kind) (x : List ℕ) (e : E) (es fs : List E) (b : Bool) → is_eq (ord x (code k e)) ≡ b → last_at k x es ≡ last_at k x fs → or_some (last_at k x es) (cond b (Some e) None) ≡ last_at k x (cond b (e ∷ fs) fs)
+last-step : (k : Kind) (x : List ℕ) (e : E) (es fs : List E) (b : Bool) → is_eq (ord x (code k e)) ≡ b
+    → last_at k x es ≡ last_at k x fs
+    → or_some (last_at k x es) (cond b (Some e) None) ≡ last_at k x (cond b (e ∷ fs) fs)
 last-step k x e es fs true t h = ap (λ p. or_some p (Some e)) h ∙ sym (ap (λ c. or_some (last_at k x fs) (cond c (Some e) None)) t)
 last-step k x e es fs false t h = or-none (last_at k x es) ∙ h
 
@@ -210,11 +235,13 @@ last-or false y p q = refl
 last-pushed : (k : Kind) (x : List ℕ) (es : List E) (y : E) → last_at k x (es ++ y ∷ []) ≡ cond (is_eq (ord x (code k y))) (Some y) (last_at k x es)
 last-pushed k x [] y = refl
 last-pushed k x (e ∷ es) y =
-    ap (λ p. or_some p (cond (is_eq (ord x (code k e))) (Some e) None)) (last-pushed k x es y) ∙ last-or (is_eq (ord x (code k y))) y (last_at k x es) (cond (is_eq (ord x (code k e))) (Some e) None)
+    ap (λ p. or_some p (cond (is_eq (ord x (code k e))) (Some e) None)) (last-pushed k x es y)
+    ∙ last-or (is_eq (ord x (code k y))) y (last_at k x es) (cond (is_eq (ord x (code k e))) (Some e) None)
 
 found-pushed : (k : Kind) (x : List ℕ) (es : List E) (y : E) → found k x (es ++ y ∷ []) ≡ or_some (found k x es) (cond (is_eq (ord x (code k y))) (Some y) None)
 found-pushed k x [] y = refl
-found-pushed k x (e ∷ es) y = ap (cond (is_eq (ord x (code k e))) (Some e)) (found-pushed k x es y) ∙ found-more (is_eq (ord x (code k e))) e (found k x es) (cond (is_eq (ord x (code k y))) (Some y) None)
+found-pushed k x (e ∷ es) y = ap (cond (is_eq (ord x (code k e))) (Some e)) (found-pushed k x es y)
+    ∙ found-more (is_eq (ord x (code k e))) e (found k x es) (cond (is_eq (ord x (code k y))) (Some y) None)
 
 -- each key is below the one of y
 abbrev AllLess : Kind → List E → E → Type 0
@@ -227,7 +254,8 @@ less-none k x (e ∷ es) y a q =
     let g : ord x (code k e) ≡ Greater = o.congr x (code k y) (code k e) q ∙ o.antisymm (code k y) (code k e) ∙ ap ordering_reverse a.0 in
     ap (λ r. cond (is_eq r) (Some e) (found k x es)) g ∙ less-none k x es y a.1 q
 
-found-behind : (k : Kind) (x : List ℕ) (es : List E) (y : E) (b : Bool) → is_eq (ord x (code k y)) ≡ b → AllLess k es y → or_some (found k x es) (cond b (Some y) None) ≡ cond b (Some y) (found k x es)
+found-behind : (k : Kind) (x : List ℕ) (es : List E) (y : E) (b : Bool) → is_eq (ord x (code k y)) ≡ b
+    → AllLess k es y → or_some (found k x es) (cond b (Some y) None) ≡ cond b (Some y) (found k x es)
 found-behind k x es y true t a = ap (λ p. or_some p (Some y)) (less-none k x es y a (is-equal (ord x (code k y)) t))
 found-behind k x es y false t a = or-none (found k x es)
 
@@ -269,7 +297,8 @@ up-less Less h n = refl
 up-less Equal h n = absurd (n refl)
 up-less Greater h n = absurd (cc)
 
-all-less : (k : Kind) (es : List E) (y : E) → Asc k es → AllUpTo k es y → ((front : List E) (l : E) → es ≡ front ++ l ∷ [] → ord (code k l) (code k y) ≢ Equal) → AllLess k es y
+all-less : (k : Kind) (es : List E) (y : E) → Asc k es → AllUpTo k es y
+    → ((front : List E) (l : E) → es ≡ front ++ l ∷ [] → ord (code k l) (code k y) ≢ Equal) → AllLess k es y
 all-less k [] y a u h = tt
 all-less k (e ∷ []) y a u h = (up-less (ord (code k e) (code k y)) u.0 (h [] e refl), tt)
 all-less k (e ∷ f ∷ es) y a u h =
@@ -301,8 +330,12 @@ kept-replaced k es front l y h q =
       same = λ w.
           let x = code k w in
           let tests : is_eq (ord x (code k l)) ≡ is_eq (ord x (code k y)) = ap is_eq (alike_right o (code k l) (code k y) x q) in
-          let old : or_some (found k x front) (cond (is_eq (ord x (code k y))) (Some l) None) ≡ last_at k x es = ap (λ b. or_some (found k x front) (cond b (Some l) None)) (sym tests) ∙ sym (found-pushed k x front l) ∙ h.same w in
-          found-pushed k x front y ∙ found-behind k x front y (is_eq (ord x (code k y))) refl less ∙ swap (is_eq (ord x (code k y))) (found k x front) l y (last_at k x es) old ∙ sym (last-pushed k x es y);
+          let old : or_some (found k x front) (cond (is_eq (ord x (code k y))) (Some l) None) ≡ last_at k x es =
+          ap (λ b. or_some (found k x front) (cond b (Some l) None)) (sym tests) ∙ sym (found-pushed k x front l)
+          ∙ h.same w in
+          found-pushed k x front y ∙ found-behind k x front y (is_eq (ord x (code k y))) refl less
+          ∙ swap (is_eq (ord x (code k y))) (found k x front) l y (last_at k x es) old
+          ∙ sym (last-pushed k x es y);
       up = λ z u. let s = up-front k es y z u in up-pushed k front y z s.1 (up-front k front l z (h.up z s.0)).0;
     }
   where
@@ -310,14 +343,17 @@ kept-replaced k es front l y h q =
     swap true p l y q h = refl
     swap false p l y q h = sym (or-none p) ∙ h
 
-kept-appended : (k : Kind) (es kept : List E) (y : E) → Kept k es kept → AllUpTo k es y → ((front : List E) (l : E) → kept ≡ front ++ l ∷ [] → ord (code k l) (code k y) ≢ Equal) → Kept k (es ++ y ∷ []) (kept ++ y ∷ [])
+kept-appended : (k : Kind) (es kept : List E) (y : E) → Kept k es kept → AllUpTo k es y
+    → ((front : List E) (l : E) → kept ≡ front ++ l ∷ [] → ord (code k l) (code k y) ≢ Equal)
+    → Kept k (es ++ y ∷ []) (kept ++ y ∷ [])
 kept-appended k es kept y h u n =
     let less = all-less k kept y h.asc (h.up y u) n in
     record {
       asc = asc-pushed k kept y h.asc less;
       same = λ w.
           let x = code k w in
-          found-pushed k x kept y ∙ found-behind k x kept y (is_eq (ord x (code k y))) refl less ∙ ap (cond (is_eq (ord x (code k y))) (Some y)) (h.same w) ∙ sym (last-pushed k x es y);
+          found-pushed k x kept y ∙ found-behind k x kept y (is_eq (ord x (code k y))) refl less
+          ∙ ap (cond (is_eq (ord x (code k y))) (Some y)) (h.same w) ∙ sym (last-pushed k x es y);
       up = λ z v. let s = up-front k es y z v in up-pushed k kept y z s.1 (h.up z s.0);
     }
 
@@ -364,7 +400,9 @@ not-equal Less h e = cc
 not-equal Equal h e = absurd (cc)
 not-equal Greater h e = cc
 
-pub added-behind : (k : Kind) (old popped mid new : List E) (l y : E) (same : Bool) → old ≡ popped ++ l ∷ [] → same ≡ is_eq (entry_cmp k l y) → mid ≡ cond same popped (popped ++ l ∷ []) → new ≡ mid ++ y ∷ [] → IsEntryAdded k old y new
+pub added-behind : (k : Kind) (old popped mid new : List E) (l y : E) (same : Bool) → old ≡ popped ++ l ∷ []
+    → same ≡ is_eq (entry_cmp k l y) → mid ≡ cond same popped (popped ++ l ∷ []) → new ≡ mid ++ y ∷ []
+    → IsEntryAdded k old y new
 added-behind k old popped mid new l y true was tied m n =
     replaced popped l was (is-equal (entry_cmp k l y) (sym tied)) (n ∙ ap (λ xs. xs ++ y ∷ []) m)
 added-behind k old popped mid new l y false was tied m n =

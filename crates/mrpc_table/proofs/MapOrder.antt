@@ -49,7 +49,9 @@ key-flip : (k : Kind) (i j : Item) → key_cmp k i j ≡ Greater → key_cmp k j
 key-flip k i j h = nat_list_cmp_total.antisymm (key_code k j) (key_code k i) ∙ ap ordering_reverse h
 
 -- a pair is put in front, left out, or put behind the first
-put-go : (P : Pairs → Type 0) (i j l w : Item) (ps rest : Pairs) (r : Ordering) → (r ≡ Less → P (pair i j (pair l w ps))) → P (pair l w ps) → (r ≡ Greater → P (pair l w rest)) → P (elim r [ Less ↦ pair i j (pair l w ps) | Equal ↦ pair l w ps | Greater ↦ pair l w rest ])
+put-go : (P : Pairs → Type 0) (i j l w : Item) (ps rest : Pairs) (r : Ordering)
+    → (r ≡ Less → P (pair i j (pair l w ps))) → P (pair l w ps) → (r ≡ Greater → P (pair l w rest))
+    → P (elim r [ Less ↦ pair i j (pair l w ps) | Equal ↦ pair l w ps | Greater ↦ pair l w rest ])
 put-go P i j l w ps rest Less a b c = a refl
 put-go P i j l w ps rest Equal a b c = b
 put-go P i j l w ps rest Greater a b c = c refl
@@ -59,12 +61,15 @@ put-pairs T key k i j no_pairs a b h = (a, b, tt)
 put-pairs T key k i j (pair l w ps) a b h =
     put-go (ArePairs T key k) i j l w ps (with_pair key i j ps) (key_cmp key i l) (λ e. (a, b, h)) h (λ e. (h.0, h.1, put-pairs T key k i j ps a b h.2))
 
-put-depth : (key : Kind) (room : ℕ) (i j : Item) (ps : Pairs) → item_depth i ≤ room → item_depth j ≤ room → pairs_depth ps ≤ room → pairs_depth (with_pair key i j ps) ≤ room
+put-depth : (key : Kind) (room : ℕ) (i j : Item) (ps : Pairs) → item_depth i ≤ room → item_depth j ≤ room
+    → pairs_depth ps ≤ room → pairs_depth (with_pair key i j ps) ≤ room
 put-depth key room i j no_pairs a b h = omega (arith, a, b)
 put-depth key room i j (pair l w ps) a b h =
-    put-go (λ qs. pairs_depth qs ≤ room) i j l w ps (with_pair key i j ps) (key_cmp key i l) (λ e. omega (arith, a, b, h)) h (λ e. omega (arith, h, put-depth key room i j ps a b (omega (arith, h))))
+    put-go (λ qs. pairs_depth qs ≤ room) i j l w ps (with_pair key i j ps) (key_cmp key i l)
+    (λ e. omega (arith, a, b, h)) h (λ e. omega (arith, h, put-depth key room i j ps a b (omega (arith, h))))
 
-put-ascend_from : (T : Table) (key k : Kind) (last i j : Item) (ps : Pairs) → IsNoMessage key → IsItem T key i → ArePairs T key k ps → IsBefore key last i → AscendFrom key last ps → AscendFrom key last (with_pair key i j ps)
+put-ascend_from : (T : Table) (key k : Kind) (last i j : Item) (ps : Pairs) → IsNoMessage key → IsItem T key i
+    → ArePairs T key k ps → IsBefore key last i → AscendFrom key last ps → AscendFrom key last (with_pair key i j ps)
 put-ascend_from T key k last i j no_pairs plain a h before up = (before, tt)
 put-ascend_from T key k last i j (pair l w ps) plain a h before up =
     put-go (AscendFrom key last) i j l w ps (with_pair key i j ps) (key_cmp key i l)
@@ -72,7 +77,8 @@ put-ascend_from T key k last i j (pair l w ps) plain a h before up =
     up
     (λ e. (up.0, put-ascend_from T key k l i j ps plain a h.2 (key-before T key l i plain h.0 a (key-flip key i l e)) up.1))
 
-put-ascend : (T : Table) (key k : Kind) (i j : Item) (ps : Pairs) → IsNoMessage key → IsItem T key i → ArePairs T key k ps → KeysAscend key ps → KeysAscend key (with_pair key i j ps)
+put-ascend : (T : Table) (key k : Kind) (i j : Item) (ps : Pairs) → IsNoMessage key → IsItem T key i
+    → ArePairs T key k ps → KeysAscend key ps → KeysAscend key (with_pair key i j ps)
 put-ascend T key k i j no_pairs plain a h up = tt
 put-ascend T key k i j (pair l w ps) plain a h up =
     put-go (KeysAscend key) i j l w ps (with_pair key i j ps) (key_cmp key i l)
@@ -92,7 +98,9 @@ pub last-ascend : (T : Table) (key k : Kind) (es : List (Item × Item)) → IsNo
 last-ascend T key k [] plain h = tt
 last-ascend T key k (e ∷ es) plain h = put-ascend T key k e.0 e.1 (last_of_each key es) plain h.0.0 (last-kinds T key k es h.1) (last-ascend T key k es plain h.1)
 
-pub last-depth : (key : Kind) (room : ℕ) (es : List (Item × Item)) → AllByRecursion (λ e. (item_depth e.0 ≤ room) × (item_depth e.1 ≤ room)) es → pairs_depth (last_of_each key es) ≤ room
+pub last-depth : (key : Kind) (room : ℕ) (es : List (Item × Item))
+    → AllByRecursion (λ e. (item_depth e.0 ≤ room) × (item_depth e.1 ≤ room)) es
+    → pairs_depth (last_of_each key es) ≤ room
 last-depth key room [] h = omega arith
 last-depth key room (e ∷ es) h = put-depth key room e.0 e.1 (last_of_each key es) h.0.0 h.0.1 (last-depth key room es h.1)
 

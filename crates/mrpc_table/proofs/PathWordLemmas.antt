@@ -11,7 +11,9 @@ has_part : (sep : ℕ) (text : List ℕ) → (part : List ℕ) × (parts : List 
 has_part sep [] = ([], [], refl)
 has_part sep (x ∷ xs) =
     let rest = has_part sep xs in
-    elim (x == sep) as (λ (b : Bool). (part : List ℕ) × (parts : List (List ℕ)) × (cond b ([] ∷ slice_split (λ c. c == sep) xs) (onto_first x (slice_split (λ c. c == sep) xs)) ≡ part ∷ parts)) [
+    elim (x == sep) as (λ (b : Bool). (part : List ℕ) × (parts : List (List ℕ))
+    × (cond b ([] ∷ slice_split (λ c. c == sep) xs) (onto_first x (slice_split (λ c. c == sep) xs)) ≡ part
+    ∷ parts)) [
       | true ↦ ([], slice_split (λ c. c == sep) xs, refl)
       | false ↦ (x ∷ rest.0, rest.1, ap (onto_first x) rest.2)
     ]

@@ -1,4 +1,4 @@
--- What a part of a tree must be for the tree to be normal, with as many messages inside one another as
+-- The code's own: what a part of a tree must be for the tree to be normal, with as many messages inside one another as
 -- there is room for.
 use Rattle.std.specs.Prelude.{◌≡◌, ◌≢◌, ℕ, ◌+◌, ◌<◌, ◌≤◌, Bool, true, false, not, if◌then◌else◌, List, slice_index_or, slice_set}
 use Rattle.mrpc_table.specs.Node.{Node, Content, one, many, pairs, Item, Items, no_items, Pairs, no_pairs}

@@ -1,5 +1,6 @@
 pub mod Ascending
 pub mod Calls
+pub mod Capped
 pub mod FirstFault
 pub mod Falls
 pub mod Fits

@@ -28,7 +28,7 @@ pub fn digit_value(byte: u8) -> u8
     }
 }
 
-/// Larger than each number of 64 bits, and small enough that a digit can follow.
+// Larger than each number of 64 bits, and small enough that a digit can follow.
 const LARGE: u128 = 0x1_0000_0000_0000_0000;
 
 /// The number that digits spell, or 2 to the power of 64 where it is larger.

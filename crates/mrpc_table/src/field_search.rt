@@ -24,7 +24,7 @@ pub fn find_field(fields: &[Field], number: u32, hint: usize) -> Option<usize>
     search(fields, number)
 }
 
-/// Whether the field of a number stands at a place.
+// Whether the field of a number stands at a place.
 fn stands_at(fields: &[Field], number: u32, place: usize) -> bool
     requires { FieldsAscend fields.now }
     ensures bound { IsTrue result → place < length fields.now }

@@ -23,7 +23,7 @@ pub(crate) fn write_digits(digits: &mut [u8], bytes: &[u8])
     }
 }
 
-/// The digit of a number. With no look-up in a table many bytes are done at once.
+// The digit of a number. With no look-up in a table many bytes are done at once.
 fn digit(number: u8) -> u8
     requires { number < 16 }
     ensures { result ≡ slice_index lower_digits number }

@@ -27,7 +27,7 @@ pub fn last_of_each(alloc: Global, entries: Entries, key: Kind) -> Result<Entrie
     last_of_sorted(alloc, sorted, key)
 }
 
-/// Whether each key is above the one before it.
+// Whether each key is above the one before it.
 fn ascends(entries: &Entries, key: Kind) -> bool
     ensures { IsTrue result → KeysRise key entries.now.items }
 {
@@ -39,7 +39,7 @@ fn ascends(entries: &Entries, key: Kind) -> bool
     true
 }
 
-/// The same, where equal keys stand one behind another in ascending order.
+// The same, where equal keys stand one behind another in ascending order.
 fn last_of_sorted(alloc: Global, sorted: Entries, key: Kind) -> Result<Entries, Memory>
     requires { AreSorted key sorted.items }
     ensures { IfOk result
@@ -52,7 +52,7 @@ fn last_of_sorted(alloc: Global, sorted: Entries, key: Kind) -> Result<Entries, 
     Ok(kept)
 }
 
-/// Appends an entry, in place of the last one where that has the same key.
+// Appends an entry, in place of the last one where that has the same key.
 fn add_entry(kept: &mut Entries, entry: (Value, Value), key: Kind) -> Result<(), Memory>
     ensures { OnOk result (IsEntryAdded key kept.old.items entry kept.new.items) }
 {
@@ -70,7 +70,7 @@ fn add_entry(kept: &mut Entries, entry: (Value, Value), key: Kind) -> Result<(),
     }
 }
 
-/// Appends an entry unless another one takes its place.
+// Appends an entry unless another one takes its place.
 fn keep_unless(kept: &mut Entries, entry: (Value, Value), same: bool) -> Result<(), Memory>
     ensures { OnOk result
         (kept.new.items ≡ (if same then kept.old.items else kept.old.items ++ entry ∷ [])) }
@@ -81,14 +81,14 @@ fn keep_unless(kept: &mut Entries, entry: (Value, Value), same: bool) -> Result<
     Ok(())
 }
 
-/// Whether two keys are equal.
+// Whether two keys are equal.
 fn is_same(key: Kind, a: &Value, b: &Value) -> bool
     ensures { result ≡ is_eq (key_cmp key (item_of a.now) (item_of b.now)) }
 {
     compare(key, a, b).is_eq()
 }
 
-/// Keys as numbers of their kind, or by bytes.
+// Keys as numbers of their kind, or by bytes.
 fn compare(key: Kind, a: &Value, b: &Value) -> Ordering
     ensures { result ≡ key_cmp key (item_of a.now) (item_of b.now) }
 {

@@ -9,7 +9,6 @@ use crate::words::Decimal;
 use std::alloc::Global;
 
 /// A way into a tree, and the field at its end.
-#[derive(Drop)]
 pub struct Path {
     /// The numbers of the messages on the way, the outermost first, 31 at most.
     pub way: Sequence<u32>,
@@ -21,13 +20,31 @@ pub struct Path {
     pub label: Label,
 }
 
+// By hand, so that a drop is one call where it is needed, and not a drop of each part.
+impl Drop for Path {
+    fn drop(self) {
+        let Path {
+            way: _way,
+            number: _,
+            kind: _,
+            label: _,
+        } = self;
+    }
+}
+
 /// Field numbers joined by dots, as a word spells them: 1 to 32 numbers of any size.
-#[derive(Drop)]
 pub struct PathWord {
     /// All numbers but the last, in order.
     pub way: Sequence<Decimal>,
     /// The last number.
     pub last: Decimal,
+}
+
+// By hand, so that a drop is one call where it is needed, and not a drop of each part.
+impl Drop for PathWord {
+    fn drop(self) {
+        let PathWord { way: _way, last: _ } = self;
+    }
 }
 
 impl Path {

@@ -6,7 +6,7 @@ ghost use Rattle.mrpc_table.specs.PathTrees.{message_under, message_behind, IsAs
 
 use crate::tree::{FieldValue, Tree, Value};
 
-/// The message that the tree has under a number.
+// The message that the tree has under a number.
 fn message_under(tree: &Tree, number: u32) -> Option<&Tree>
     requires { IsAscending tree.now }
     ensures ascending { IfSome result (λ m. IsAscending m.now) }

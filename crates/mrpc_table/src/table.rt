@@ -247,13 +247,24 @@ impl Label {
 }
 
 /// A field of a message.
-#[derive(Drop)]
 pub struct Field {
     /// 1 to 536870911, and not 19000 to 19999.
     pub number: u32,
     pub name: Name,
     pub kind: Kind,
     pub label: Label,
+}
+
+// By hand, so that a drop is one call where it is needed, and not a drop of each part.
+impl Drop for Field {
+    fn drop(self) {
+        let Field {
+            number: _,
+            name: _name,
+            kind: _,
+            label: _,
+        } = self;
+    }
 }
 
 /// The fields of a message, by ascending number.
@@ -263,12 +274,22 @@ pub type Fields = Sequence<Field>;
 pub type Names = Sequence<Name>;
 
 /// A message of the schema. Its oneofs stand in the order of their least member numbers.
-#[derive(Drop)]
 pub struct Message {
     /// The full name.
     pub name: Name,
     pub fields: Fields,
     pub oneofs: Names,
+}
+
+// By hand, so that a drop is one call where it is needed, and not a drop of each part.
+impl Drop for Message {
+    fn drop(self) {
+        let Message {
+            name: _name,
+            fields: _fields,
+            oneofs: _oneofs,
+        } = self;
+    }
 }
 
 impl Message {
@@ -289,21 +310,41 @@ impl Message {
 pub type ChoiceValues = Sequence<(i32, Name)>;
 
 /// An enum of the schema.
-#[derive(Drop)]
 pub struct Choices {
     /// The full name.
     pub name: Name,
     pub values: ChoiceValues,
 }
 
+// By hand, so that a drop is one call where it is needed, and not a drop of each part.
+impl Drop for Choices {
+    fn drop(self) {
+        let Choices {
+            name: _name,
+            values: _values,
+        } = self;
+    }
+}
+
 /// A method of a service. Its input and output are places of messages in the table.
-#[derive(Drop)]
 pub struct Method {
     /// The full name of its service.
     pub service: Name,
     pub name: Name,
     pub input: u32,
     pub output: u32,
+}
+
+// By hand, so that a drop is one call where it is needed, and not a drop of each part.
+impl Drop for Method {
+    fn drop(self) {
+        let Method {
+            service: _service,
+            name: _name,
+            input: _,
+            output: _,
+        } = self;
+    }
 }
 
 /// Messages, by ascending full name.
@@ -317,11 +358,21 @@ pub type Methods = Sequence<Method>;
 
 /// What a schema says. `IsValid` of `specs/Valid.antt` says when it is one that a canonical text
 /// can write.
-#[derive(Drop)]
 pub struct Table {
     pub messages: Messages,
     pub enums: Enums,
     pub methods: Methods,
+}
+
+// By hand, so that a drop is one call where it is needed, and not a drop of each part.
+impl Drop for Table {
+    fn drop(self) {
+        let Table {
+            messages: _messages,
+            enums: _enums,
+            methods: _methods,
+        } = self;
+    }
 }
 
 impl Table {

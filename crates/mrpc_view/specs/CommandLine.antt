@@ -1,4 +1,4 @@
--- Which command lines the program answers by itself.
+-- The code's own: which command lines the program answers by itself.
 use Rattle.std.specs.Prelude.{◌≡◌, ◌⊎◌, ℕ, List, [], ◌∷◌, codes, map, String, string_bytes}
 use Rattle.std.specs.declared.alloc.Global.{Global}
 

@@ -1,4 +1,4 @@
-// What the program says on standard error.
+//! What the program says on standard error.
 
 use clap::Command;
 use std::alloc::{AllocError, Global};

@@ -1,5 +1,6 @@
 -- References of files of one package name the same as in the one file.
-use Rattle.std.proofs.Common.{◌≡◌, ℕ, ◌+◌, ◌<◌, ◌≤◌, ◌⊎◌, true, List, [], ◌∷◌, ◌++◌, length, Option, Some, None, refl, sym, ap, ◌∙◌, subst, ⊎_elim, arith}
+use Rattle.std.proofs.Common.{◌≡◌, ℕ, ◌+◌, ◌<◌, ◌≤◌, ◌⊎◌, true, List, [], ◌∷◌, ◌++◌, length, Option, Some, None, refl}
+use Rattle.std.proofs.Common.{sym, ap, ◌∙◌, subst, ⊎_elim, arith}
 use Rattle.std.specs.Prelude.{Contains, slice_get, slice_index_or}
 use Rattle.std.proofs.lemmas.Bool.{cases_order}
 use Rattle.std.proofs.lemmas.Option.{same_Some}
@@ -18,7 +19,9 @@ use Rattle.proto_file.specs.declared.joined.Home.{Home}
 use Rattle.proto_file.specs.declared.joined.Home.TheVariants as home
 use Rattle.proto_file.specs.Joined.{Joined, Sees, alone, home_in, home_of, package_at, package_parts}
 use Rattle.schema_names.specs.Scopes
-use Rattle.schema_names.specs.Scopes.{IsScope, of_file, of_message, Sort, a_message, is_type, Declares, IsThere, a_type, a_package, Decides, here, outward, Means, absolute, relative, Finds, Names}
+use Rattle.schema_names.specs.Scopes.{IsScope, of_file, of_message, Sort, a_message, is_type, Declares, IsThere}
+use Rattle.schema_names.specs.Scopes.{a_type, a_package, Decides, here, outward, Means, absolute, relative, Finds}
+use Rattle.schema_names.specs.Scopes.{Names}
 use Rattle.schema_offences.specs.Offences
 use Rattle.schema_offences.specs.Offences.{IsTwice}
 use Rattle.one_package.specs.OnePackage.{Refers, of_field, of_rpc, IsOnePackage}

@@ -42,7 +42,9 @@ module _ {M : Type 0} where
   marks_of_snoc_mark (Mark m ∷ ps) mark = ap (λ r. m ∷ r) (marks_of_snoc_mark ps mark)
 
   -- once a piece was given whole, the bytes of the next are what is left
-  pub takes_bytes : (given piece : List ℕ) (at : ℕ) (old new : List (Piece M)) (bytes : List ℕ) → given ++ drop at piece ≡ bytes_of old → length piece ≤ at → new ≡ old ++ Bytes bytes ∷ [] → given ++ bytes ≡ bytes_of new
+  pub takes_bytes : (given piece : List ℕ) (at : ℕ) (old new : List (Piece M)) (bytes : List ℕ)
+      → given ++ drop at piece ≡ bytes_of old → length piece ≤ at → new ≡ old ++ Bytes bytes ∷ []
+      → given ++ bytes ≡ bytes_of new
   takes_bytes given piece at old new bytes is done more =
       let all : given ≡ bytes_of old = sym (append-nil given) ∙ ap (λ r. given ++ r) (sym (drop_of_length-le piece done)) ∙ is in
       ap (λ r. r ++ bytes) all ∙ sym (bytes_of_snoc_bytes old bytes) ∙ ap bytes_of (sym more)

@@ -1,5 +1,7 @@
 -- Each move of an end keeps the rule of the queue.
-use Rattle.std.proofs.Common.{◌≡◌, ◌≢◌, ◌<◌, ◌≤◌, ◌+◌, ◌-◌, ℕ, zero, suc, true, true≢false, List, [], ◌∷◌, ◌++◌, length, length-append, set, sym, refl, ap, ◌∙◌, subst, ⊎_elim, inl, inr, append_assoc, arith}
+use Rattle.std.proofs.Common.{◌≡◌, ◌≢◌, ◌<◌, ◌≤◌, ◌+◌, ◌-◌, ℕ, zero, suc, true, true≢false, List, [], ◌∷◌, ◌++◌}
+use Rattle.std.proofs.Common.{length, length-append, set, sym, refl, ap, ◌∙◌, subst, ⊎_elim, inl, inr, append_assoc}
+use Rattle.std.proofs.Common.{arith}
 use Rattle.std.proofs.lemmas.List.{append-nil}
 use mathlib.Core.Option.{some, some-ne-none}
 use mathlib.Core.List.{IsPrefix}
@@ -19,7 +21,8 @@ module _ {T : Type 0} where
   abbrev Each : (ℕ → Side T → Type 0) → List (Side T) → Type 0
   Each F views = (port : ℕ) (v : Side T) → get_elem? views port ≡ some v → F port v
 
-  each_set : (F : ℕ → Side T → Type 0) (views : List (Side T)) (port : ℕ) (w : Side T) → F port w → ((j : ℕ) (u : Side T) → j ≢ port → get_elem? views j ≡ some u → F j u) → Each F (set views port w)
+  each_set : (F : ℕ → Side T → Type 0) (views : List (Side T)) (port : ℕ) (w : Side T) → F port w
+      → ((j : ℕ) (u : Side T) → j ≢ port → get_elem? views j ≡ some u → F j u) → Each F (set views port w)
   each_set F views port w mine others j u e = ⊎_elim (λ (x : (j ≡ port) × (w ≡ u)). subst (λ (y : ℕ × Side T). F y.0 y.1) (λ i. (sym x.0 i, x.1 i)) mine)
       (λ (x : (j ≢ port) × (get_elem? views j ≡ some u)). others j u x.0 x.1) (at_set views port j w u e)
 
@@ -97,8 +100,20 @@ module _ {T : Type 0} where
           put,
           h.3,
           ap (λ l. l ++ x ∷ []) h.4 ∙ append_assoc h.3 items (x ∷ []),
-          each_set (Fits h.0 h.1 put h.3) views port w (record { puts = λ _. ((mine.puts may).0, ap (λ l. l ++ x ∷ []) (mine.puts may).1); takes = λ p. absurd (true≢false (sym p)); told = (put, refl); known = mine.known })
-              (λ j u other e. let f = h.5 j u e in record { puts = λ p. absurd (other ((f.puts p).0 ∙ sym (mine.puts may).0)); takes = f.takes; told = prefix_longer u.told h.2 x f.told; known = f.known }),
+          each_set (Fits h.0 h.1 put h.3) views port w
+              (record {
+                puts = λ _. ((mine.puts may).0, ap (λ l. l ++ x ∷ []) (mine.puts may).1);
+                takes = λ p. absurd (true≢false (sym p));
+                told = (put, refl);
+                known = mine.known;
+              })
+              (λ j u other e. let f = h.5 j u e in
+              record {
+                puts = λ p. absurd (other ((f.puts p).0 ∙ sym (mine.puts may).0));
+                takes = f.takes;
+                told = prefix_longer u.told h.2 x f.told;
+                known = f.known;
+              }),
         ),
         refl,
       )
@@ -116,8 +131,19 @@ module _ {T : Type 0} where
           h.2,
           taken,
           h.4 ∙ sym (append_assoc h.3 (x ∷ []) items),
-          each_set (Fits h.0 h.1 h.2 taken) views port w (record { puts = λ p. absurd (true≢false (sym p)); takes = λ _. ((mine.takes may).0, ap (λ l. l ++ x ∷ []) (mine.takes may).1); told = mine.told; known = (taken, refl) })
-              (λ j u other e. let f = h.5 j u e in record { puts = f.puts; takes = λ p. absurd (other ((f.takes p).0 ∙ sym (mine.takes may).0)); told = f.told; known = prefix_longer u.known h.3 x f.known }),
+          each_set (Fits h.0 h.1 h.2 taken) views port w (record {
+            puts = λ p. absurd (true≢false (sym p));
+            takes = λ _. ((mine.takes may).0, ap (λ l. l ++ x ∷ []) (mine.takes may).1);
+            told = mine.told;
+            known = (taken, refl);
+          })
+              (λ j u other e. let f = h.5 j u e in
+              record {
+                puts = f.puts;
+                takes = λ p. absurd (other ((f.takes p).0 ∙ sym (mine.takes may).0));
+                told = f.told;
+                known = prefix_longer u.known h.3 x f.known;
+              }),
         ),
         (refl, agree v.told (v.taken ++ x ∷ []) h.2 mine.told (items, all)),
       )
@@ -132,7 +158,9 @@ module _ {T : Type 0} where
     h.3,
     h.4,
     λ j u e. ⊎_elim (λ x. each_set (Fits h.0 h.1 h.2 h.3) views port v (h.5 port v at) (λ i y _ there. h.5 i y there) j u x)
-        (λ (is : knowing known ≡ u). subst (Fits h.0 h.1 h.2 h.3 j) is (fits_knowing h.0 h.1 j h.2 h.3 known (begins h.0 h.1 h.2 h.3 (h.5 port v at)))) (at_snoc (set views port v) (knowing known) u j e),
+        (λ (is : knowing known ≡ u). subst (Fits h.0 h.1 h.2 h.3 j) is
+        (fits_knowing h.0 h.1 j h.2 h.3 known (begins h.0 h.1 h.2 h.3 (h.5 port v at))))
+        (at_snoc (set views port v) (knowing known) u j e),
   )
 
   pub admits_neither : (port : ℕ) (v : Side T) → Forks IsOneWay port v v neither
@@ -168,7 +196,8 @@ module _ {T : Type 0} where
   -- one pass takes in what another knew, which then knows nothing
   takes_in : (port : ℕ) (v : Side T) (other : ℕ) (u w : Side T)
       → ((writer reader : ℕ) (put taken : List T) → Fits writer reader put taken port v → Fits writer reader put taken other u
-      → (reader' : ℕ) × Fits writer reader' put taken port w × ((j : ℕ) (y : Side T) → j ≢ other → j ≢ port → Fits writer reader put taken j y → Fits writer reader' put taken j y))
+      → (reader' : ℕ) × Fits writer reader' put taken port w × ((j : ℕ) (y : Side T) → j ≢ other → j ≢ port
+      → Fits writer reader put taken j y → Fits writer reader' put taken j y))
       → Merges IsOneWay port v other u w neither
   takes_in port v other u w step items views h at two at' =
       let vs : List (Side T) = set views port w in

@@ -1,4 +1,4 @@
--- The rule of the queue through which credits go back.
+-- The code's own: the rule of the queue through which credits go back.
 use Rattle.std.specs.Prelude.{◌≡◌, ℕ, true, false, List, [], ◌∷◌, ⊤}
 use mathlib.Core.Option.{some}
 use lib.ListN.{get_elem?}

@@ -14,6 +14,12 @@ module _ {M : Type 0} where
   bytes_of (Bytes bytes ∷ pieces) = bytes ++ bytes_of pieces
   bytes_of (Mark mark ∷ pieces) = bytes_of pieces
 
+  -- the pieces of bytes among some pieces: frames, where each was put as one
+  abbrev pub frames_of : List (Piece M) → List (List ℕ)
+  frames_of [] = []
+  frames_of (Bytes frame ∷ pieces) = frame ∷ frames_of pieces
+  frames_of (Mark mark ∷ pieces) = frames_of pieces
+
   -- the marks among some pieces
   abbrev pub marks_of : List (Piece M) → List M
   marks_of [] = []

@@ -1,4 +1,5 @@
-// What the end that takes sends back, and the rule of the queue that it goes through.
+//! What the end that takes sends back, and the rule of the queue that it goes through.
+
 ghost use Rattle.std.specs.Prelude.{◌≡◌, ◌≤◌, [], length};
 ghost use Rattle.crossbeam_queue.specs.Passes.{view};
 

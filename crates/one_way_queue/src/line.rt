@@ -1,4 +1,5 @@
-// How a queue is opened, and how its ends meet.
+//! How a queue is opened, and how its ends meet.
+
 ghost use Rattle.std.specs.Prelude.{◌≡◌, ◌<◌, ◌≤◌, [], IfOk};
 ghost use mathlib.Core.List.{IsPrefix};
 ghost use Rattle.crossbeam_queue.specs.Passes.{view, IsPassOf};

@@ -1,4 +1,5 @@
-// What each end of a queue knows of it, and the rule between the two.
+//! What each end of a queue knows of it, and the rule between the two.
+
 use crossbeam_queue::protocol::{Join, Lesson, Outcome, Protocol, Split};
 use crossbeam_queue::{Pass, RuledArrayQueue};
 use std::collections::LinkedList;

@@ -1,5 +1,6 @@
 -- What is said of a line, and what stands against it.
-use Rattle.std.proofs.Common.{◌≡◌, ℕ, suc, ◌<◌, ◌≤◌, Bool, true, false, List, [], ◌∷◌, ◌++◌, length, Option, Some, None, Result, Ok, Err, refl, sym, ap, subst, ◌∙◌, arith}
+use Rattle.std.proofs.Common.{◌≡◌, ℕ, suc, ◌<◌, ◌≤◌, Bool, true, false, List, [], ◌∷◌, ◌++◌, length, Option, Some}
+use Rattle.std.proofs.Common.{None, Result, Ok, Err, refl, sym, ap, subst, ◌∙◌, arith}
 use Rattle.std.specs.Prelude.{nat_le, option_and_then, option_map}
 use Rattle.std.specs.Result.{result_map_both, result_ok}
 use Rattle.std.proofs.lemmas.Grind.{common_steps}
@@ -71,7 +72,8 @@ data Ways (T : Table) (names : List (List ℕ)) (ended : Bool) (r : RuleLine) (q
 same_rule : (l : Option Line) (r s : RuleLine) → l ≡ Some (lines.Rule r) → l ≡ Some (lines.Rule s) → s ≡ r
 same_rule l r s a b = cc
 
-ways : (T : Table) (names : List (List ℕ)) (ended : Bool) (line : List ℕ) (r : RuleLine) (q : RuleReason) → line_of line ≡ Some (lines.Rule r) → IsAgainst T names ended line q → Ways T names ended r q
+ways : (T : Table) (names : List (List ℕ)) (ended : Bool) (line : List ℕ) (r : RuleLine) (q : RuleReason)
+    → line_of line ≡ Some (lines.Rule r) → IsAgainst T names ended line q → Ways T names ended r q
 ways T names ended line r q is (out_of_form e w) = let clash : Some (lines.Rule r) ≡ None = sym is ∙ e in absurd cc
 ways T names ended line r q is (too_many s e n w) = by_count n w
 ways T names ended line r q is (of_part s p e a w) = let same = same_rule (line_of line) r s is e in by_part p (subst (λ (t : RuleLine). about_in T t.about ≡ Err p) same a) w
@@ -83,7 +85,9 @@ at_least : (p q : RuleReason) → p ≡ q → order_of p ≡ order_of q
 at_least p q e = ap order_of e
 
 none_earlier : (T : Table) (names : List (List ℕ)) (ended : Bool) (r : RuleLine) (q p : RuleReason) → length names < 64
-    → ((s : PartReason) → about_in T r.about ≡ Err s → order_of q ≤ order_of (reason_of s)) → (is_rule_name r.name ≡ false → order_of q ≤ 2) → (is_among r.name names ≡ true → order_of q ≤ 3) → order_of q ≤ 5
+    → ((s : PartReason) → about_in T r.about ≡ Err s → order_of q ≤ order_of (reason_of s))
+    → (is_rule_name r.name ≡ false → order_of q ≤ 2) → (is_among r.name names ≡ true → order_of q ≤ 3)
+    → order_of q ≤ 5
     → order_of p < order_of q → Ways T names ended r p → ⊥
 none_earlier T names ended r q p few part name known all lt (by_count n w) = absurd (omega arith)
 none_earlier T names ended r q p few part name known all lt (by_part s a w) = absurd (omega (arith, at_least p (reason_of s) w, part s a))
@@ -114,37 +118,53 @@ refused T names line r q false (Err part.Number) n k is em ea en ek e =
     let w : q ≡ reason.Number = cc in let o = at_least q reason.Number w in
     record {
       against = λ ended. of_part r part.Number is ea w;
-      first = λ ended p lt a. none_earlier T names ended r q p (less (length names) em) (λ s d. omega (arith, o, same_part (about_in T r.about) part.Number s ea d)) (λ h. omega (arith, o)) (λ h. omega (arith, o)) (omega (arith, o)) lt (ways T names ended line r p is a);
+      first = λ ended p lt a. none_earlier T names ended r q p (less (length names) em)
+          (λ s d. omega (arith, o, same_part (about_in T r.about) part.Number s ea d)) (λ h. omega (arith, o))
+          (λ h. omega (arith, o)) (omega (arith, o)) lt (ways T names ended line r p is a);
     }
 refused T names line r q false (Err part.Path) false k is em ea en ek e =
     let w : q ≡ reason.Name = cc in let o = at_least q reason.Name w in
     record {
       against = λ ended. no_name r is en w;
-      first = λ ended p lt a. none_earlier T names ended r q p (less (length names) em) (λ s d. omega (arith, o, same_part (about_in T r.about) part.Path s ea d)) (λ h. omega (arith, o)) (λ h. omega (arith, o)) (omega (arith, o)) lt (ways T names ended line r p is a);
+      first = λ ended p lt a. none_earlier T names ended r q p (less (length names) em)
+          (λ s d. omega (arith, o, same_part (about_in T r.about) part.Path s ea d)) (λ h. omega (arith, o))
+          (λ h. omega (arith, o)) (omega (arith, o)) lt (ways T names ended line r p is a);
     }
 refused T names line r q false (Err part.Path) true true is em ea en ek e =
     let w : q ≡ reason.Known = cc in let o = at_least q reason.Known w in
     record {
       against = λ ended. known_name r is ek w;
-      first = λ ended p lt a. none_earlier T names ended r q p (less (length names) em) (λ s d. omega (arith, o, same_part (about_in T r.about) part.Path s ea d)) (λ h. differ (is_rule_name r.name) (order_of q) 2 en h) (λ h. omega (arith, o)) (omega (arith, o)) lt (ways T names ended line r p is a);
+      first = λ ended p lt a. none_earlier T names ended r q p (less (length names) em)
+          (λ s d. omega (arith, o, same_part (about_in T r.about) part.Path s ea d))
+          (λ h. differ (is_rule_name r.name) (order_of q) 2 en h) (λ h. omega (arith, o)) (omega (arith, o)) lt
+          (ways T names ended line r p is a);
     }
 refused T names line r q false (Err part.Path) true false is em ea en ek e =
     let w : q ≡ reason.Path = cc in let o = at_least q reason.Path w in
     record {
       against = λ ended. of_part r part.Path is ea w;
-      first = λ ended p lt a. none_earlier T names ended r q p (less (length names) em) (λ s d. omega (arith, o, same_part (about_in T r.about) part.Path s ea d)) (λ h. differ (is_rule_name r.name) (order_of q) 2 en h) (λ h. differ (is_among r.name names) (order_of q) 3 h ek) (omega (arith, o)) lt (ways T names ended line r p is a);
+      first = λ ended p lt a. none_earlier T names ended r q p (less (length names) em)
+          (λ s d. omega (arith, o, same_part (about_in T r.about) part.Path s ea d))
+          (λ h. differ (is_rule_name r.name) (order_of q) 2 en h)
+          (λ h. differ (is_among r.name names) (order_of q) 3 h ek) (omega (arith, o)) lt
+          (ways T names ended line r p is a);
     }
 refused T names line r q false (Ok about) false k is em ea en ek e =
     let w : q ≡ reason.Name = cc in let o = at_least q reason.Name w in
     record {
       against = λ ended. no_name r is en w;
-      first = λ ended p lt a. none_earlier T names ended r q p (less (length names) em) (λ s d. no_part (about_in T r.about) about s (order_of q) ea d) (λ h. omega (arith, o)) (λ h. omega (arith, o)) (omega (arith, o)) lt (ways T names ended line r p is a);
+      first = λ ended p lt a. none_earlier T names ended r q p (less (length names) em)
+          (λ s d. no_part (about_in T r.about) about s (order_of q) ea d) (λ h. omega (arith, o))
+          (λ h. omega (arith, o)) (omega (arith, o)) lt (ways T names ended line r p is a);
     }
 refused T names line r q false (Ok about) true true is em ea en ek e =
     let w : q ≡ reason.Known = cc in let o = at_least q reason.Known w in
     record {
       against = λ ended. known_name r is ek w;
-      first = λ ended p lt a. none_earlier T names ended r q p (less (length names) em) (λ s d. no_part (about_in T r.about) about s (order_of q) ea d) (λ h. differ (is_rule_name r.name) (order_of q) 2 en h) (λ h. omega (arith, o)) (omega (arith, o)) lt (ways T names ended line r p is a);
+      first = λ ended p lt a. none_earlier T names ended r q p (less (length names) em)
+          (λ s d. no_part (about_in T r.about) about s (order_of q) ea d)
+          (λ h. differ (is_rule_name r.name) (order_of q) 2 en h) (λ h. omega (arith, o)) (omega (arith, o)) lt
+          (ways T names ended line r p is a);
     }
 refused T names line r q false (Ok about) true false is em ea en ek e = absurd cc
 
@@ -160,7 +180,8 @@ rule_value (Ok rule) s e = (rule, refl, cc)
 rule_value (Err p) s e = absurd cc
 
 -- a line that is refused has its first reason
-pub refused_line : (T : Table) (names : List (List ℕ)) (line : List ℕ) (q : RuleReason) (l : Option Line) → line_of line ≡ l → said_in T names l ≡ Err q → IsFirstOf T names line q
+pub refused_line : (T : Table) (names : List (List ℕ)) (line : List ℕ) (q : RuleReason) (l : Option Line)
+    → line_of line ≡ l → said_in T names l ≡ Err q → IsFirstOf T names line q
 refused_line T names line q None is e =
     let w : q ≡ reason.Word = cc in record { against = λ ended. out_of_form is w; first = λ ended p lt a. absurd (omega (arith, at_least q reason.Word w)) }
 refused_line T names line q (Some (lines.Default allow)) is e = absurd cc
@@ -183,7 +204,8 @@ ok_same x a b e same = cc
 inner_rule : (a b : Rule) → said.Rule a ≡ said.Rule b → a ≡ b
 inner_rule a b e = cc
 
-pub taken_line : (T : Table) (names : List (List ℕ)) (line : List ℕ) (rule : Rule) (l : Option Line) → line_of line ≡ l → said_in T names l ≡ Ok (said.Rule rule) → IsTaken T names line rule
+pub taken_line : (T : Table) (names : List (List ℕ)) (line : List ℕ) (rule : Rule) (l : Option Line)
+    → line_of line ≡ l → said_in T names l ≡ Ok (said.Rule rule) → IsTaken T names line rule
 taken_line T names line rule None is e = absurd cc
 taken_line T names line rule (Some (lines.Default allow)) is e = absurd (default_is (Ok (said.Default allow)) allow rule refl e)
 taken_line T names line rule (Some (lines.Rule r)) is e =
@@ -191,10 +213,14 @@ taken_line T names line rule (Some (lines.Rule r)) is e =
     record {
       spelled = r;
       is = is;
-      good = good T names r rule (nat_le 64 (length names)) (about_in T r.about) (is_rule_name r.name) (is_among r.name names) refl refl refl refl (ok_same (judged_rule (nat_le 64 (length names)) (about_in T r.about) (is_rule_name r.name) (is_among r.name names) r) v.0 rule v.1 (inner_rule rule v.0 v.2));
+      good = good T names r rule (nat_le 64 (length names)) (about_in T r.about) (is_rule_name r.name)
+          (is_among r.name names) refl refl refl refl
+          (ok_same (judged_rule (nat_le 64 (length names)) (about_in T r.about) (is_rule_name r.name)
+          (is_among r.name names) r) v.0 rule v.1 (inner_rule rule v.0 v.2));
     }
 
-pub default_line : (T : Table) (names : List (List ℕ)) (line : List ℕ) (allow : Bool) (l : Option Line) → line_of line ≡ l → said_in T names l ≡ Ok (said.Default allow) → line_of line ≡ Some (lines.Default allow)
+pub default_line : (T : Table) (names : List (List ℕ)) (line : List ℕ) (allow : Bool) (l : Option Line)
+    → line_of line ≡ l → said_in T names l ≡ Ok (said.Default allow) → line_of line ≡ Some (lines.Default allow)
 default_line T names line allow None is e = absurd cc
 default_line T names line allow (Some (lines.Default a)) is e = let same : a ≡ allow = cc in is ∙ ap (λ b. Some (lines.Default b)) same
 default_line T names line allow (Some (lines.Rule r)) is e =
@@ -202,14 +228,17 @@ default_line T names line allow (Some (lines.Rule r)) is e =
     let clash : said.Default allow ≡ said.Rule v.0 = v.2 in absurd cc
 
 -- against a line that says something only a default before it stands
-good_only : (T : Table) (names : List (List ℕ)) (ended : Bool) (r : RuleLine) (rule : Rule) (q : RuleReason) → IsGood T names r rule → Ways T names ended r q → (ended ≡ true) × (q ≡ reason.Default)
+good_only : (T : Table) (names : List (List ℕ)) (ended : Bool) (r : RuleLine) (rule : Rule) (q : RuleReason)
+    → IsGood T names r rule → Ways T names ended r q → (ended ≡ true) × (q ≡ reason.Default)
 good_only T names ended r rule q g (by_count n w) = absurd (omega (arith, g.few))
 good_only T names ended r rule q g (by_part p a w) = let clash : Ok g.about ≡ Err p = sym g.resolved ∙ a in absurd cc
 good_only T names ended r rule q g (by_name a w) = let clash : true ≡ false = sym g.name ∙ a in absurd cc
 good_only T names ended r rule q g (by_known a w) = let clash : true ≡ false = sym a ∙ g.fresh in absurd cc
 good_only T names ended r rule q g (by_default a w) = (a, w)
 
-default_only : (T : Table) (names : List (List ℕ)) (ended : Bool) (line : List ℕ) (allow : Bool) (q : RuleReason) → line_of line ≡ Some (lines.Default allow) → IsAgainst T names ended line q → (ended ≡ true) × (q ≡ reason.Default)
+default_only : (T : Table) (names : List (List ℕ)) (ended : Bool) (line : List ℕ) (allow : Bool) (q : RuleReason)
+    → line_of line ≡ Some (lines.Default allow) → IsAgainst T names ended line q
+    → (ended ≡ true) × (q ≡ reason.Default)
 default_only T names ended line allow q is (out_of_form e w) = let clash : Some (lines.Default allow) ≡ None = sym is ∙ e in absurd cc
 default_only T names ended line allow q is (too_many r e n w) = let clash : lines.Default allow ≡ lines.Rule r = cc in absurd cc
 default_only T names ended line allow q is (of_part r p e a w) = let clash : lines.Default allow ≡ lines.Rule r = cc in absurd cc
@@ -217,7 +246,9 @@ default_only T names ended line allow q is (no_name r e a w) = let clash : lines
 default_only T names ended line allow q is (known_name r e a w) = let clash : lines.Default allow ≡ lines.Rule r = cc in absurd cc
 default_only T names ended line allow q is (behind_default l e a w) = (a, w)
 
-pub only_behind : (T : Table) (names : List (List ℕ)) (ended : Bool) (line : List ℕ) (s : Said) (q : RuleReason) (l : Option Line) → line_of line ≡ l → said_in T names l ≡ Ok s → IsAgainst T names ended line q → (ended ≡ true) × (q ≡ reason.Default)
+pub only_behind : (T : Table) (names : List (List ℕ)) (ended : Bool) (line : List ℕ) (s : Said) (q : RuleReason)
+    (l : Option Line) → line_of line ≡ l → said_in T names l ≡ Ok s → IsAgainst T names ended line q
+    → (ended ≡ true) × (q ≡ reason.Default)
 only_behind T names ended line s q None is e a = absurd cc
 only_behind T names ended line s q (Some (lines.Default allow)) is e a = default_only T names ended line allow q is a
 only_behind T names ended line s q (Some (lines.Rule r)) is e a =
@@ -265,7 +296,8 @@ length-said T [] (r ∷ rs) s = absurd s
 length-said T (l ∷ ls) [] s = absurd s
 length-said T (l ∷ ls) (r ∷ rs) s = ap (λ n. suc n) (length-said T ls rs s.1)
 
-pub said-push : (T : Table) (ls : List (List ℕ)) (rs : List Rule) (l : List ℕ) (r : Rule) → SayEach (said_rule T) ls rs → said_rule T l ≡ Some r → SayEach (said_rule T) (ls ++ l ∷ []) (rs ++ r ∷ [])
+pub said-push : (T : Table) (ls : List (List ℕ)) (rs : List Rule) (l : List ℕ) (r : Rule)
+    → SayEach (said_rule T) ls rs → said_rule T l ≡ Some r → SayEach (said_rule T) (ls ++ l ∷ []) (rs ++ r ∷ [])
 said-push T [] [] l r s e = (e, tt)
 said-push T [] (q ∷ rs) l r s e = absurd s
 said-push T (k ∷ ls) [] l r s e = absurd s
@@ -277,7 +309,8 @@ said-same T [] [] (q ∷ qs) s t = absurd t
 said-same T [] (r ∷ rs) qs s t = absurd s
 said-same T (l ∷ ls) [] qs s t = absurd s
 said-same T (l ∷ ls) (r ∷ rs) [] s t = absurd t
-said-same T (l ∷ ls) (r ∷ rs) (q ∷ qs) s t = let here : r ≡ q = one_value (said_rule T l) r q s.0 t.0 in ap (λ (x : Rule). x ∷ rs) here ∙ ap (λ (xs : List Rule). q ∷ xs) (said-same T ls rs qs s.1 t.1)
+said-same T (l ∷ ls) (r ∷ rs) (q ∷ qs) s t = let here : r ≡ q = one_value (said_rule T l) r q s.0 t.0 in
+    ap (λ (x : Rule). x ∷ rs) here ∙ ap (λ (xs : List Rule). q ∷ xs) (said-same T ls rs qs s.1 t.1)
   where
     one_value : (o : Option Rule) (a b : Rule) → o ≡ Some a → o ≡ Some b → a ≡ b
     one_value o a b e d = cc

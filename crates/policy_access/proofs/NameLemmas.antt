@@ -47,22 +47,36 @@ swapped true false c = refl
 swapped false true c = refl
 swapped false false c = refl
 
-pub is_in-insert : {X : Type 0} (name : List ℕ) (es : List (Vec ℕ × X)) (key : Vec ℕ) (v : X) → is_in name (insert_entry by_items es key v) ≡ (bytes_eq name key.items || is_in name es)
+pub is_in-insert : {X : Type 0} (name : List ℕ) (es : List (Vec ℕ × X)) (key : Vec ℕ) (v : X)
+    → is_in name (insert_entry by_items es key v) ≡ (bytes_eq name key.items || is_in name es)
 is_in-insert name [] key v = picked (is_eq (slice_cmp nat_cmp name key.items)) v None ∙ ap (λ b. b || false) (is_eq-slice_cmp name key.items)
 is_in-insert {X} name (e ∷ es) key v =
     let here : is_in name (e ∷ es) ≡ (bytes_eq name e.0.items || is_in name es) =
-    picked (is_eq (slice_cmp nat_cmp name e.0.items)) e.1 (lookup (is_at (λ (k : Vec ℕ). slice_cmp nat_cmp name k.items)) es) ∙ ap (λ b. b || is_in name es) (is_eq-slice_cmp name e.0.items) in
-    elim (by_items key e.0) as (λ (o : Ordering). by_items key e.0 ≡ o → is_in name (match_ordering o ((key, v) ∷ e ∷ es) ((e.0, v) ∷ es) (e ∷ insert_entry by_items es key v)) ≡ (bytes_eq name key.items || is_in name (e ∷ es))) [
-      | Less ↦ λ is. picked (is_eq (slice_cmp nat_cmp name key.items)) v (lookup (is_at (λ (k : Vec ℕ). slice_cmp nat_cmp name k.items)) (e ∷ es)) ∙ ap (λ b. b || is_in name (e ∷ es)) (is_eq-slice_cmp name key.items)
+    picked (is_eq (slice_cmp nat_cmp name e.0.items)) e.1
+    (lookup (is_at (λ (k : Vec ℕ). slice_cmp nat_cmp name k.items)) es) ∙ ap (λ b. b || is_in name es)
+    (is_eq-slice_cmp name e.0.items) in
+    elim (by_items key e.0) as (λ (o : Ordering). by_items key e.0 ≡ o
+    → is_in name (match_ordering o ((key, v) ∷ e ∷ es) ((e.0, v) ∷ es) (e ∷ insert_entry by_items es key v))
+    ≡ (bytes_eq name key.items || is_in name (e ∷ es))) [
+      | Less ↦ λ is. picked (is_eq (slice_cmp nat_cmp name key.items)) v
+          (lookup (is_at (λ (k : Vec ℕ). slice_cmp nat_cmp name k.items)) (e ∷ es))
+          ∙ ap (λ b. b || is_in name (e ∷ es)) (is_eq-slice_cmp name key.items)
       | Equal ↦ λ is.
           let same : key.items ≡ e.0.items = same_bytes key.items e.0.items (sym (is_eq-slice_cmp key.items e.0.items) ∙ ap is_eq is) in
           let first : is_in name ((e.0, v) ∷ es) ≡ (bytes_eq name e.0.items || is_in name es) =
-          picked (is_eq (slice_cmp nat_cmp name e.0.items)) v (lookup (is_at (λ (k : Vec ℕ). slice_cmp nat_cmp name k.items)) es) ∙ ap (λ b. b || is_in name es) (is_eq-slice_cmp name e.0.items) in
-          first ∙ again (bytes_eq name e.0.items) (is_in name es) ∙ ap (λ b. bytes_eq name e.0.items || b) (sym here) ∙ ap (λ (bs : List ℕ). bytes_eq name bs || is_in name (e ∷ es)) (sym same)
+          picked (is_eq (slice_cmp nat_cmp name e.0.items)) v
+          (lookup (is_at (λ (k : Vec ℕ). slice_cmp nat_cmp name k.items)) es) ∙ ap (λ b. b || is_in name es)
+          (is_eq-slice_cmp name e.0.items) in
+          first ∙ again (bytes_eq name e.0.items) (is_in name es) ∙ ap (λ b. bytes_eq name e.0.items || b) (sym here)
+          ∙ ap (λ (bs : List ℕ). bytes_eq name bs || is_in name (e ∷ es)) (sym same)
       | Greater ↦ λ is.
           let rest : is_in name (e ∷ insert_entry by_items es key v) ≡ (bytes_eq name e.0.items || is_in name (insert_entry by_items es key v)) =
-          picked (is_eq (slice_cmp nat_cmp name e.0.items)) e.1 (lookup (is_at (λ (k : Vec ℕ). slice_cmp nat_cmp name k.items)) (insert_entry by_items es key v)) ∙ ap (λ b. b || is_in name (insert_entry by_items es key v)) (is_eq-slice_cmp name e.0.items) in
-          rest ∙ ap (λ b. bytes_eq name e.0.items || b) (is_in-insert name es key v) ∙ swapped (bytes_eq name e.0.items) (bytes_eq name key.items) (is_in name es) ∙ ap (λ b. bytes_eq name key.items || b) (sym here)
+          picked (is_eq (slice_cmp nat_cmp name e.0.items)) e.1
+          (lookup (is_at (λ (k : Vec ℕ). slice_cmp nat_cmp name k.items)) (insert_entry by_items es key v))
+          ∙ ap (λ b. b || is_in name (insert_entry by_items es key v)) (is_eq-slice_cmp name e.0.items) in
+          rest ∙ ap (λ b. bytes_eq name e.0.items || b) (is_in-insert name es key v)
+          ∙ swapped (bytes_eq name e.0.items) (bytes_eq name key.items) (is_in name es)
+          ∙ ap (λ b. bytes_eq name key.items || b) (sym here)
     ] refl
 
 pub is_among-push : (name : List ℕ) (names : List (List ℕ)) (last : List ℕ) → is_among name (names ++ last ∷ []) ≡ (bytes_eq name last || is_among name names)
@@ -70,7 +84,9 @@ is_among-push name [] last = refl
 is_among-push name (n ∷ ns) last = ap (λ b. bytes_eq name n || b) (is_among-push name ns last) ∙ swapped (bytes_eq name n) (bytes_eq name last) (is_among name ns)
 
 -- one more name
-pub holds-push : (old new : SeenNames) (names : List (List ℕ)) (name : List ℕ) → ((q : List ℕ) → has_name new q ≡ (bytes_eq q name || has_name old q)) → Holds old names → Holds new (names ++ name ∷ [])
+pub holds-push : (old new : SeenNames) (names : List (List ℕ)) (name : List ℕ)
+    → ((q : List ℕ) → has_name new q ≡ (bytes_eq q name || has_name old q)) → Holds old names
+    → Holds new (names ++ name ∷ [])
 holds-push old new names name added h = record {
   found = λ q. added q ∙ ap (λ b. bytes_eq q name || b) (h.found q) ∙ sym (is_among-push q names name);
 }

@@ -1,5 +1,7 @@
 -- Lines in front of a place, and one more.
-use Rattle.std.proofs.Common.{◌≡◌, ℕ, zero, suc, ◌+◌, ◌-◌, ◌<◌, ◌≤◌, ◌||◌, Bool, true, false, List, [], ◌∷◌, ◌++◌, length, get_or, take, Option, Some, None, Result, Ok, Err, refl, sym, ap, subst, ◌∙◌, arith, inl, inr, length-append}
+use Rattle.std.proofs.Common.{◌≡◌, ℕ, zero, suc, ◌+◌, ◌-◌, ◌<◌, ◌≤◌, ◌||◌, Bool, true, false, List, [], ◌∷◌, ◌++◌}
+use Rattle.std.proofs.Common.{length, get_or, take, Option, Some, None, Result, Ok, Err, refl, sym, ap, subst, ◌∙◌}
+use Rattle.std.proofs.Common.{arith, inl, inr, length-append}
 use Rattle.std.specs.Prelude.{slice_get, Contains, IsTrue}
 use Rattle.std.proofs.lemmas.List.{append-nil, take_more, length-map, map_push, take_all}
 use Rattle.std.proofs.lemmas.List.Elements.{All-nil, All-push, Contains-push_cases, filter_map-append}
@@ -99,11 +101,14 @@ read-push T lines i rules line rule read at e =
       within = omega (arith, slice_get_within lines i line at);
       count = omega (arith, length-append rules (rule ∷ []), read.count);
       few = omega (arith, taken.good.few, length-map rules (λ (r : Rule). r.name), read.count);
-      said = subst (λ (ls : List (List ℕ)). SayEach (said_rule T) ls (rules ++ rule ∷ [])) (sym next) (said-push T (take i lines) rules line rule read.said (taken_says T (names_in rules) line rule taken));
+      said = subst (λ (ls : List (List ℕ)). SayEach (said_rule T) ls (rules ++ rule ∷ [])) (sym next)
+          (said-push T (take i lines) rules line rule read.said (taken_says T (names_in rules) line rule taken));
       named = All-push (λ (r : Rule). IsTrue (is_rule_name r.name)) rules rule read.named good_name;
-      distinct = subst (λ (ns : List (List ℕ)). AreDistinct ns) (sym (map_push (λ (r : Rule). r.name) rules rule)) (AreDistinct-push (names_in rules) rule.name read.distinct (absent (names_in rules) rule.name fresh));
+      distinct = subst (λ (ns : List (List ℕ)). AreDistinct ns) (sym (map_push (λ (r : Rule). r.name) rules rule))
+          (AreDistinct-push (names_in rules) rule.name read.distinct (absent (names_in rules) rule.name fresh));
       clean = λ j q lt. below_or_at i (λ k. IsAgainstAt T lines k q → ⊥) (λ k less. read.clean k q less)
-          (λ a. let only = only_behind T (names_in rules) false line (said.Rule rule) q (line_of line) refl e (here-to T lines i rules line q read at a) in let clash : false ≡ true = only.0 in absurd cc) j lt;
+          (λ a. let only = only_behind T (names_in rules) false line (said.Rule rule) q (line_of line) refl e
+          (here-to T lines i rules line q read at a) in let clash : false ≡ true = only.0 in absurd cc) j lt;
     }
 
 -- ---- the first fault, and the end
@@ -126,7 +131,8 @@ names-behind : (T : Table) (lines : List (List ℕ)) (i : ℕ) (rules : List Rul
 names-behind T lines i rules line allow read at is =
     let unnamed : names_of (line ∷ []) ≡ [] = rw is refl in
     rw (take_next lines i line at)
-    (filter_map-append named (take i lines) (line ∷ []) ∙ ap (λ (ns : List (List ℕ)). names_of (take i lines) ++ ns) unnamed ∙ append-nil (names_of (take i lines)) ∙ names_of-said T (take i lines) rules read.said)
+    (filter_map-append named (take i lines) (line ∷ []) ∙ ap (λ (ns : List (List ℕ)). names_of (take i lines) ++ ns)
+    unnamed ∙ append-nil (names_of (take i lines)) ∙ names_of-said T (take i lines) rules read.said)
 
 pub default-behind : (T : Table) (lines : List (List ℕ)) (i : ℕ) (line : List ℕ) (allow : Bool) → slice_get lines i ≡ Some line
     → line_of line ≡ Some (forms.Default allow) → has_default (take (i + 1) lines) ≡ true
@@ -168,7 +174,9 @@ fault-behind T lines i rules line next allow read at e at_next =
       here = subst (λ (k : ℕ). IsAgainstAt T lines k q) same (at_line next at_next (rw (names, ended) f.0));
       first_reason = λ p lt a. next_first p lt (subst (λ (k : ℕ). IsAgainstAt T lines k p) (sym same) a);
       none_before = λ j p lt. below_or_at i (λ k. IsAgainstAt T lines k p → ⊥) (λ k less. read.clean k p less)
-          (λ a. let only = only_behind T (names_in rules) false line (said.Default allow) p (line_of line) refl e (here-to T lines i rules line p read at a) in let clash : false ≡ true = only.0 in absurd cc) j (omega arith);
+          (λ a. let only = only_behind T (names_in rules) false line (said.Default allow) p (line_of line) refl e
+          (here-to T lines i rules line p read at a) in let clash : false ≡ true = only.0 in
+          absurd cc) j (omega arith);
     }
   where
     next_first : (p : RuleReason) → order_of p < order_of (reason_behind (said_in T (names_in rules) (line_of next))) → IsAgainstAt T lines (i + 1) p → ⊥
@@ -223,37 +231,46 @@ read-nothing T lines = record {
 abbrev policy_with : List Rule → Bool → AccessPolicy
 policy_with rules allow = record { rules = rules; allow = allow }
 
-pub text-at : (T : Table) (lines : List (List ℕ)) (i : ℕ) (rules : List Rule) (allow : Bool) (policy : AccessPolicy) → AreRead T lines i rules → DefaultAt T lines i rules allow → length lines ≤ i + 1
+pub text-at : (T : Table) (lines : List (List ℕ)) (i : ℕ) (rules : List Rule) (allow : Bool) (policy : AccessPolicy)
+    → AreRead T lines i rules → DefaultAt T lines i rules allow → length lines ≤ i + 1
     → policy.rules ≡ rules → policy.allow ≡ allow → IsTextOf T lines policy
 text-at T lines i rules allow policy read d last er ea =
     subst (λ (p : AccessPolicy). IsTextOf T lines p) (ap (λ (rs : List Rule). policy_with rs allow) (sym er) ∙ ap (λ (a : Bool). policy_with policy.rules a) (sym ea))
     (text-end T lines i rules d.0 allow read d.1 d.2 last)
 
-pub fault-next : (T : Table) (lines : List (List ℕ)) (i : ℕ) (rules : List Rule) (allow : Bool) (next : List ℕ) (q : RuleReason) (e : RuleFault) → AreRead T lines i rules → DefaultAt T lines i rules allow
-    → i + 1 < length lines → next ≡ get_or lines (i + 1) next → q ≡ reason_behind (said_in T (names_in rules) (line_of next)) → e ≡ fault.At (i + 1 + 1) q → IsFaultOf T lines e
+pub fault-next : (T : Table) (lines : List (List ℕ)) (i : ℕ) (rules : List Rule) (allow : Bool) (next : List ℕ)
+    (q : RuleReason) (e : RuleFault) → AreRead T lines i rules → DefaultAt T lines i rules allow
+    → i + 1 < length lines → next ≡ get_or lines (i + 1) next
+    → q ≡ reason_behind (said_in T (names_in rules) (line_of next)) → e ≡ fault.At (i + 1 + 1) q
+    → IsFaultOf T lines e
 fault-next T lines i rules allow next q e read d within at is stands =
     let two : i + 2 ≡ i + 1 + 1 = omega arith in
     rw (stands, is) (subst (λ (n : ℕ). IsFirstFault T lines n (reason_behind (said_in T (names_in rules) (line_of next)))) two
     (fault-behind T lines i rules d.0 next allow read d.1 d.2 (slice_get_read lines (length lines) (i + 1) next refl within at)))
 
-pub fault-first : (T : Table) (lines : List (List ℕ)) (i : ℕ) (rules : List Rule) (line : List ℕ) (q : RuleReason) (e : RuleFault) → AreRead T lines i rules → i < length lines → line ≡ get_or lines i line
+pub fault-first : (T : Table) (lines : List (List ℕ)) (i : ℕ) (rules : List Rule) (line : List ℕ) (q : RuleReason)
+    (e : RuleFault) → AreRead T lines i rules → i < length lines → line ≡ get_or lines i line
     → said_in T (names_in rules) (line_of line) ≡ Err q → e ≡ fault.At (i + 1) q → IsFaultOf T lines e
 fault-first T lines i rules line q e read within at is stands =
     rw stands (fault-here T lines i rules line q read (slice_get_read lines (length lines) i line refl within at) is)
 
-pub fault-last : (T : Table) (lines : List (List ℕ)) (rules : List Rule) (i : ℕ) (e : RuleFault) → AreRead T lines i rules → i ≡ length lines → e ≡ fault.At (length lines + 1) reason.Default → IsFaultOf T lines e
+pub fault-last : (T : Table) (lines : List (List ℕ)) (rules : List Rule) (i : ℕ) (e : RuleFault)
+    → AreRead T lines i rules → i ≡ length lines → e ≡ fault.At (length lines + 1) reason.Default
+    → IsFaultOf T lines e
 fault-last T lines rules i e read all stands = rw stands (fault-end T lines rules (subst (λ (k : ℕ). AreRead T lines k rules) all read))
 
 pub default-at : (T : Table) (lines : List (List ℕ)) (i : ℕ) (rules : List Rule) (line : List ℕ) (allow : Bool) → i < length lines → line ≡ get_or lines i line
     → said_in T (names_in rules) (line_of line) ≡ Ok (said.Default allow) → DefaultAt T lines i rules allow
 default-at T lines i rules line allow within at is = (line, slice_get_read lines (length lines) i line refl within at, is)
 
-pub read-next : (T : Table) (lines : List (List ℕ)) (i : ℕ) (rules more : List Rule) (line : List ℕ) (rule : Rule) → AreRead T lines i rules → i < length lines → line ≡ get_or lines i line
+pub read-next : (T : Table) (lines : List (List ℕ)) (i : ℕ) (rules more : List Rule) (line : List ℕ) (rule : Rule)
+    → AreRead T lines i rules → i < length lines → line ≡ get_or lines i line
     → said_in T (names_in rules) (line_of line) ≡ Ok (said.Rule rule) → more ≡ rules ++ rule ∷ [] → AreRead T lines (i + 1) more
 read-next T lines i rules more line rule read within at is pushed =
     subst (λ (rs : List Rule). AreRead T lines (i + 1) rs) (sym pushed) (read-push T lines i rules line rule read (slice_get_read lines (length lines) i line refl within at) is)
 
-pub names-next : (rules more : List Rule) (rule : Rule) (names : SeenNames) → more ≡ rules ++ rule ∷ [] → Holds names (names_in rules ++ rule.name ∷ []) → Holds names (names_in more)
+pub names-next : (rules more : List Rule) (rule : Rule) (names : SeenNames) → more ≡ rules ++ rule ∷ []
+    → Holds names (names_in rules ++ rule.name ∷ []) → Holds names (names_in more)
 names-next rules more rule names pushed h = rw (pushed, map_push (λ (r : Rule). r.name) rules rule) h
 
 abbrev pub says_so : Said → Result Said RuleReason

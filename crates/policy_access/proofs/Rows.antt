@@ -33,7 +33,15 @@ minus n = 2 ^ 64 - n
 -- ---- verdicts
 
 abbrev pub no150 : Rule
-no150 = record { name = codes "no150"; allow = false; about = OfCalls (record { method = 0; sort = Request; test = Some (record { path = to Uint64 Plain; condition = Compares Equal (Number 150) }) }) }
+no150 = record {
+  name = codes "no150";
+  allow = false;
+  about = OfCalls (record {
+    method = 0;
+    sort = Request;
+    test = Some (record { path = to Uint64 Plain; condition = Compares Equal (Number 150) });
+  });
+}
 
 abbrev pub acl : AccessPolicy
 acl = record { rules = no150 ∷ []; allow = true }

@@ -1,5 +1,7 @@
 -- The text of a policy has no fault, and one policy; lines have one first fault.
-use Rattle.std.proofs.Common.{◌≡◌, ℕ, zero, suc, ◌+◌, ◌-◌, ◌<◌, ◌≤◌, ◌||◌, ◌==◌, ◌⊎◌, Bool, true, false, List, [], ◌∷◌, ◌++◌, length, take, drop, Option, Some, Result, Ok, Err, All, refl, sym, ap, subst, ◌∙◌, arith, inl, inr, length-append, add-one, append_assoc}
+use Rattle.std.proofs.Common.{◌≡◌, ℕ, zero, suc, ◌+◌, ◌-◌, ◌<◌, ◌≤◌, ◌||◌, ◌==◌, ◌⊎◌, Bool, true, false, List, []}
+use Rattle.std.proofs.Common.{◌∷◌, ◌++◌, length, take, drop, Option, Some, Result, Ok, Err, All, refl, sym, ap, subst}
+use Rattle.std.proofs.Common.{◌∙◌, arith, inl, inr, length-append, add-one, append_assoc}
 use Rattle.std.specs.Prelude.{slice_get, Contains, IsTrue, nat_le, if◌then◌else◌, IfOk, IfErr, MatchResult}
 use Rattle.std.specs.Result.{result_map_both}
 use Rattle.std.proofs.lemmas.List.{append-nil, length-map, map_push, take_all}
@@ -91,7 +93,8 @@ pub one-policy : (T : Table) (lines : List (List ℕ)) (p q : AccessPolicy) → 
 one-policy T lines p q t u =
     let cut = snoc_same t.rule_lines u.rule_lines t.default_line u.default_line (sym t.whole ∙ u.whole) in
     let rules : p.rules ≡ q.rules = said-same T t.rule_lines p.rules q.rules t.rules (subst (λ (ls : List (List ℕ)). SayEach (said_rule T) ls q.rules) (sym cut.0) u.rules) in
-    let allow : p.allow ≡ q.allow = same_default (line_of t.default_line) p.allow q.allow t.default (subst (λ (l : List ℕ). line_of l ≡ Some (forms.Default q.allow)) (sym cut.1) u.default) in
+    let allow : p.allow ≡ q.allow = same_default (line_of t.default_line) p.allow q.allow t.default
+    (subst (λ (l : List ℕ). line_of l ≡ Some (forms.Default q.allow)) (sym cut.1) u.default) in
     ap (λ (rs : List Rule). policy_with rs p.allow) rules ∙ ap (λ (a : Bool). policy_with q.rules a) allow
 
 -- ---- a text has no fault
@@ -123,7 +126,8 @@ judged : (r : RuleLine) (many : Bool) (a : Result About PartReason) (about : Abo
 judged r many a about name known em ea en ek = rw (em, ea, en, ek) refl
 
 -- a line that says a rule which is fresh is taken
-pub said-ok : (T : Table) (names : List (List ℕ)) (line : List ℕ) (rule : Rule) → said_rule T line ≡ Some rule → length names < 64 → is_rule_name rule.name ≡ true → is_among rule.name names ≡ false
+pub said-ok : (T : Table) (names : List (List ℕ)) (line : List ℕ) (rule : Rule) → said_rule T line ≡ Some rule
+    → length names < 64 → is_rule_name rule.name ≡ true → is_among rule.name names ≡ false
     → said_in T names (line_of line) ≡ Ok (saids.Rule rule)
 said-ok T names line rule e few good fresh =
     let s = says T line rule (line_of line) refl e in
@@ -145,7 +149,8 @@ next_drop [] (suc i) x ys e = absurd cc
 next_drop (a ∷ xs) zero x ys e = cc
 next_drop (a ∷ xs) (suc i) x ys e = next_drop xs i x ys e
 
-rest-read : (T : Table) (lines rest : List (List ℕ)) (last : List ℕ) (i : ℕ) (front rs : List Rule) → AreRead T lines i front → drop i lines ≡ rest ++ last ∷ [] → SayEach (said_rule T) rest rs → i + length rs ≤ 64
+rest-read : (T : Table) (lines rest : List (List ℕ)) (last : List ℕ) (i : ℕ) (front rs : List Rule)
+    → AreRead T lines i front → drop i lines ≡ rest ++ last ∷ [] → SayEach (said_rule T) rest rs → i + length rs ≤ 64
     → All (λ (r : Rule). IsTrue (is_rule_name r.name)) rs → AreDistinct (names_in front ++ names_in rs) → AreRead T lines (i + length rest) (front ++ rs)
 rest-read T lines [] last i front [] read here said few good fresh =
     let z : i ≡ i + 0 = omega arith in
@@ -156,11 +161,16 @@ rest-read T lines (line ∷ rest) last i front (r ∷ rs) read here said few goo
     let at = at_drop lines i line (rest ++ last ∷ []) here in
     let count : length (names_in front) ≡ i = length-map front (λ (x : Rule). x.name) ∙ read.count in
     let small : length (names_in front) < 64 = omega (arith, count) in
-    let taken = said-ok T (names_in front) line r said.0 small (All-head (λ (x : Rule). IsTrue (is_rule_name x.name)) r rs good) (among-distinct (names_in front) (names_in rs) r.name fresh) in
+    let taken = said-ok T (names_in front) line r said.0 small
+    (All-head (λ (x : Rule). IsTrue (is_rule_name x.name)) r rs good)
+    (among-distinct (names_in front) (names_in rs) r.name fresh) in
     let next = read-push T lines i front line r read at taken in
     let drop_next : drop (i + 1) lines ≡ rest ++ last ∷ [] = rw add-one (next_drop lines i line (rest ++ last ∷ []) here) in
-    let names : names_in (front ++ r ∷ []) ++ names_in rs ≡ names_in front ++ r.name ∷ names_in rs = rw (map_push (λ (x : Rule). x.name) front r) (append_assoc (names_in front) (r.name ∷ []) (names_in rs)) in
-    let all = rest-read T lines rest last (i + 1) (front ++ r ∷ []) rs next drop_next said.1 (omega arith) (All-tail (λ (x : Rule). IsTrue (is_rule_name x.name)) r rs good) (subst (λ (ns : List (List ℕ)). AreDistinct ns) (sym names) fresh) in
+    let names : names_in (front ++ r ∷ []) ++ names_in rs ≡ names_in front ++ r.name ∷ names_in rs =
+    rw (map_push (λ (x : Rule). x.name) front r) (append_assoc (names_in front) (r.name ∷ []) (names_in rs)) in
+    let all = rest-read T lines rest last (i + 1) (front ++ r ∷ []) rs next drop_next said.1 (omega arith)
+    (All-tail (λ (x : Rule). IsTrue (is_rule_name x.name)) r rs good)
+    (subst (λ (ns : List (List ℕ)). AreDistinct ns) (sym names) fresh) in
     let index : i + 1 + length rest ≡ i + suc (length rest) = omega arith in
     subst (λ (k : ℕ). AreRead T lines k (front ++ r ∷ rs)) index (subst (λ (xs : List Rule). AreRead T lines (i + 1 + length rest) xs) (append_assoc front (r ∷ []) rs) all)
 
@@ -172,12 +182,17 @@ default_ok : (T : Table) (names : List (List ℕ)) (l : Option Line) (allow : Bo
 default_ok T names l allow e = rw e refl
 
 -- lines that were read up to a default at their end have no fault
-clean : (T : Table) (lines : List (List ℕ)) (n : ℕ) (rules : List Rule) (last : List ℕ) (allow : Bool) → AreRead T lines n rules → slice_get lines n ≡ Some last → length lines ≡ n + 1
+clean : (T : Table) (lines : List (List ℕ)) (n : ℕ) (rules : List Rule) (last : List ℕ) (allow : Bool)
+    → AreRead T lines n rules → slice_get lines n ≡ Some last → length lines ≡ n + 1
     → line_of last ≡ Some (forms.Default allow) → (j : ℕ) (q : RuleReason) → IsAgainstAt T lines j q → ⊥
 clean T lines n rules last allow read at long is j q a =
     elim (cases_lt j n) [
       | inl less ↦ read.clean j q less a
-      | inr more ↦ elim (cases_lt n j) [ inl above ↦ beyond above a | inr below ↦ let same : j ≡ n = omega arith in at_default (subst (λ (k : ℕ). IsAgainstAt T lines k q) same a) ]
+      | inr more ↦ elim (cases_lt n j) [
+        | inl above ↦ beyond above a
+        | inr below ↦ let same : j ≡ n = omega arith in
+            at_default (subst (λ (k : ℕ). IsAgainstAt T lines k q) same a)
+      ]
     ]
   where
     at_default : IsAgainstAt T lines n q → ⊥
@@ -210,7 +225,8 @@ text-or-fault T lines policy line q t f = no-fault T lines policy t (line - 1) q
 
 -- ---- what is read of a text
 
-pub only-it : (T : Table) (lines : List (List ℕ)) (r : Result AccessPolicy RuleFault) (policy : AccessPolicy) → IfOk r (λ p. IsTextOf T lines p) → IfErr r (λ e. IsFaultOf T lines e) → IsTextOf T lines policy
+pub only-it : (T : Table) (lines : List (List ℕ)) (r : Result AccessPolicy RuleFault) (policy : AccessPolicy)
+    → IfOk r (λ p. IsTextOf T lines p) → IfErr r (λ e. IsFaultOf T lines e) → IsTextOf T lines policy
     → MatchResult r (λ p. p ≡ policy) (λ e. e ≡ fault.Memory)
 only-it T lines (Ok p) policy text _ t = one-policy T lines p policy text t
 only-it T lines (Err (fault.At line q)) policy text f t = absurd (text-or-fault T lines policy line q t f)
@@ -245,7 +261,8 @@ rest-either T lines (line ∷ rest) i front read here =
           fault-behind T lines i front line other allow read at is (at_drop lines (i + 1) other more (rw add-one (next_drop lines i line rest here) ∙ some)),
         )
 
-    go : ((rule : Rule) → AreRead T lines (i + 1) (front ++ rule ∷ []) → TextOrFault T lines) → (r : Result Said RuleReason) → said_in T (names_in front) (line_of line) ≡ r → TextOrFault T lines
+    go : ((rule : Rule) → AreRead T lines (i + 1) (front ++ rule ∷ []) → TextOrFault T lines)
+        → (r : Result Said RuleReason) → said_in T (names_in front) (line_of line) ≡ r → TextOrFault T lines
     go on (Err q) is = inr (i + 1, q, fault-here T lines i front line q read at is)
     go on (Ok (saids.Default allow)) is = behind allow rest refl is
     go on (Ok (saids.Rule rule)) is = on rule (read-push T lines i front line rule read at is)

@@ -12,7 +12,9 @@ has_part : (sep : ℕ) (text : List ℕ) → (part : List ℕ) × (parts : List 
 has_part sep [] = ([], [], refl)
 has_part sep (x ∷ xs) =
     let rest = has_part sep xs in
-    elim (x == sep) as (λ (b : Bool). (part : List ℕ) × (parts : List (List ℕ)) × (cond b ([] ∷ slice_split (λ c. c == sep) xs) (onto_first x (slice_split (λ c. c == sep) xs)) ≡ part ∷ parts)) [
+    elim (x == sep) as (λ (b : Bool). (part : List ℕ) × (parts : List (List ℕ))
+    × (cond b ([] ∷ slice_split (λ c. c == sep) xs) (onto_first x (slice_split (λ c. c == sep) xs)) ≡ part
+    ∷ parts)) [
       | true ↦ ([], slice_split (λ c. c == sep) xs, refl)
       | false ↦ (x ∷ rest.0, rest.1, ap (onto_first x) rest.2)
     ]
@@ -46,7 +48,9 @@ pub no_text_before : (word before : List ℕ) (parts : List (List ℕ)) → slic
 no_text_before word [] parts is some = absurd cc
 no_text_before word (c ∷ cs) parts is some = ap quoted_part is
 
-pub no_text_behind : (word before rest text after : List ℕ) → slice_split (λ c. c == 34) word ≡ before ∷ slice_split (λ c. c == 34) rest → slice_split (λ c. c == 34) rest ≡ text ∷ slice_split (λ c. c == 34) after
+pub no_text_behind : (word before rest text after : List ℕ)
+    → slice_split (λ c. c == 34) word ≡ before ∷ slice_split (λ c. c == 34) rest
+    → slice_split (λ c. c == 34) rest ≡ text ∷ slice_split (λ c. c == 34) after
     → (length before == 0) ≡ true → (length after == 0) ≡ false → quoted word ≡ None
 no_text_behind word [] rest text after is_word is_rest none some = ap quoted_part (is_word ∙ ap (λ (ps : List (List ℕ)). [] ∷ ps) is_rest) ∙ more_behind text after some
 no_text_behind word (c ∷ cs) rest text after is_word is_rest none some = absurd (not_zero (length cs) none)

@@ -16,15 +16,15 @@ pub record AccessPolicy : Type 0 where
   pub allow : Bool
 
 -- the call is of the method and the sort, and its tree meets the test, if there is one
-abbrev pub is_among : Calls → Call → Bool
-is_among calls call =
+abbrev pub is_one_of : Calls → Call → Bool
+is_one_of calls call =
     ((call.method == calls.method) && is_of_sort calls.sort call.number)
     && option_map_or (meets call.tree) calls.test true
 
 -- the rule is about the call
 abbrev pub is_about : About → Call → Bool
 is_about Every call = true
-is_about (OfCalls calls) call = is_among calls call
+is_about (OfCalls calls) call = is_one_of calls call
 
 abbrev pub matches : Rule → Call → Bool
 matches rule call = is_about rule.about call

@@ -7,7 +7,7 @@ ghost use Rattle.mrpc_table.specs.View.{content_of};
 ghost use Rattle.mrpc_table.specs.PathTrees.{IsAscending};
 ghost use Rattle.policy_access.specs.Paths.{default_item, unset_item, item_of_field};
 ghost use Rattle.policy_access.specs.Conditions.{compares, meets};
-ghost use Rattle.policy_access.specs.Verdict.{is_among, matches};
+ghost use Rattle.policy_access.specs.Verdict.{is_one_of, matches};
 
 use crate::rule::{About, Calls, Comparison, Condition, Operand, Rule, Test};
 use mrpc_table::{
@@ -120,9 +120,9 @@ fn meets(tree: &Tree, test: &Test) -> bool
     }
 }
 
-fn is_among(calls: &Calls, call: &Call) -> bool
+fn is_one_of(calls: &Calls, call: &Call) -> bool
     requires { IsAscending call.now.tree }
-    ensures { result ≡ is_among calls.now call.now }
+    ensures { result ≡ is_one_of calls.now call.now }
 {
     if call.method != calls.method || !call.is_of(calls.sort) {
         return false;
@@ -149,6 +149,6 @@ pub fn matches(rule: &Rule, call: &Call) -> bool
 {
     match &rule.about {
         About::Every => true,
-        About::Calls(calls) => is_among(calls, call),
+        About::Calls(calls) => is_one_of(calls, call),
     }
 }

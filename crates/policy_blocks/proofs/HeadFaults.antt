@@ -101,7 +101,8 @@ not_lacking d f ms e quota =
     naming.there (λ t. t.name) (name_at ms 3) d.tenants (not_not_of _ (subst (λ (g : ItemForm). tests.lacks_tenant d g ms ≡ false) quota e))
 
 -- the word in the tenant's place
-pub third_name : (d : Declared) (f : ItemForm) (ws : List (List ℕ)) (ms : List Meaning) → AreSaid (sorts_of (form_of f)) ws ms → f ≡ of.Quota → slice_get ws 3 ≡ Some (name_at ms 3)
+pub third_name : (d : Declared) (f : ItemForm) (ws : List (List ℕ)) (ms : List Meaning)
+    → AreSaid (sorts_of (form_of f)) ws ms → f ≡ of.Quota → slice_get ws 3 ≡ Some (name_at ms 3)
 third_name d f ws ms h quota = (name_there (sorts_of (form_of of.Quota)) ws ms 3 (subst (λ (g : ItemForm). AreSaid (sorts_of (form_of g)) ws ms) quota h) refl).at
 
 -- ---- the first reason
@@ -115,7 +116,8 @@ full_first d f ws e = record { stands = (let full = full_is d f e in too_many fu
     by r (is_known other at known is) = at_least r reason.Known 2 is (omega arith)
     by r (no_tenant other quota at none is) = at_least r reason.Unknown 2 is (omega arith)
 
-pub words_first : (d : Declared) (f : ItemForm) (ws : List (List ℕ)) (r : ScriptReason) → tests.is_full d f ≡ false → IsFirst (IsAgainst (sorts_of (form_of f)) ws) r → IsFirst (IsAgainstHead d f ws) r
+pub words_first : (d : Declared) (f : ItemForm) (ws : List (List ℕ)) (r : ScriptReason) → tests.is_full d f ≡ false
+    → IsFirst (IsAgainst (sorts_of (form_of f)) ws) r → IsFirst (IsAgainstHead d f ws) r
 words_first d f ws r e h = record { stands = in_words h.stands; first = λ q o. by q o }
   where
     low : order_of r ≤ 8
@@ -128,7 +130,8 @@ words_first d f ws r e h = record { stands = in_words h.stands; first = λ q o. 
     by q (no_tenant other quota at none is) = at_least q reason.Unknown (order_of r) is (omega (arith, low))
 
 module _ (fine : (sorts : List Sort) (ws : List (List ℕ)) (ms : List Meaning) (r : ScriptReason) → AreSaid sorts ws ms → IsAgainst sorts ws r → ⊥) where
-  pub known_first : (d : Declared) (f : ItemForm) (ws : List (List ℕ)) (ms : List Meaning) → tests.is_full d f ≡ false → AreSaid (sorts_of (form_of f)) ws ms → tests.is_known d f ms ≡ true
+  pub known_first : (d : Declared) (f : ItemForm) (ws : List (List ℕ)) (ms : List Meaning) → tests.is_full d f ≡ false
+      → AreSaid (sorts_of (form_of f)) ws ms → tests.is_known d f ms ≡ true
       → IsFirst (IsAgainstHead d f ws) reason.Known
   known_first d f ws ms e said known = record { stands = is_known (name_at ms 1) (item_named f ws ms said).at (known_is d f ms known) refl; first = λ q o. by q o }
     where
@@ -144,9 +147,15 @@ module _ (fine : (sorts : List Sort) (ws : List (List ℕ)) (ms : List Meaning) 
       let same : other ≡ name_at ms 1 = same_Some other (name_at ms 1) (sym at ∙ (item_named f ws ms said).at) in
       false≢true (sym new ∙ is_known_if d f ms (subst (Contains (names_before d f)) same there))
 
-  pub lacking_first : (d : Declared) (f : ItemForm) (ws : List (List ℕ)) (ms : List Meaning) → tests.is_full d f ≡ false → AreSaid (sorts_of (form_of f)) ws ms → tests.is_known d f ms ≡ false
+  pub lacking_first : (d : Declared) (f : ItemForm) (ws : List (List ℕ)) (ms : List Meaning)
+      → tests.is_full d f ≡ false → AreSaid (sorts_of (form_of f)) ws ms → tests.is_known d f ms ≡ false
       → tests.lacks_tenant d f ms ≡ true → IsFirst (IsAgainstHead d f ws) reason.Unknown
-  lacking_first d f ws ms e said new lacks = record { stands = (let l = lacking d f ms lacks in no_tenant (name_at ms 3) l.quota (third_name d f ws ms said l.quota) l.none refl); first = λ q o. by q o }
+  lacking_first d f ws ms e said new lacks =
+      record {
+        stands = (let l = lacking d f ms lacks in
+            no_tenant (name_at ms 3) l.quota (third_name d f ws ms said l.quota) l.none refl);
+        first = λ q o. by q o;
+      }
     where
       by : (q : ScriptReason) → IsAgainstHead d f ws q → order_of reason.Unknown ≤ order_of q
       by q (in_words o) = absurd (fine (sorts_of (form_of f)) ws ms q said o)
@@ -154,7 +163,8 @@ module _ (fine : (sorts : List Sort) (ws : List (List ℕ)) (ms : List Meaning) 
       by q (is_known other at there is) = absurd (isnt_known d f ws ms other said new at there)
       by q (no_tenant other quota at none is) = at_least q reason.Unknown 10 is (omega arith)
 
-  pub heads_fine : (d : Declared) (f : ItemForm) (line : List ℕ) (ms : List Meaning) → tests.is_full d f ≡ false → AreSaid (sorts_of (form_of f)) (words_of line) ms → tests.is_known d f ms ≡ false
+  pub heads_fine : (d : Declared) (f : ItemForm) (line : List ℕ) (ms : List Meaning) → tests.is_full d f ≡ false
+      → AreSaid (sorts_of (form_of f)) (words_of line) ms → tests.is_known d f ms ≡ false
       → tests.lacks_tenant d f ms ≡ false → Heads d f line ms
   heads_fine d f line ms e said new has = record { said = said; free = λ q o. by q o }
     where

@@ -1,5 +1,7 @@
 -- The lines of a text in front of its first line `end`.
-use Rattle.std.proofs.Common.{◌≡◌, ℕ, zero, suc, ◌+◌, ◌-◌, ◌<◌, ◌≤◌, ◌==◌, ◌⊎◌, Bool, true, false, cond, List, [], ◌∷◌, ◌++◌, length, get_or, take, drop, Contains, Some, None, refl, sym, ap, subst, ◌∙◌, inl, inr, append_assoc, arith}
+use Rattle.std.proofs.Common.{◌≡◌, ℕ, zero, suc, ◌+◌, ◌-◌, ◌<◌, ◌≤◌, ◌==◌, ◌⊎◌, Bool, true, false, cond, List, []}
+use Rattle.std.proofs.Common.{◌∷◌, ◌++◌, length, get_or, take, drop, Contains, Some, None, refl, sym, ap, subst, ◌∙◌}
+use Rattle.std.proofs.Common.{inl, inr, append_assoc, arith}
 use Rattle.std.specs.Borrow.{Bor}
 use Rattle.std.specs.List.{onto_first, join_with_byte}
 use Rattle.std.specs.Str.{bytes_eq}
@@ -27,11 +29,14 @@ has_piece (x ∷ xs) =
 
 -- ---- one line more
 
-inner_step_by : (line : List ℕ) (pieces : List (List ℕ)) (p : List ℕ) (ps : List (List ℕ)) (b : Bool) → pieces ≡ p ∷ ps → bytes_eq line end_line ≡ b → inner_of (line ∷ pieces) ≡ cond b [] (line ∷ inner_of pieces)
+inner_step_by : (line : List ℕ) (pieces : List (List ℕ)) (p : List ℕ) (ps : List (List ℕ)) (b : Bool)
+    → pieces ≡ p ∷ ps → bytes_eq line end_line ≡ b → inner_of (line ∷ pieces) ≡ cond b [] (line ∷ inner_of pieces)
 inner_step_by line pieces p ps b e is =
-    ap (λ (xs : List (List ℕ)). inner_of (line ∷ xs)) e ∙ ap (λ (x : Bool). cond x [] (line ∷ inner_of (p ∷ ps))) is ∙ ap (λ (xs : List (List ℕ)). cond b [] (line ∷ inner_of xs)) (sym e)
+    ap (λ (xs : List (List ℕ)). inner_of (line ∷ xs)) e ∙ ap (λ (x : Bool). cond x [] (line ∷ inner_of (p ∷ ps))) is
+    ∙ ap (λ (xs : List (List ℕ)). cond b [] (line ∷ inner_of xs)) (sym e)
 
-pub inner_step : (text line behind : List ℕ) (b : Bool) → pieces_of text ≡ line ∷ pieces_of behind → bytes_eq line end_line ≡ b → inner_lines text ≡ cond b [] (line ∷ inner_lines behind)
+pub inner_step : (text line behind : List ℕ) (b : Bool) → pieces_of text ≡ line ∷ pieces_of behind
+    → bytes_eq line end_line ≡ b → inner_lines text ≡ cond b [] (line ∷ inner_lines behind)
 inner_step text line behind b cut is = let p = has_piece behind in ap inner_of cut ∙ inner_step_by line (pieces_of behind) p.0 p.1 b p.2 is
 
 pub inner_last : (text : List ℕ) → pieces_of text ≡ text ∷ [] → inner_lines text ≡ []
@@ -39,31 +44,39 @@ inner_last text last = ap inner_of last
 
 -- ---- where a kept line stands
 
-pub at_end : (skips : Bool) (text line behind : List ℕ) (number : ℕ) → pieces_of text ≡ line ∷ pieces_of behind → bytes_eq line end_line ≡ true → line_at skips (inner_lines text) number ≡ 1
+pub at_end : (skips : Bool) (text line behind : List ℕ) (number : ℕ) → pieces_of text ≡ line ∷ pieces_of behind
+    → bytes_eq line end_line ≡ true → line_at skips (inner_lines text) number ≡ 1
 at_end skips text line behind number cut is = ap (λ (ls : List (List ℕ)). line_at skips ls number) (inner_step text line behind true cut is)
 
 pub at_last : (skips : Bool) (text : List ℕ) (number : ℕ) → pieces_of text ≡ text ∷ [] → line_at skips (inner_lines text) number ≡ 1
 at_last skips text number last = ap (λ (ls : List (List ℕ)). line_at skips ls number) (inner_last text last)
 
-at_line : (skips : Bool) (text line behind : List ℕ) (number : ℕ) (kept first : Bool) → pieces_of text ≡ line ∷ pieces_of behind → bytes_eq line end_line ≡ false → is_kept skips line ≡ kept → (number == 1) ≡ first
+at_line : (skips : Bool) (text line behind : List ℕ) (number : ℕ) (kept first : Bool)
+    → pieces_of text ≡ line ∷ pieces_of behind → bytes_eq line end_line ≡ false → is_kept skips line ≡ kept
+    → (number == 1) ≡ first
     → line_at skips (inner_lines text) number ≡ cond kept (cond first 1 (1 + line_at skips (inner_lines behind) (number - 1))) (1 + line_at skips (inner_lines behind) number)
 at_line skips text line behind number kept first cut is k f =
     ap (λ (ls : List (List ℕ)). line_at skips ls number) (inner_step text line behind false cut is)
     ∙ ap (λ (b : Bool). cond b (cond (number == 1) 1 (1 + line_at skips (inner_lines behind) (number - 1))) (1 + line_at skips (inner_lines behind) number)) k
     ∙ ap (λ (b : Bool). cond kept (cond b 1 (1 + line_at skips (inner_lines behind) (number - 1))) (1 + line_at skips (inner_lines behind) number)) f
 
-pub at_first_kept : (skips : Bool) (text line behind : List ℕ) (number : ℕ) → pieces_of text ≡ line ∷ pieces_of behind → bytes_eq line end_line ≡ false → is_kept skips line ≡ true → (number == 1) ≡ true → line_at skips (inner_lines text) number ≡ 1
+pub at_first_kept : (skips : Bool) (text line behind : List ℕ) (number : ℕ) → pieces_of text ≡ line ∷ pieces_of behind
+    → bytes_eq line end_line ≡ false → is_kept skips line ≡ true → (number == 1) ≡ true
+    → line_at skips (inner_lines text) number ≡ 1
 at_first_kept skips text line behind number cut is k f = at_line skips text line behind number true true cut is k f
 
-pub at_kept_other : (skips : Bool) (text line behind : List ℕ) (number : ℕ) → pieces_of text ≡ line ∷ pieces_of behind → bytes_eq line end_line ≡ false → is_kept skips line ≡ true → (number ≡ 1 → ⊥)
+pub at_kept_other : (skips : Bool) (text line behind : List ℕ) (number : ℕ) → pieces_of text ≡ line ∷ pieces_of behind
+    → bytes_eq line end_line ≡ false → is_kept skips line ≡ true → (number ≡ 1 → ⊥)
     → line_at skips (inner_lines text) number ≡ 1 + line_at skips (inner_lines behind) (number - 1)
 at_kept_other skips text line behind number cut is k f = at_line skips text line behind number true false cut is k (ne_eqb number 1 f)
 
-pub at_kept : (skips : Bool) (text line behind : List ℕ) (number : ℕ) → pieces_of text ≡ line ∷ pieces_of behind → bytes_eq line end_line ≡ false → is_kept skips line ≡ true → (number == 1) ≡ false
+pub at_kept : (skips : Bool) (text line behind : List ℕ) (number : ℕ) → pieces_of text ≡ line ∷ pieces_of behind
+    → bytes_eq line end_line ≡ false → is_kept skips line ≡ true → (number == 1) ≡ false
     → line_at skips (inner_lines text) number ≡ 1 + line_at skips (inner_lines behind) (number - 1)
 at_kept skips text line behind number cut is k f = at_line skips text line behind number true false cut is k f
 
-pub at_skipped : (skips : Bool) (text line behind : List ℕ) (number : ℕ) → pieces_of text ≡ line ∷ pieces_of behind → bytes_eq line end_line ≡ false → is_kept skips line ≡ false
+pub at_skipped : (skips : Bool) (text line behind : List ℕ) (number : ℕ) → pieces_of text ≡ line ∷ pieces_of behind
+    → bytes_eq line end_line ≡ false → is_kept skips line ≡ false
     → line_at skips (inner_lines text) number ≡ 1 + line_at skips (inner_lines behind) number
 at_skipped skips text line behind number cut is k = at_line skips text line behind number false (number == 1) cut is k refl
 
@@ -77,7 +90,9 @@ pub record AreDone (text : List ℕ) (done : List (List ℕ)) (rest : List ℕ) 
 pub none_done : (text : List ℕ) → AreDone text [] text
 none_done text = record { pieces = refl; none = λ h. omega (arith, h.1) }
 
-pub done_more : (text : List ℕ) (done : List (List ℕ)) (rest line behind : List ℕ) → AreDone text done rest → pieces_of rest ≡ line ∷ pieces_of behind → bytes_eq line end_line ≡ false → AreDone text (done ++ line ∷ []) behind
+pub done_more : (text : List ℕ) (done : List (List ℕ)) (rest line behind : List ℕ) → AreDone text done rest
+    → pieces_of rest ≡ line ∷ pieces_of behind → bytes_eq line end_line ≡ false
+    → AreDone text (done ++ line ∷ []) behind
 done_more text done rest line behind d cut isnt = record {
   pieces = d.pieces ∙ ap (λ (ps : List (List ℕ)). done ++ ps) cut ∙ sym (append_assoc done (line ∷ []) (pieces_of behind));
   none = λ h. elim (Contains-push_cases done line end_line h) [
@@ -112,13 +127,18 @@ inner_all (x ∷ xs) last none =
     let more = has_first xs last [] in
     inner_step_by x (xs ++ last ∷ []) more.0 more.1 false more.2 (other_first x xs none) ∙ ap (λ (ls : List (List ℕ)). x ∷ ls) (inner_all xs last (others x xs none))
 
-pub inner_done : (text : List ℕ) (done : List (List ℕ)) (rest line behind : List ℕ) → AreDone text done rest → pieces_of rest ≡ line ∷ pieces_of behind → bytes_eq line end_line ≡ true → inner_lines text ≡ done
+pub inner_done : (text : List ℕ) (done : List (List ℕ)) (rest line behind : List ℕ) → AreDone text done rest
+    → pieces_of rest ≡ line ∷ pieces_of behind → bytes_eq line end_line ≡ true → inner_lines text ≡ done
 inner_done text done rest line behind d cut is =
     let p = has_piece behind in
     let end : line ≡ end_line = (bytes_eq-Decides line end_line).0 is in
-    ap inner_of (d.pieces ∙ ap (λ (ps : List (List ℕ)). done ++ ps) (cut ∙ ap (λ (l : List ℕ). l ∷ pieces_of behind) end ∙ ap (λ (ps : List (List ℕ)). end_line ∷ ps) p.2)) ∙ inner_before done p.0 p.1 d.none
+    ap inner_of (d.pieces ∙ ap (λ (ps : List (List ℕ)). done ++ ps)
+    (cut ∙ ap (λ (l : List ℕ). l ∷ pieces_of behind) end ∙ ap (λ (ps : List (List ℕ)). end_line ∷ ps) p.2))
+    ∙ inner_before done p.0 p.1 d.none
 
-pub left_done : (text : List ℕ) (done : List (List ℕ)) (rest line : List ℕ) (behind : Bor (List ℕ)) → AreDone text done rest → pieces_of rest ≡ line ∷ pieces_of behind.now → bytes_eq line end_line ≡ true → IsLeft text (Some behind)
+pub left_done : (text : List ℕ) (done : List (List ℕ)) (rest line : List ℕ) (behind : Bor (List ℕ))
+    → AreDone text done rest → pieces_of rest ≡ line ∷ pieces_of behind.now → bytes_eq line end_line ≡ true
+    → IsLeft text (Some behind)
 left_done text done rest line behind d cut is =
     let end : line ≡ end_line = (bytes_eq-Decides line end_line).0 is in
     let same = inner_done text done rest line behind.now d cut is in
@@ -174,7 +194,8 @@ same_inner text inner other x y b c = sym (block_inner text inner x b) ∙ block
 pub same_rest : (text : List ℕ) (inner other : List (List ℕ)) (x y : List ℕ) → IsBlock text inner x → IsBlock text other y → x ≡ y
 same_rest text inner other x y b c =
     let same = same_inner text inner other x y b c in
-    let both : inner ++ end_line ∷ pieces_of x ≡ inner ++ end_line ∷ pieces_of y = sym b.lines ∙ c.lines ∙ ap (λ (ls : List (List ℕ)). ls ++ end_line ∷ pieces_of y) (sym same) in
+    let both : inner ++ end_line ∷ pieces_of x ≡ inner ++ end_line ∷ pieces_of y =
+    sym b.lines ∙ c.lines ∙ ap (λ (ls : List (List ℕ)). ls ++ end_line ∷ pieces_of y) (sym same) in
     same_pieces x y (ap (drop 1) (append_cancel_left inner (end_line ∷ pieces_of x) (end_line ∷ pieces_of y) both))
 
 -- a text with an `end` isn't unended
@@ -185,15 +206,26 @@ open_block text inner rest unended b =
     let long = ap length lines ∙ length-append inner (end_line ∷ p.0 ∷ p.1) in
     let at : get_or (pieces_of text) (length inner + 0) end_line ≡ end_line =
     ap (λ (ps : List (List ℕ)). get_or ps (length inner + 0) end_line) lines ∙ get_or-append-add inner (end_line ∷ p.0 ∷ p.1) 0 end_line in
-    unended (length inner + 0, omega (arith, long, length-take (length (pieces_of text) - 1) (pieces_of text)), get_or-take (length (pieces_of text) - 1) (pieces_of text) (length inner + 0) end_line (omega (arith, long)) ∙ at)
+    unended (
+      length inner + 0,
+      omega (arith, long, length-take (length (pieces_of text) - 1) (pieces_of text)),
+      get_or-take (length (pieces_of text) - 1) (pieces_of text) (length inner + 0) end_line (omega (arith, long))
+          ∙ at,
+    )
 
 -- a text is one line without its feed, or has a first line
-pub split : (text : List ℕ) → (pieces_of text ≡ text ∷ []) ⊎ ((line : List ℕ) × (behind : List ℕ) × (pieces_of text ≡ line ∷ pieces_of behind) × (length behind < length text))
+pub split : (text : List ℕ)
+    → (pieces_of text ≡ text ∷ []) ⊎ ((line : List ℕ) × (behind : List ℕ) × (pieces_of text ≡ line ∷ pieces_of behind)
+    × (length behind < length text))
 split [] = inl refl
 split (x ∷ xs) = by (x == 10) refl (split xs)
   where
-    by : (b : Bool) → (x == 10) ≡ b → (pieces_of xs ≡ xs ∷ []) ⊎ ((line : List ℕ) × (behind : List ℕ) × (pieces_of xs ≡ line ∷ pieces_of behind) × (length behind < length xs))
-        → (pieces_of (x ∷ xs) ≡ (x ∷ xs) ∷ []) ⊎ ((line : List ℕ) × (behind : List ℕ) × (pieces_of (x ∷ xs) ≡ line ∷ pieces_of behind) × (length behind < length (x ∷ xs)))
+    by : (b : Bool) → (x == 10) ≡ b
+        → (pieces_of xs ≡ xs ∷ []) ⊎ ((line : List ℕ) × (behind : List ℕ) × (pieces_of xs ≡ line ∷ pieces_of behind)
+        × (length behind < length xs))
+        → (pieces_of (x ∷ xs) ≡ (x ∷ xs) ∷ [])
+        ⊎ ((line : List ℕ) × (behind : List ℕ) × (pieces_of (x ∷ xs) ≡ line ∷ pieces_of behind)
+        × (length behind < length (x ∷ xs)))
     by true e rest = inr ([], xs, ap (λ (b : Bool). cond b ([] ∷ pieces_of xs) (onto_first x (pieces_of xs))) e, omega arith)
     by false e (inl last) = inl (ap (λ (b : Bool). cond b ([] ∷ pieces_of xs) (onto_first x (pieces_of xs))) e ∙ ap (onto_first x) last)
     by false e (inr more) =
@@ -212,7 +244,10 @@ whole_none text last = ap (λ (ps : List (List ℕ)). take (length ps - 1) ps) l
 cut_text : (text line behind : List ℕ) → pieces_of text ≡ line ∷ pieces_of behind → text ≡ (line ++ 10 ∷ []) ++ behind
 cut_text text line behind cut =
     let p = has_piece behind in
-    sym (join_with_byte-slice_split 10 text) ∙ ap (join_with_byte 10) (cut ∙ ap (λ (ps : List (List ℕ)). line ∷ ps) p.2) ∙ ap (λ (t : List ℕ). line ++ 10 ∷ t) (ap (join_with_byte 10) (sym p.2) ∙ join_with_byte-slice_split 10 behind)
+    sym (join_with_byte-slice_split 10 text)
+    ∙ ap (join_with_byte 10) (cut ∙ ap (λ (ps : List (List ℕ)). line ∷ ps) p.2)
+    ∙ ap (λ (t : List ℕ). line ++ 10 ∷ t) (ap (join_with_byte 10) (sym p.2)
+    ∙ join_with_byte-slice_split 10 behind)
     ∙ sym (append_assoc line (10 ∷ []) behind)
 
 -- a block, of which the rest is the end of the text
@@ -236,7 +271,8 @@ not_among line lines isnt none h = elim (cases_eq h.0 0) [
   | inr past ↦ none (behind_first line lines h past)
 ]
 
-behind_line : (text line behind : List ℕ) → pieces_of text ≡ line ∷ pieces_of behind → bytes_eq line end_line ≡ false → IsBlockOf behind ⊎ IsOpen behind → IsBlockOf text ⊎ IsOpen text
+behind_line : (text line behind : List ℕ) → pieces_of text ≡ line ∷ pieces_of behind → bytes_eq line end_line ≡ false
+    → IsBlockOf behind ⊎ IsOpen behind → IsBlockOf text ⊎ IsOpen text
 behind_line text line behind cut isnt (inl b) = inl (record {
   inner = line ∷ b.inner;
   rest = b.rest;
@@ -250,7 +286,8 @@ behind_line text line behind cut isnt (inr unended) =
 abbrev IsSplit : List ℕ → Type 0
 IsSplit text = (pieces_of text ≡ text ∷ []) ⊎ ((line : List ℕ) × (behind : List ℕ) × (pieces_of text ≡ line ∷ pieces_of behind) × (length behind < length text))
 
-at_line_or_not : (text line behind : List ℕ) (b : Bool) → pieces_of text ≡ line ∷ pieces_of behind → bytes_eq line end_line ≡ b → IsBlockOf behind ⊎ IsOpen behind → IsBlockOf text ⊎ IsOpen text
+at_line_or_not : (text line behind : List ℕ) (b : Bool) → pieces_of text ≡ line ∷ pieces_of behind
+    → bytes_eq line end_line ≡ b → IsBlockOf behind ⊎ IsOpen behind → IsBlockOf text ⊎ IsOpen text
 at_line_or_not text line behind true cut is rest = inl (record {
   inner = [];
   rest = behind;
@@ -289,15 +326,23 @@ line_at_is skips line lines number kept first k f =
     ap (λ (b : Bool). cond b (cond (number == 1) 1 (1 + line_at skips lines (number - 1))) (1 + line_at skips lines number)) k
     ∙ ap (λ (b : Bool). cond kept (cond b 1 (1 + line_at skips lines (number - 1))) (1 + line_at skips lines number)) f
 
-line_at_by : (skips : Bool) (line : List ℕ) (lines : List (List ℕ)) (number : ℕ) (kept first : Bool) → is_kept skips line ≡ kept → (number == 1) ≡ first → line_at skips lines (number - 1) ≤ length lines + 1 → line_at skips lines number ≤ length lines + 1
+line_at_by : (skips : Bool) (line : List ℕ) (lines : List (List ℕ)) (number : ℕ) (kept first : Bool)
+    → is_kept skips line ≡ kept → (number == 1) ≡ first → line_at skips lines (number - 1) ≤ length lines + 1
+    → line_at skips lines number ≤ length lines + 1
     → line_at skips (line ∷ lines) number ≤ length (line ∷ lines) + 1
 line_at_by skips line lines number true true k f less same = subst (λ (n : ℕ). n ≤ length (line ∷ lines) + 1) (sym (line_at_is skips line lines number true true k f)) (omega arith)
-line_at_by skips line lines number true false k f less same = subst (λ (n : ℕ). n ≤ length (line ∷ lines) + 1) (sym (line_at_is skips line lines number true false k f)) (omega (arith, less))
-line_at_by skips line lines number false first k f less same = subst (λ (n : ℕ). n ≤ length (line ∷ lines) + 1) (sym (line_at_is skips line lines number false first k f)) (omega (arith, same))
+line_at_by skips line lines number true false k f less same =
+    subst (λ (n : ℕ). n ≤ length (line ∷ lines) + 1) (sym (line_at_is skips line lines number true false k f))
+    (omega (arith, less))
+line_at_by skips line lines number false first k f less same =
+    subst (λ (n : ℕ). n ≤ length (line ∷ lines) + 1) (sym (line_at_is skips line lines number false first k f))
+    (omega (arith, same))
 
 pub line_at_small : (skips : Bool) (lines : List (List ℕ)) (number : ℕ) → line_at skips lines number ≤ length lines + 1
 line_at_small skips [] number = omega arith
-line_at_small skips (line ∷ lines) number = line_at_by skips line lines number (is_kept skips line) (number == 1) refl refl (line_at_small skips lines (number - 1)) (line_at_small skips lines number)
+line_at_small skips (line ∷ lines) number =
+    line_at_by skips line lines number (is_kept skips line) (number == 1) refl refl
+    (line_at_small skips lines (number - 1)) (line_at_small skips lines number)
 
 pub inner_count : (text : List ℕ) (inner : List (List ℕ)) (rest : List ℕ) → IsBlock text inner rest → length inner + 1 ≤ line_count text
 inner_count text inner rest b =

@@ -42,7 +42,9 @@ module _ (First : List (List ℕ) → ℕ → RuleReason → Type 0) where
   IsFirstIn lines rule.Memory = Unit {0}
 
   module _ (one : (lines : List (List ℕ)) (m n : ℕ) (r q : RuleReason) → First lines m r → First lines n q → (m ≡ n) × (r ≡ q)) where
-    open_broken : (skips : Bool) (text : List ℕ) (number : ℕ) (why : RuleReason) (b : Bool) → nat_le number (length (kept skips (inner_lines text))) ≡ b → IsOpen text → inner_lines text ≡ whole_lines text
+    open_broken : (skips : Bool) (text : List ℕ) (number : ℕ) (why : RuleReason) (b : Bool)
+        → nat_le number (length (kept skips (inner_lines text))) ≡ b → IsOpen text
+        → inner_lines text ≡ whole_lines text
         → First (kept skips (inner_lines text)) number why
         → IsBroken skips text (cond b (script.At (1 + line_at skips (inner_lines text) number) (of_rule why)) (script.At (length (inner_lines text) + 2) Word))
     open_broken skips text number why true e unended same first =

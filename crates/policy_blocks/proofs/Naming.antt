@@ -1,5 +1,7 @@
 -- Where something of a name stands in a list.
-use Rattle.std.proofs.Common.{◌≡◌, ℕ, zero, suc, ◌+◌, ◌<◌, ◌≤◌, not, Bool, true, false, cond, List, [], ◌∷◌, ◌++◌, length, get_or, map, Contains, Option, Some, None, refl, sym, ap, subst, ◌∙◌, inl, inr, eq-eqb, ◌==◌, arith}
+use Rattle.std.proofs.Common.{◌≡◌, ℕ, zero, suc, ◌+◌, ◌<◌, ◌≤◌, not, Bool, true, false, cond, List, [], ◌∷◌, ◌++◌}
+use Rattle.std.proofs.Common.{length, get_or, map, Contains, Option, Some, None, refl, sym, ap, subst, ◌∙◌, inl, inr}
+use Rattle.std.proofs.Common.{eq-eqb, ◌==◌, arith}
 use Rattle.std.specs.Prelude.{nat_lt, is_some, slice_get, position}
 use Rattle.std.specs.List.{position_or_len}
 use Rattle.std.specs.Str.{bytes_eq}
@@ -110,7 +112,8 @@ module _ {X : Type 0} (f : X → List ℕ) where
     | inr isnt ↦ (let here = first_by name x xs false isnt in omega (arith, here, found_or_end name xs))
   ]
 
-  first_push : (name : List ℕ) (xs : List X) (y : X) (b c : Bool) → (first name xs == length xs) ≡ b → bytes_eq (f y) name ≡ c → first name (xs ++ y ∷ []) ≡ cond b (length xs + cond c 0 1) (first name xs)
+  first_push : (name : List ℕ) (xs : List X) (y : X) (b c : Bool) → (first name xs == length xs) ≡ b
+      → bytes_eq (f y) name ≡ c → first name (xs ++ y ∷ []) ≡ cond b (length xs + cond c 0 1) (first name xs)
   first_push name xs y b c e g =
       position_or_len_push (λ x. bytes_eq (f x) name) xs y ∙ ap (λ t. cond t (length xs + cond (bytes_eq (f y) name) 0 1) (first name xs)) e
       ∙ ap (λ t. cond b (length xs + cond t 0 1) (first name xs)) g
@@ -121,7 +124,8 @@ module _ {X : Type 0} (f : X → List ℕ) where
     | inr isnt ↦ false_from_ne_true (bytes_eq a b) (λ e. false≢true (sym isnt ∙ (bytes_eq-Decides b a).1 (sym ((bytes_eq-Decides a b).0 e)))) ∙ sym isnt
   ]
 
-  push_found : (name : List ℕ) (xs : List X) (y : X) → place (f y) xs ≡ None → first name xs < length xs → place name (xs ++ y ∷ []) ≡ cond (bytes_eq name (f y)) (Some (length xs)) (place name xs)
+  push_found : (name : List ℕ) (xs : List X) (y : X) → place (f y) xs ≡ None → first name xs < length xs
+      → place name (xs ++ y ∷ []) ≡ cond (bytes_eq name (f y)) (Some (length xs)) (place name xs)
   push_found name xs y new within = elim (cases_Bool (bytes_eq name (f y))) [
     | inl is ↦ absurd (none_there (f y) xs new (first_there (f y) xs (moved ((bytes_eq-Decides name (f y)).0 is))))
     | inr isnt ↦
@@ -129,7 +133,9 @@ module _ {X : Type 0} (f : X → List ℕ) where
         let here = first_push name xs y false false apart (same_way (f y) name ∙ isnt) in
         let long = length_push xs y in
         let inside : nat_lt (first name (xs ++ y ∷ [])) (length (xs ++ y ∷ [])) ≡ true = lt-ltb _ _ (omega (arith, here, long, within)) in
-        place_by name (xs ++ y ∷ []) true inside ∙ ap (λ n. Some n) here ∙ sym (place_by name xs true (lt-ltb _ _ within)) ∙ sym (ap (λ b. cond b (Some (length xs)) (place name xs)) isnt)
+        place_by name (xs ++ y ∷ []) true inside ∙ ap (λ n. Some n) here
+        ∙ sym (place_by name xs true (lt-ltb _ _ within))
+        ∙ sym (ap (λ b. cond b (Some (length xs)) (place name xs)) isnt)
   ]
     where
       moved : name ≡ f y → first (f y) xs < length xs

@@ -1,5 +1,6 @@
 -- Lines begin with one item, or have one first fault.
-use Rattle.std.proofs.Common.{◌≡◌, ◌⊎◌, ℕ, ◌+◌, ◌≤◌, Bool, true, false, List, length, not, Option, Some, None, refl, sym, ap, ◌∙◌, subst, inl, inr, arith, [], ◌++◌}
+use Rattle.std.proofs.Common.{◌≡◌, ◌⊎◌, ℕ, ◌+◌, ◌≤◌, Bool, true, false, List, length, not, Option, Some, None, refl}
+use Rattle.std.proofs.Common.{sym, ap, ◌∙◌, subst, inl, inr, arith, [], ◌++◌}
 use Rattle.std.specs.Prelude.{is_some, slice_get}
 use Rattle.std.proofs.lemmas.Bool.{cases_Bool, cases_lt}
 use Rattle.std.proofs.lemmas.Option.{same_Some}
@@ -36,7 +37,8 @@ use Rattle.policy_blocks.proofs.Naming as naming
 
 -- ---- blocks
 
-module _ (First : List (List ℕ) → ℕ → RuleReason → Type 0) (one : (lines : List (List ℕ)) (m n : ℕ) (r q : RuleReason) → First lines m r → First lines n q → (m ≡ n) × (r ≡ q)) where
+module _ (First : List (List ℕ) → ℕ → RuleReason → Type 0) (one : (lines : List (List ℕ)) (m n : ℕ) (r q : RuleReason)
+    → First lines m r → First lines n q → (m ≡ n) × (r ≡ q)) where
   pub one_break : (skips : Bool) (text : List ℕ) (m n : ℕ) (r q : ScriptReason) → Breaks First skips text m r → Breaks First skips text n q → (m ≡ n) × (r ≡ q)
   one_break skips text m n r q (in_block inner rest k why b first e f) (in_block other more j what c second g h) =
       let same = same_inner text inner other rest more b c in
@@ -54,7 +56,8 @@ module _ (First : List (List ℕ) → ℕ → RuleReason → Type 0) (one : (lin
   one_break skips text m n r q (no_end unended none e f) (no_end shut never g h) = (e ∙ sym g, f ∙ sym h)
 
   -- a block of sound lines doesn't break
-  pub block_or_break : (skips : Bool) (text : List ℕ) (inner : List (List ℕ)) (rest : List ℕ) (m : ℕ) (r : ScriptReason) → IsBlock text inner rest → ((k : ℕ) (why : RuleReason) → First (kept skips inner) k why → ⊥)
+  pub block_or_break : (skips : Bool) (text : List ℕ) (inner : List (List ℕ)) (rest : List ℕ) (m : ℕ)
+      (r : ScriptReason) → IsBlock text inner rest → ((k : ℕ) (why : RuleReason) → First (kept skips inner) k why → ⊥)
       → Breaks First skips text m r → ⊥
   block_or_break skips text inner rest m r b none (in_block other more j what c second g h) =
       none j what (subst (λ (ls : List (List ℕ)). First (kept skips ls) j what) (same_inner text other inner more rest c b) second)
@@ -66,7 +69,8 @@ module _ (First : List (List ℕ) → ℕ → RuleReason → Type 0) (one : (lin
   HasBlock Sound skips text =
       ((inner : List (List ℕ)) × (rest : List ℕ) × IsBlock text inner rest × Sound (kept skips inner)) ⊎ ((m : ℕ) × (r : ScriptReason) × Breaks First skips text m r)
 
-  pub some_block : (Sound : List (List ℕ) → Type 0) (skips : Bool) (text : List ℕ) → ((lines : List (List ℕ)) → Sound lines ⊎ ((k : ℕ) × (why : RuleReason) × First lines k why))
+  pub some_block : (Sound : List (List ℕ) → Type 0) (skips : Bool) (text : List ℕ)
+      → ((lines : List (List ℕ)) → Sound lines ⊎ ((k : ℕ) × (why : RuleReason) × First lines k why))
       → ((lines : List (List ℕ)) (k : ℕ) (why : RuleReason) → Sound lines → First lines k why → ⊥) → HasBlock Sound skips text
   some_block Sound skips text either both = elim (ends_or_not text) [
     | inl block ↦ elim (either (kept skips block.0)) [
@@ -76,7 +80,13 @@ module _ (First : List (List ℕ) → ℕ → RuleReason → Type 0) (one : (lin
     | inr unended ↦ elim (either (kept skips (whole_lines text))) [
       | inl sound ↦ inr (length (whole_lines text) + 1, reason.Word, no_end unended (λ k why first within. both (kept skips (whole_lines text)) k why sound first) refl refl)
       | inr bad ↦ elim (cases_lt (length (kept skips (whole_lines text))) bad.0) [
-        | inl far ↦ inr (length (whole_lines text) + 1, reason.Word, no_end unended (λ k why first within. (let same = (one (kept skips (whole_lines text)) bad.0 k bad.1 why bad.2 first).0 in omega (arith, same, within, far))) refl refl)
+        | inl far ↦ inr (
+          length (whole_lines text) + 1,
+          reason.Word,
+          no_end unended (λ k why first within.
+              (let same = (one (kept skips (whole_lines text)) bad.0 k bad.1 why bad.2 first).0 in
+              omega (arith, same, within, far))) refl refl,
+        )
         | inr within ↦ inr (line_at skips (whole_lines text) bad.0, of_rule bad.1, in_open bad.0 bad.1 unended bad.2 within refl refl)
       ]
     ]
@@ -90,13 +100,20 @@ pub record Laws : Type 0 where
   pub judged : (sorts : List Sort) (ws : List (List ℕ)) → ((ms : List Meaning) × AreSaid sorts ws ms) ⊎ ((r : ScriptReason) × IsFirst (IsAgainst sorts ws) r)
   pub fine : (sorts : List Sort) (ws : List (List ℕ)) (ms : List Meaning) (r : ScriptReason) → AreSaid sorts ws ms → IsAgainst sorts ws r → ⊥
   pub one_access : (T : Table) (lines : List (List ℕ)) (p q : AccessPolicy) → access_texts.IsTextOf T lines p → access_texts.IsTextOf T lines q → p ≡ q
-  pub one_access_fault : (T : Table) (lines : List (List ℕ)) (m n : ℕ) (r q : RuleReason) → access_faults.IsFirstFault T lines m r → access_faults.IsFirstFault T lines n q → (m ≡ n) × (r ≡ q)
-  pub some_access : (T : Table) (lines : List (List ℕ)) → ((p : AccessPolicy) × access_texts.IsTextOf T lines p) ⊎ ((k : ℕ) × (q : RuleReason) × access_faults.IsFirstFault T lines k q)
-  pub access_or_fault : (T : Table) (lines : List (List ℕ)) (p : AccessPolicy) (k : ℕ) (q : RuleReason) → access_texts.IsTextOf T lines p → access_faults.IsFirstFault T lines k q → ⊥
+  pub one_access_fault : (T : Table) (lines : List (List ℕ)) (m n : ℕ) (r q : RuleReason)
+      → access_faults.IsFirstFault T lines m r → access_faults.IsFirstFault T lines n q → (m ≡ n) × (r ≡ q)
+  pub some_access : (T : Table) (lines : List (List ℕ)) → ((p : AccessPolicy) × access_texts.IsTextOf T lines p)
+      ⊎ ((k : ℕ) × (q : RuleReason) × access_faults.IsFirstFault T lines k q)
+  pub access_or_fault : (T : Table) (lines : List (List ℕ)) (p : AccessPolicy) (k : ℕ) (q : RuleReason)
+      → access_texts.IsTextOf T lines p → access_faults.IsFirstFault T lines k q → ⊥
   pub one_redact : (T : Table) (lines : List (List ℕ)) (p q : List Clear) → redact_texts.IsTextOf T lines p → redact_texts.IsTextOf T lines q → p ≡ q
-  pub one_redact_fault : (T : Table) (lines : List (List ℕ)) (m n : ℕ) (r q : RuleReason) → redact_faults.IsFirstFault T lines m r → redact_faults.IsFirstFault T lines n q → (m ≡ n) × (r ≡ q)
-  pub some_redact : (T : Table) (lines : List (List ℕ)) → ((p : List Clear) × redact_texts.IsTextOf T lines p) ⊎ ((k : ℕ) × (q : RuleReason) × redact_faults.IsFirstFault T lines k q)
-  pub redact_or_fault : (T : Table) (lines : List (List ℕ)) (p : List Clear) (k : ℕ) (q : RuleReason) → redact_texts.IsTextOf T lines p → redact_faults.IsFirstFault T lines k q → ⊥
+  pub one_redact_fault : (T : Table) (lines : List (List ℕ)) (m n : ℕ) (r q : RuleReason)
+      → redact_faults.IsFirstFault T lines m r → redact_faults.IsFirstFault T lines n q → (m ≡ n) × (r ≡ q)
+  pub some_redact : (T : Table) (lines : List (List ℕ))
+      → ((p : List Clear) × redact_texts.IsTextOf T lines p)
+      ⊎ ((k : ℕ) × (q : RuleReason) × redact_faults.IsFirstFault T lines k q)
+  pub redact_or_fault : (T : Table) (lines : List (List ℕ)) (p : List Clear) (k : ℕ) (q : RuleReason)
+      → redact_texts.IsTextOf T lines p → redact_faults.IsFirstFault T lines k q → ⊥
 
 -- ---- one item
 
@@ -107,7 +124,8 @@ same_quota d ms p q a b =
     a.policy_is ∙ ap (λ (n : ℕ). policy.Quota n a.tenant.per (number_at ms 5)) place ∙ ap (λ (t : Tenant). policy.Quota b.place t.per (number_at ms 5)) tenant ∙ sym b.policy_is
 
 module _ (laws : Laws) (T : Table) (skips : Bool) (d : Declared) where
-  gives_one : (f : ItemForm) (ms : List Meaning) (text : List ℕ) (i j : Item) (x y : List ℕ) → Gives T skips d f ms text i x → Gives T skips d f ms text j y → (i ≡ j) × (x ≡ y)
+  gives_one : (f : ItemForm) (ms : List Meaning) (text : List ℕ) (i j : Item) (x y : List ℕ)
+      → Gives T skips d f ms text i x → Gives T skips d f ms text j y → (i ≡ j) × (x ≡ y)
   gives_one of.Tenant ms text i j x y h k = (h.0 ∙ sym k.0, h.1 ∙ sym k.1)
   gives_one of.Rate ms text i j x y h k = (h.0 ∙ sym k.0, h.1 ∙ sym k.1)
   gives_one of.Count ms text i j x y h k = (h.0 ∙ sym k.0, h.1 ∙ sym k.1)
@@ -142,7 +160,8 @@ module _ (laws : Laws) (T : Table) (skips : Bool) (d : Declared) where
   one_broken of.Quota text m n r q h k = absurd h
   one_broken of.Count text m n r q h k = absurd h
 
-  pub one_fault : (f : ItemForm) (line text : List ℕ) (m n : ℕ) (r q : ScriptReason) → FailsAt T skips d f line text m r → FailsAt T skips d f line text n q → (m ≡ n) × (r ≡ q)
+  pub one_fault : (f : ItemForm) (line text : List ℕ) (m n : ℕ) (r q : ScriptReason)
+      → FailsAt T skips d f line text m r → FailsAt T skips d f line text n q → (m ≡ n) × (r ≡ q)
   one_fault f line text m n r q (in_head h e) (in_head k g) = (e ∙ sym g, laws.order r q (h.first q k.stands) (k.first r h.stands))
   one_fault f line text m n r q (in_head h e) (items.in_block ms behind heads breaks g) = absurd (heads.free r h.stands)
   one_fault f line text m n r q (items.in_block ms behind heads breaks e) (in_head k g) = absurd (heads.free q k.stands)
@@ -152,17 +171,21 @@ module _ (laws : Laws) (T : Table) (skips : Bool) (d : Declared) where
 
   -- ---- never both
 
-  gives_or_breaks : (f : ItemForm) (ms : List Meaning) (text : List ℕ) (i : Item) (x : List ℕ) (n : ℕ) (r : ScriptReason) → Gives T skips d f ms text i x → BreaksIn T skips f text n r → ⊥
+  gives_or_breaks : (f : ItemForm) (ms : List Meaning) (text : List ℕ) (i : Item) (x : List ℕ) (n : ℕ)
+      (r : ScriptReason) → Gives T skips d f ms text i x → BreaksIn T skips f text n r → ⊥
   gives_or_breaks of.Access ms text i x n r h k =
-      block_or_break (access_faults.IsFirstFault T) (laws.one_access_fault T) skips text h.1.inner x n r h.1.block (λ j q first. laws.access_or_fault T (kept skips h.1.inner) h.0 j q h.1.text_of first) k
+      block_or_break (access_faults.IsFirstFault T) (laws.one_access_fault T) skips text h.1.inner x n r h.1.block
+      (λ j q first. laws.access_or_fault T (kept skips h.1.inner) h.0 j q h.1.text_of first) k
   gives_or_breaks of.Redact ms text i x n r h k =
-      block_or_break (redact_faults.IsFirstFault T) (laws.one_redact_fault T) skips text h.1.inner x n r h.1.block (λ j q first. laws.redact_or_fault T (kept skips h.1.inner) h.0 j q h.1.text_of first) k
+      block_or_break (redact_faults.IsFirstFault T) (laws.one_redact_fault T) skips text h.1.inner x n r h.1.block
+      (λ j q first. laws.redact_or_fault T (kept skips h.1.inner) h.0 j q h.1.text_of first) k
   gives_or_breaks of.Tenant ms text i x n r h k = k
   gives_or_breaks of.Rate ms text i x n r h k = k
   gives_or_breaks of.Quota ms text i x n r h k = k
   gives_or_breaks of.Count ms text i x n r h k = k
 
-  pub not_both : (f : ItemForm) (line text : List ℕ) (i : Item) (x : List ℕ) (n : ℕ) (r : ScriptReason) → Declares T skips d f line text i x → FailsAt T skips d f line text n r → ⊥
+  pub not_both : (f : ItemForm) (line text : List ℕ) (i : Item) (x : List ℕ) (n : ℕ) (r : ScriptReason)
+      → Declares T skips d f line text i x → FailsAt T skips d f line text n r → ⊥
   not_both f line text i x n r h (in_head k g) = h.heads.free r k.stands
   not_both f line text i x n r h (items.in_block ms behind heads breaks g) = gives_or_breaks f h.meanings text i x behind r h.gives breaks
 
@@ -189,13 +212,33 @@ module _ (laws : Laws) (T : Table) (skips : Bool) (d : Declared) where
       let q = some_quota ms (tenant_place d (name_at ms 3)) refl (not_not (is_some (tenant_place d (name_at ms 3))) has) in
       inl (named (name_at ms 1) q.0, text, record { meanings = ms; heads = heads; gives = (q.0, q.1, refl, refl) })
   some_gives of.Access line text ms heads has =
-      elim (some_block (access_faults.IsFirstFault T) (laws.one_access_fault T) (λ lines. (p : AccessPolicy) × access_texts.IsTextOf T lines p) skips text (laws.some_access T) (λ lines k why sound first. laws.access_or_fault T lines sound.0 k why sound.1 first)) [
-        | inl block ↦ inl (named (name_at ms 1) (policy.Access block.3.0), block.1, record { meanings = ms; heads = heads; gives = (block.3.0, record { inner = block.0; block = block.2; text_of = block.3.1 }, refl) })
+      elim (some_block (access_faults.IsFirstFault T) (laws.one_access_fault T) (λ lines. (p : AccessPolicy)
+      × access_texts.IsTextOf T lines p) skips text (laws.some_access T)
+      (λ lines k why sound first. laws.access_or_fault T lines sound.0 k why sound.1 first)) [
+        | inl block ↦ inl (
+          named (name_at ms 1) (policy.Access block.3.0),
+          block.1,
+          record {
+            meanings = ms;
+            heads = heads;
+            gives = (block.3.0, record { inner = block.0; block = block.2; text_of = block.3.1 }, refl);
+          },
+        )
         | inr bad ↦ inr (1 + bad.0, bad.1, items.in_block ms bad.0 heads bad.2 refl)
       ]
   some_gives of.Redact line text ms heads has =
-      elim (some_block (redact_faults.IsFirstFault T) (laws.one_redact_fault T) (λ lines. (p : List Clear) × redact_texts.IsTextOf T lines p) skips text (laws.some_redact T) (λ lines k why sound first. laws.redact_or_fault T lines sound.0 k why sound.1 first)) [
-        | inl block ↦ inl (named (name_at ms 1) (policy.Redact block.3.0), block.1, record { meanings = ms; heads = heads; gives = (block.3.0, record { inner = block.0; block = block.2; text_of = block.3.1 }, refl) })
+      elim (some_block (redact_faults.IsFirstFault T) (laws.one_redact_fault T)
+      (λ lines. (p : List Clear) × redact_texts.IsTextOf T lines p) skips text (laws.some_redact T)
+      (λ lines k why sound first. laws.redact_or_fault T lines sound.0 k why sound.1 first)) [
+        | inl block ↦ inl (
+          named (name_at ms 1) (policy.Redact block.3.0),
+          block.1,
+          record {
+            meanings = ms;
+            heads = heads;
+            gives = (block.3.0, record { inner = block.0; block = block.2; text_of = block.3.1 }, refl);
+          },
+        )
         | inr bad ↦ inr (1 + bad.0, bad.1, items.in_block ms bad.0 heads bad.2 refl)
       ]
 

@@ -34,14 +34,19 @@ swapped true false v w o apart = refl
 swapped false true v w o apart = refl
 swapped false false v w o apart = refl
 
-pub at_insert : (name : List ℕ) (es : List (Vec ℕ × ℕ)) (key : Vec ℕ) (v : ℕ) → at_name name (insert_entry by_items es key v) ≡ cond (bytes_eq name key.items) (Some v) (at_name name es)
+pub at_insert : (name : List ℕ) (es : List (Vec ℕ × ℕ)) (key : Vec ℕ) (v : ℕ)
+    → at_name name (insert_entry by_items es key v) ≡ cond (bytes_eq name key.items) (Some v) (at_name name es)
 at_insert name [] key v = at_cons name key v []
 at_insert name (e ∷ es) key v =
-    elim (by_items key e.0) as (λ (o : Ordering). by_items key e.0 ≡ o → at_name name (match_ordering o ((key, v) ∷ e ∷ es) ((e.0, v) ∷ es) (e ∷ insert_entry by_items es key v)) ≡ cond (bytes_eq name key.items) (Some v) (at_name name (e ∷ es))) [
+    elim (by_items key e.0) as (λ (o : Ordering). by_items key e.0 ≡ o
+    → at_name name (match_ordering o ((key, v) ∷ e ∷ es) ((e.0, v) ∷ es) (e ∷ insert_entry by_items es key v))
+    ≡ cond (bytes_eq name key.items) (Some v) (at_name name (e ∷ es))) [
       | Less ↦ λ is. at_cons name key v (e ∷ es)
       | Equal ↦ λ is.
           let same : key.items ≡ e.0.items = (bytes_eq-Decides key.items e.0.items).0 (sym (is_eq-slice_cmp key.items e.0.items) ∙ ap is_eq is) in
-          at_cons name e.0 v es ∙ twice (bytes_eq name e.0.items) v e.1 (at_name name es) ∙ ap (λ (bs : List ℕ). cond (bytes_eq name bs) (Some v) (cond (bytes_eq name e.0.items) (Some e.1) (at_name name es))) (sym same)
+          at_cons name e.0 v es ∙ twice (bytes_eq name e.0.items) v e.1 (at_name name es)
+          ∙ ap (λ (bs : List ℕ). cond (bytes_eq name bs) (Some v)
+          (cond (bytes_eq name e.0.items) (Some e.1) (at_name name es))) (sym same)
           ∙ ap (cond (bytes_eq name key.items) (Some v)) (sym (at_cons name e.0 e.1 es))
       | Greater ↦ λ is.
           let apart : bytes_eq name key.items ≡ true → bytes_eq name e.0.items ≡ true → ⊥ = λ a b.
@@ -52,7 +57,8 @@ at_insert name (e ∷ es) key v =
     ] refl
 
 -- one more policy
-pub finds_more : (old new : List (Vec ℕ × ℕ)) (policies : List NamedPolicy) (p : NamedPolicy) (key : Vec ℕ) (name : List ℕ) → key.items ≡ p.name → position (λ (q : NamedPolicy). bytes_eq q.name p.name) policies ≡ None
+pub finds_more : (old new : List (Vec ℕ × ℕ)) (policies : List NamedPolicy) (p : NamedPolicy) (key : Vec ℕ)
+    (name : List ℕ) → key.items ≡ p.name → position (λ (q : NamedPolicy). bytes_eq q.name p.name) policies ≡ None
     → at_name name old ≡ position (λ (q : NamedPolicy). bytes_eq q.name name) policies → new ≡ insert_entry by_items old key (length policies)
     → at_name name new ≡ position (λ (q : NamedPolicy). bytes_eq q.name name) (policies ++ p ∷ [])
 finds_more old new policies p key name own unused found inserted =

@@ -19,7 +19,8 @@ number_said least most w (unbounded d) h = absurd h
 number_said least most w (name x) h = absurd h
 
 -- a word is a number in its range
-pub number_there : (sorts : List Sort) (ws : List (List ℕ)) (ms : List Meaning) (i least most : ℕ) → AreSaid sorts ws ms → slice_get sorts i ≡ Some (Number least most) → IsIn least most (number_at ms i)
+pub number_there : (sorts : List Sort) (ws : List (List ℕ)) (ms : List Meaning) (i least most : ℕ)
+    → AreSaid sorts ws ms → slice_get sorts i ≡ Some (Number least most) → IsIn least most (number_at ms i)
 number_there [] ws ms i least most h at = absurd cc
 number_there (s ∷ sorts) [] ms i least most h at = absurd h
 number_there (s ∷ sorts) (w ∷ ws) [] i least most h at = absurd h

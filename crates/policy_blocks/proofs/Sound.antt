@@ -87,7 +87,8 @@ knows_more m n (policy.Rate r) more h = tt
 knows_more m n policy.Count more h = tt
 knows_more m n (policy.Redact r) more h = tt
 
-tenant_sound : (d : Declared) (t : Tenant) → IsSound d → (Contains (tenant_names d) t.name → ⊥) → length d.tenants < 16 → IsName t.name → IsWindow t → IsSound (with_item d (item.Tenant t))
+tenant_sound : (d : Declared) (t : Tenant) → IsSound d → (Contains (tenant_names d) t.name → ⊥)
+    → length d.tenants < 16 → IsName t.name → IsWindow t → IsSound (with_item d (item.Tenant t))
 tenant_sound d t s new room name window = record {
   few = omega (arith, length_push d.tenants t, room);
   tenants_distinct = names_distinct (λ (u : Tenant). u.name) d.tenants t s.tenants_distinct new;
@@ -103,7 +104,9 @@ tenant_sound d t s new room name window = record {
 
 -- ---- one policy more
 
-policy_sound : (d : Declared) (name : List ℕ) (p : ThePolicy) → IsSound d → (Contains (policy_names d) name → ⊥) → IsName name → IsPolicy p → KnowsTenantOf (λ place. place < length d.tenants) p → IsSound (with_item d (named name p))
+policy_sound : (d : Declared) (name : List ℕ) (p : ThePolicy) → IsSound d → (Contains (policy_names d) name → ⊥)
+    → IsName name → IsPolicy p → KnowsTenantOf (λ place. place < length d.tenants) p
+    → IsSound (with_item d (named name p))
 policy_sound d name p s new is_name ranges known = record {
   few = s.few;
   tenants_distinct = s.tenants_distinct;

@@ -10,7 +10,7 @@ use mrpc_table::{Bytes, Lines, Memory, RuleFault, cut, line_count};
 use script_words::{ScriptFault, ScriptReason};
 use std::alloc::Global;
 
-/// The line behind the last one of a policy.
+// The line behind the last one of a policy.
 const END: &[u8] = b"end";
 
 /// The lines of a policy that say something of it, and what stands behind its `end`; none where it has no `end`.
@@ -20,21 +20,21 @@ pub(crate) struct Block<'a> {
     pub rest: Option<&'a [u8]>,
 }
 
-/// Whether a line is empty, or begins with `#`.
+// Whether a line is empty, or begins with `#`.
 fn is_skipped(line: &[u8]) -> bool
     ensures { result ≡ is_skipped line.now }
 {
     matches!(line, [] | [b'#', ..])
 }
 
-/// Whether it is the line behind the last one of a policy.
+// Whether it is the line behind the last one of a policy.
 fn is_end(line: &[u8]) -> bool
     ensures { result ≡ bytes_eq line.now end_line }
 {
     line == END
 }
 
-/// Whether the line says something of the policy.
+// Whether the line says something of the policy.
 fn is_kept(skips: bool, line: &[u8]) -> bool
     ensures { result ≡ is_kept skips line.now }
 {
@@ -68,7 +68,7 @@ pub(crate) fn read_block<'a>(
     Ok(Block { lines, rest: None })
 }
 
-/// Where the kept line of a number stands among the lines of a block, both counted from 1.
+// Where the kept line of a number stands among the lines of a block, both counted from 1.
 fn line_of(text: &[u8], skips: bool, number: u64) -> u64
     ensures line { result ≡ line_at skips (inner_lines text.now) number }
     ensures small { result ≤ length text.now + 1 }

@@ -11,12 +11,22 @@ use std::marker::Model;
 
 /// Tenants and policies in the order in which they are declared, found by their names: a policy by search in an
 /// ordered map, a tenant among the few that there are.
-#[derive(Drop)]
 pub struct Declarations {
     tenants: Sequence<Tenant>,
     policies: Sequence<NamedPolicy>,
     /// Where each policy stands.
     places: BTreeMap<Vec<u8>, usize>,
+}
+
+// By hand, so that a drop is one call where it is needed, and not a drop of each part.
+impl Drop for Declarations {
+    fn drop(self) {
+        let Declarations {
+            tenants: _tenants,
+            policies: _policies,
+            places: _places,
+        } = self;
+    }
 }
 
 impl Model for Declarations {

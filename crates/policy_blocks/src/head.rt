@@ -12,14 +12,14 @@ use crate::item_form::ItemForm;
 use crate::limits::MAX_TENANTS;
 use script_words::{Judged, Said, ScriptReason, judge, name_at, one_judgement};
 
-/// Whether no tenant more may be declared, where the item is one.
+// Whether no tenant more may be declared, where the item is one.
 fn is_full(declared: &Declarations, form: ItemForm) -> bool
     ensures { result ≡ is_full declared.now form }
 {
     form.is_tenant() && declared.tenants().len() >= MAX_TENANTS
 }
 
-/// Whether the name of the item is taken.
+// Whether the name of the item is taken.
 fn is_known(declared: &Declarations, form: ItemForm, words: &[Said<'_>]) -> bool
     ensures { result ≡ is_known declared.now form (meanings_of words.now) }
 {
@@ -31,7 +31,7 @@ fn is_known(declared: &Declarations, form: ItemForm, words: &[Said<'_>]) -> bool
     }
 }
 
-/// Whether the item is a quota of a tenant that isn't declared.
+// Whether the item is a quota of a tenant that isn't declared.
 fn lacks_tenant(declared: &Declarations, form: ItemForm, words: &[Said<'_>]) -> bool
     ensures { result ≡ lacks_tenant declared.now form (meanings_of words.now) }
 {

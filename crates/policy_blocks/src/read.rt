@@ -106,7 +106,7 @@ fn tenant_of(alloc: Global, words: &[Said<'_>]) -> Result<Item, Memory>
     }))
 }
 
-/// The policy under the name that stands behind `policy`.
+// The policy under the name that stands behind `policy`.
 fn named(alloc: Global, words: &[Said<'_>], policy: Policy) -> Result<Item, Memory>
     ensures { IfOk result (λ i. i ≡ named (name_at (meanings_of words.now) 1) policy) }
 {

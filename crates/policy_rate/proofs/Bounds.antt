@@ -53,7 +53,8 @@ paid_for first start past (upgrade new ∷ recent) paid same = absurd same
 
 pub charges-le : (first : Rate) (start : ℕ) (past recent : List BucketHappening) → IsRate (rate_after first past)
     → IsPaid first start (recent ++ past) → HasNoUpgrade recent
-    → charges recent ≤ (full_level (rate_after first past) + (rate_after first past).amount * (moment_after start (recent ++ past) - moment_after start past)) / (rate_after first past).per
+    → charges recent ≤ (full_level (rate_after first past) + (rate_after first past).amount *
+    (moment_after start (recent ++ past) - moment_after start past)) / (rate_after first past).per
 charges-le first start past recent rate paid same =
     let costs : 0 < (rate_after first past).per = omega (arith, rate.per_from) in
     (le-div_iff_mul-le costs).1 (omega (arith, paid_for first start past recent paid same, level-le-full first start past))

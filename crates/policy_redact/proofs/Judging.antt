@@ -79,7 +79,8 @@ by_field T line q l method false p e i k f is = no_method l method e i (at_least
 by_field T line q l method true None e i k f is = no_field l method e i f cc
 by_field T line q l method true (Some p) e i k f is = absurd cc
 
-by_index : (T : Table) (line : List ℕ) (q : RuleReason) (l : ClearLine) (index : Option ℕ) → line_of line ≡ Some l → index_of l.index ≡ index → said_of T l index ≡ Err q → IsAgainst T line q
+by_index : (T : Table) (line : List ℕ) (q : RuleReason) (l : ClearLine) (index : Option ℕ) → line_of line ≡ Some l
+    → index_of l.index ≡ index → said_of T l index ≡ Err q → IsAgainst T line q
 by_index T line q l None e i is = large_index l e i cc
 by_index T line q l (Some method) e i is =
     by_field T line q l method (nat_lt method (length T.methods)) (path_in T (message_of T method l.sort) l.path) e i refl refl is

@@ -1,5 +1,6 @@
 -- The paths that are listed for a call.
-use Rattle.std.proofs.Common.{◌≡◌, ℕ, ◌+◌, ◌<◌, ◌||◌, ◌&&◌, Bool, true, false, List, [], ◌∷◌, ◌++◌, length, get_or, take, refl, ap, sym, subst, ◌∙◌, arith}
+use Rattle.std.proofs.Common.{◌≡◌, ℕ, ◌+◌, ◌<◌, ◌||◌, ◌&&◌, Bool, true, false, List, [], ◌∷◌, ◌++◌, length, get_or}
+use Rattle.std.proofs.Common.{take, refl, ap, sym, subst, ◌∙◌, arith}
 use Rattle.std.specs.Prelude.{Contains, ◌↔◌}
 use Rattle.std.specs.Bool.{OnTrue, OnFalse}
 use Rattle.std.specs.List.{list_any}
@@ -70,7 +71,9 @@ pub one-more : (clears : List Clear) (i : ℕ) (clear : Clear) (call : Call) →
 one-more clears i clear call within at =
     ap (λ (cs : List Clear). cleared cs call) (take_more clears i clear within ∙ ap (λ (c : Clear). take i clears ++ c ∷ []) (sym at))
     ∙ without-same (is_listed (take i clears ++ clear ∷ []) call) (λ path. is_listed (take i clears) call path || (is_for clear call && is_at clear path)) call.tree
-    (λ path. list_any-append (λ (c : Clear). is_for c call && is_at c path) (take i clears) (clear ∷ []) ∙ ap (λ (b : Bool). is_listed (take i clears) call path || b) (or_false (is_for clear call && is_at clear path)))
+    (λ path. list_any-append (λ (c : Clear). is_for c call && is_at c path) (take i clears) (clear ∷ [])
+    ∙ ap (λ (b : Bool). is_listed (take i clears) call path || b)
+    (or_false (is_for clear call && is_at clear path)))
     ∙ sym (without-without (is_listed (take i clears) call) (λ path. is_for clear call && is_at clear path) call.tree)
 
 -- what the clears leave ascends
@@ -81,7 +84,8 @@ pub nothing-listed : (call : Call) → cleared [] call ≡ call.tree
 nothing-listed call = without-nothing call.tree
 
 -- the call that one line more leaves
-pub more-cleared : (clears : List Clear) (i : ℕ) (clear : Clear) (call now next : Call) → i < length clears → clear ≡ get_or clears i clear → now ≡ cleared_call (take i clears) call
+pub more-cleared : (clears : List Clear) (i : ℕ) (clear : Clear) (call now next : Call) → i < length clears
+    → clear ≡ get_or clears i clear → now ≡ cleared_call (take i clears) call
     → next ≡ record now { tree = without (λ path. is_for clear now && is_at clear path) now.tree } → next ≡ cleared_call (take (i + 1) clears) call
 more-cleared clears i clear call now next within at so_far step =
     step

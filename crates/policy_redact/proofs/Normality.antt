@@ -26,7 +26,9 @@ both m a b le = omega arith
 members : (fs : List Field) (o : ℕ) (p : List ℕ → Bool) (t : Node) → members_in fs o (without p t) ≤ members_in fs o t
 members fs o p no_fields = omega arith
 members fs o p (field n c t) =
-    elim (p (n ∷ [])) as (λ (b : Bool). members_in fs o (if b then without p t else field n (content_without (λ path. p (n ∷ path)) c) (without p t)) ≤ members_in fs o (field n c t)) [
+    elim (p (n ∷ [])) as
+    (λ (b : Bool). members_in fs o (if b then without p t else field n (content_without (λ path. p (n ∷ path)) c)
+    (without p t)) ≤ members_in fs o (field n c t)) [
       | true ↦ fewer (unwrap_or (option_map (λ (f : Field). membership f.label o) (field_at fs n)) 0) _ _ (members fs o p t)
       | false ↦ both (unwrap_or (option_map (λ (f : Field). membership f.label o) (field_at fs n)) 0) _ _ (members fs o p t)
     ]
@@ -46,7 +48,8 @@ mutual
   depths p (field n c t) =
       elim (p (n ∷ [])) as (λ (b : Bool). depth (if b then without p t else field n (content_without (λ path. p (n ∷ path)) c) (without p t)) ≤ max (content_depth c) (depth t)) [
         | true ↦ deeper (content_depth c) (depth (without p t)) (depth t) (depths p t)
-        | false ↦ as_deep (content_depth (content_without (λ path. p (n ∷ path)) c)) (content_depth c) (depth (without p t)) (depth t) (content_depths (λ path. p (n ∷ path)) c) (depths p t)
+        | false ↦ as_deep (content_depth (content_without (λ path. p (n ∷ path)) c)) (content_depth c)
+            (depth (without p t)) (depth t) (content_depths (λ path. p (n ∷ path)) c) (depths p t)
       ]
 
   content_depths : (p : List ℕ → Bool) (c : Content) → content_depth (content_without p c) ≤ content_depth c

@@ -1,5 +1,7 @@
 -- Lines in front of a place, and one more; texts and first faults.
-use Rattle.std.proofs.Common.{◌≡◌, ℕ, zero, suc, ◌+◌, ◌-◌, ◌<◌, ◌≤◌, ◌==◌, ◌⊎◌, List, [], ◌∷◌, ◌++◌, length, get_or, take, drop, Option, Some, Result, Ok, Err, refl, sym, ap, subst, ◌∙◌, arith, inl, inr, add-one}
+use Rattle.std.proofs.Common.{◌≡◌, ℕ, zero, suc, ◌+◌, ◌-◌, ◌<◌, ◌≤◌, ◌==◌, ◌⊎◌, List, [], ◌∷◌, ◌++◌, length, get_or}
+use Rattle.std.proofs.Common.{take, drop, Option, Some, Result, Ok, Err, refl, sym, ap, subst, ◌∙◌, arith, inl, inr}
+use Rattle.std.proofs.Common.{add-one}
 use Rattle.std.specs.Prelude.{slice_get, if◌then◌else◌, IfOk, IfErr, MatchResult}
 use Rattle.std.proofs.lemmas.List.{take_more, take_all}
 use Rattle.std.proofs.lemmas.Option.{slice_get_within, slice_get_read, get_or_from_slice_get}
@@ -46,7 +48,9 @@ said-same T (l ∷ ls) (c ∷ cs) [] a b = absurd b
 said-same T (l ∷ ls) (c ∷ cs) (d ∷ ds) a b =
     ap (λ (e : Clear). e ∷ cs) (some_same (said_clear T l) c d a.0 b.0) ∙ ap (λ (es : List Clear). d ∷ es) (said-same T ls cs ds a.1 b.1)
 
-said-at : (T : Table) (lines : List (List ℕ)) (clears : List Clear) (i : ℕ) (line : List ℕ) → SayEach (said_clear T) lines clears → slice_get lines i ≡ Some line → (clear : Clear) × (said_clear T line ≡ Some clear)
+said-at : (T : Table) (lines : List (List ℕ)) (clears : List Clear) (i : ℕ) (line : List ℕ)
+    → SayEach (said_clear T) lines clears → slice_get lines i ≡ Some line
+    → (clear : Clear) × (said_clear T line ≡ Some clear)
 said-at T [] clears i line each at = absurd cc
 said-at T (l ∷ ls) [] i line each at = absurd each
 said-at T (l ∷ ls) (c ∷ cs) zero line each at = let same : l ≡ line = cc in (c, subst (λ (k : List ℕ). said_clear T k ≡ Some c) same each.0)
@@ -61,7 +65,8 @@ same_line : (o : Option (List ℕ)) (a b : List ℕ) → o ≡ Some a → o ≡ 
 same_line o a b e d = cc
 
 -- of the first 64 lines only the line itself speaks
-here-to : (T : Table) (lines : List (List ℕ)) (i : ℕ) (line : List ℕ) (q : RuleReason) → i < 64 → slice_get lines i ≡ Some line → IsAgainstAt T lines i q → said_in T (line_of line) ≡ Err q
+here-to : (T : Table) (lines : List (List ℕ)) (i : ℕ) (line : List ℕ) (q : RuleReason) → i < 64
+    → slice_get lines i ≡ Some line → IsAgainstAt T lines i q → said_in T (line_of line) ≡ Err q
 here-to T lines i line q few at (at_line other e a) =
     let same = same_line (slice_get lines i) other line e at in subst (λ (l : List ℕ). said_in T (line_of l) ≡ Err q) same (answers T other q a)
 here-to T lines i line q few at (too_many within many is) = absurd (omega arith)
@@ -82,14 +87,18 @@ take_next : (lines : List (List ℕ)) (i : ℕ) (line : List ℕ) → slice_get 
 take_next lines i line at =
     take_more lines i line (slice_get_within lines i line at) ∙ ap (λ (l : List ℕ). take i lines ++ l ∷ []) (get_or_from_slice_get lines i line line at)
 
-pub read-push : (T : Table) (lines : List (List ℕ)) (i : ℕ) (clears : List Clear) (line : List ℕ) (clear : Clear) → AreRead T lines i clears → i < 64 → slice_get lines i ≡ Some line
+pub read-push : (T : Table) (lines : List (List ℕ)) (i : ℕ) (clears : List Clear) (line : List ℕ) (clear : Clear)
+    → AreRead T lines i clears → i < 64 → slice_get lines i ≡ Some line
     → said_in T (line_of line) ≡ Ok clear → AreRead T lines (i + 1) (clears ++ clear ∷ [])
 read-push T lines i clears line clear read few at e = record {
   some = read.some;
   within = omega (arith, slice_get_within lines i line at);
   few = omega arith;
-  said = subst (λ (ls : List (List ℕ)). SayEach (said_clear T) ls (clears ++ clear ∷ [])) (sym (take_next lines i line at)) (said-push T (take i lines) clears line clear read.said (says T line clear e));
-  clean = λ j q lt. below_or_at i (λ k. IsAgainstAt T lines k q → ⊥) (λ k less. read.clean k q less) (λ a. not_both (said_in T (line_of line)) clear q e (here-to T lines i line q few at a)) j lt;
+  said = subst (λ (ls : List (List ℕ)). SayEach (said_clear T) ls (clears ++ clear ∷ []))
+      (sym (take_next lines i line at))
+      (said-push T (take i lines) clears line clear read.said (says T line clear e));
+  clean = λ j q lt. below_or_at i (λ k. IsAgainstAt T lines k q → ⊥) (λ k less. read.clean k q less)
+      (λ a. not_both (said_in T (line_of line)) clear q e (here-to T lines i line q few at a)) j lt;
 }
 
 pub read-nothing : (T : Table) (lines : List (List ℕ)) → 0 < length lines → AreRead T lines 0 []
@@ -106,7 +115,8 @@ read-nothing T lines some = record {
 order_same : (p q : RuleReason) → order_of p < order_of q → q ≡ p → ⊥
 order_same p q lt same = omega (arith, ap order_of same)
 
-pub fault-here : (T : Table) (lines : List (List ℕ)) (i : ℕ) (clears : List Clear) (line : List ℕ) (q : RuleReason) → AreRead T lines i clears → i < 64 → slice_get lines i ≡ Some line
+pub fault-here : (T : Table) (lines : List (List ℕ)) (i : ℕ) (clears : List Clear) (line : List ℕ) (q : RuleReason)
+    → AreRead T lines i clears → i < 64 → slice_get lines i ≡ Some line
     → said_in T (line_of line) ≡ Err q → IsFirstFault T lines (i + 1) q
 fault-here T lines i clears line q read few at e =
     let same : i ≡ i + 1 - 1 = omega arith in
@@ -118,7 +128,8 @@ fault-here T lines i clears line q read few at e =
       none_before = λ j p lt. read.clean j p (omega arith);
     }
 
-pub fault-many : (T : Table) (lines : List (List ℕ)) (i : ℕ) (clears : List Clear) → AreRead T lines i clears → 64 ≤ i → i < length lines → IsFirstFault T lines (i + 1) reason.Word
+pub fault-many : (T : Table) (lines : List (List ℕ)) (i : ℕ) (clears : List Clear) → AreRead T lines i clears → 64 ≤ i
+    → i < length lines → IsFirstFault T lines (i + 1) reason.Word
 fault-many T lines i clears read many within =
     let same : i ≡ i + 1 - 1 = omega arith in
     record {
@@ -156,7 +167,8 @@ no-fault T lines clears t i q (no_line none z is) = omega (arith, length-said T 
 pub text-or-fault : (T : Table) (lines : List (List ℕ)) (policy : List Clear) (line : ℕ) (q : RuleReason) → IsTextOf T lines policy → IsFirstFault T lines line q → ⊥
 text-or-fault T lines policy line q t f = no-fault T lines policy t (line - 1) q f.here
 
-pub only-it : (T : Table) (lines : List (List ℕ)) (r : Result (List Clear) RuleFault) (policy : List Clear) → IfOk r (λ p. IsTextOf T lines p) → IfErr r (λ e. IsFaultOf T lines e) → IsTextOf T lines policy
+pub only-it : (T : Table) (lines : List (List ℕ)) (r : Result (List Clear) RuleFault) (policy : List Clear)
+    → IfOk r (λ p. IsTextOf T lines p) → IfErr r (λ e. IsFaultOf T lines e) → IsTextOf T lines policy
     → MatchResult r (λ p. p ≡ policy) (λ e. e ≡ fault.Memory)
 only-it T lines (Ok p) policy text _ t = one-policy T lines p policy text t
 only-it T lines (Err (fault.At line q)) policy text f t = absurd (text-or-fault T lines policy line q t f)
@@ -224,7 +236,8 @@ rest-either T lines (line ∷ rest) i front read here =
     at : slice_get lines i ≡ Some line
     at = at_drop lines i line rest here
 
-    go : ((clear : Clear) → AreRead T lines (i + 1) (front ++ clear ∷ []) → TextOrFault T lines) → (i < 64) ⊎ (64 ≤ i) → (r : Result Clear RuleReason) → said_in T (line_of line) ≡ r → TextOrFault T lines
+    go : ((clear : Clear) → AreRead T lines (i + 1) (front ++ clear ∷ []) → TextOrFault T lines) → (i < 64) ⊎ (64 ≤ i)
+        → (r : Result Clear RuleReason) → said_in T (line_of line) ≡ r → TextOrFault T lines
     go on (inr many) r is = inr (i + 1, reason.Word, fault-many T lines i front read many (slice_get_within lines i line at))
     go on (inl few) (Err q) is = inr (i + 1, q, fault-here T lines i front line q read few at is)
     go on (inl few) (Ok clear) is = on clear (read-push T lines i front line clear read few at is)
@@ -235,17 +248,21 @@ text-or-first-fault T (line ∷ lines) = rest-either T (line ∷ lines) (line �
 
 -- ---- what the reader found
 
-pub fault-found : (T : Table) (lines : List (List ℕ)) (i : ℕ) (clears : List Clear) (line : List ℕ) (q : RuleReason) (e : RuleFault) → AreRead T lines i clears → i < 64 → i < length lines → line ≡ get_or lines i line
+pub fault-found : (T : Table) (lines : List (List ℕ)) (i : ℕ) (clears : List Clear) (line : List ℕ) (q : RuleReason)
+    (e : RuleFault) → AreRead T lines i clears → i < 64 → i < length lines → line ≡ get_or lines i line
     → said_in T (line_of line) ≡ Err q → e ≡ fault.At (i + 1) q → IsFaultOf T lines e
 fault-found T lines i clears line q e read few within at is stands = rw stands (fault-here T lines i clears line q read few (slice_get_read lines (length lines) i line refl within at) is)
 
-pub fault-beyond : (T : Table) (lines : List (List ℕ)) (i : ℕ) (clears : List Clear) (e : RuleFault) → AreRead T lines i clears → 64 ≤ i → i < length lines → e ≡ fault.At (i + 1) reason.Word → IsFaultOf T lines e
+pub fault-beyond : (T : Table) (lines : List (List ℕ)) (i : ℕ) (clears : List Clear) (e : RuleFault)
+    → AreRead T lines i clears → 64 ≤ i → i < length lines → e ≡ fault.At (i + 1) reason.Word → IsFaultOf T lines e
 fault-beyond T lines i clears e read many within stands = rw stands (fault-many T lines i clears read many within)
 
-pub read-next : (T : Table) (lines : List (List ℕ)) (i : ℕ) (clears more : List Clear) (line : List ℕ) (clear : Clear) → AreRead T lines i clears → i < 64 → i < length lines → line ≡ get_or lines i line
+pub read-next : (T : Table) (lines : List (List ℕ)) (i : ℕ) (clears more : List Clear) (line : List ℕ) (clear : Clear)
+    → AreRead T lines i clears → i < 64 → i < length lines → line ≡ get_or lines i line
     → said_in T (line_of line) ≡ Ok clear → more ≡ clears ++ clear ∷ [] → AreRead T lines (i + 1) more
 read-next T lines i clears more line clear read few within at is pushed =
     subst (λ (cs : List Clear). AreRead T lines (i + 1) cs) (sym pushed) (read-push T lines i clears line clear read few (slice_get_read lines (length lines) i line refl within at) is)
 
-pub text-read : (T : Table) (lines : List (List ℕ)) (i : ℕ) (clears policy : List Clear) → AreRead T lines i clears → length lines ≤ i → policy ≡ clears → IsTextOf T lines policy
+pub text-read : (T : Table) (lines : List (List ℕ)) (i : ℕ) (clears policy : List Clear) → AreRead T lines i clears
+    → length lines ≤ i → policy ≡ clears → IsTextOf T lines policy
 text-read T lines i clears policy read last same = subst (λ (cs : List Clear). IsTextOf T lines cs) (sym same) (text-end T lines i clears read last)

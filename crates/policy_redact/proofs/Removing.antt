@@ -1,5 +1,7 @@
 -- A field that is removed from a list of fields, or changed in it.
-use Rattle.std.proofs.Common.{◌≡◌, ◌≢◌, ℕ, zero, suc, ◌<◌, ◌≤◌, ◌==◌, Bool, true, false, if◌then◌else◌, List, [], ◌∷◌, ◌++◌, length, get_or, set, take, drop, ◌-◌, Option, Some, None, refl, ap, sym, subst, ◌∙◌, arith}
+use Rattle.std.proofs.Common.{◌≡◌, ◌≢◌, ℕ, zero, suc, ◌<◌, ◌≤◌, ◌==◌, Bool, true, false, if◌then◌else◌, List, [], ◌∷◌}
+use Rattle.std.proofs.Common.{◌++◌, length, get_or, set, take, drop, ◌-◌, Option, Some, None, refl, ap, sym, subst}
+use Rattle.std.proofs.Common.{◌∙◌, arith}
 use Rattle.std.specs.Prelude.{remove}
 use Rattle.std.specs.Str.{bytes_eq}
 use Rattle.std.proofs.lemmas.Bool.{eq-eqb}
@@ -54,7 +56,8 @@ lighter (f ∷ fs) (suc i) within = omega (arith, lighter fs i (omega arith))
 
 -- ---- a field that changes inside
 
-pub changed-inside : (fs : List (ℕ × FieldValue)) (last n m i : ℕ) (path : List ℕ) (d v : ℕ × FieldValue) → AscendsFrom last (node_of fs) → i < length fs → (get_or fs i d).0 ≡ n → v.0 ≡ n
+pub changed-inside : (fs : List (ℕ × FieldValue)) (last n m i : ℕ) (path : List ℕ) (d v : ℕ × FieldValue)
+    → AscendsFrom last (node_of fs) → i < length fs → (get_or fs i d).0 ≡ n → v.0 ≡ n
     → content_of v.1 ≡ content_without (bytes_eq (m ∷ path)) (content_of (get_or fs i d).1)
     → node_of (set fs i v) ≡ without (bytes_eq (n ∷ m ∷ path)) (node_of fs)
 changed-inside [] last n m i path d v up within at number content = absurd (omega arith)
@@ -75,7 +78,8 @@ lighter-inside (f ∷ fs) zero d v within less = omega (arith, less)
 lighter-inside (f ∷ fs) (suc i) d v within less = omega (arith, lighter-inside fs i d v (omega arith) less)
 
 -- the same is left where a field has what it had
-pub same-inside : (fs : List (ℕ × FieldValue)) (i : ℕ) (d v : ℕ × FieldValue) → i < length fs → v.0 ≡ (get_or fs i d).0 → content_of v.1 ≡ content_of (get_or fs i d).1 → node_of (set fs i v) ≡ node_of fs
+pub same-inside : (fs : List (ℕ × FieldValue)) (i : ℕ) (d v : ℕ × FieldValue) → i < length fs
+    → v.0 ≡ (get_or fs i d).0 → content_of v.1 ≡ content_of (get_or fs i d).1 → node_of (set fs i v) ≡ node_of fs
 same-inside [] i d v within number content = absurd (omega arith)
 same-inside (f ∷ fs) zero d v within number content = ap (λ (k : ℕ). field k (content_of v.1) (node_of fs)) number ∙ ap (λ (c : Content). field f.0 c (node_of fs)) content
 same-inside (f ∷ fs) (suc i) d v within number content = ap (field f.0 (content_of f.1)) (same-inside fs i d v (omega arith) number content)
@@ -103,7 +107,8 @@ goes_on [] number = (number, [], refl)
 goes_on (m ∷ way) number = (m, way ++ number ∷ [], refl)
 
 -- what a path leaves, where the message that it goes through first has less
-pub stepped : (fs : List (ℕ × FieldValue)) (i : ℕ) (way : List ℕ) (number : ℕ) (f : ℕ × FieldValue) (new : FieldValue) → IsAscending (node_of fs) → 1 ≤ length way → i < length fs
+pub stepped : (fs : List (ℕ × FieldValue)) (i : ℕ) (way : List ℕ) (number : ℕ) (f : ℕ × FieldValue) (new : FieldValue)
+    → IsAscending (node_of fs) → 1 ≤ length way → i < length fs
     → f ≡ get_or fs i f → (get_or fs i f).0 ≡ get_or way 0 0 → content_of new ≡ content_without (bytes_eq (rest_of way ++ number ∷ [])) (content_of f.1)
     → node_of (set fs i (f.0, new)) ≡ without (bytes_eq (way ++ number ∷ [])) (node_of fs)
 stepped fs i way number f new up some within is at content =

@@ -76,7 +76,9 @@ through_last = refl
 a_list_is_cleared : cleared (of_requests (to 1) ∷ []) (request (field 1 (many (item (node two) no_items)) no_fields)) ≡ no_fields
 a_list_is_cleared = refl
 
-no_path_goes_through_a_list : cleared (of_requests (through 1 1) ∷ []) (request (field 1 (many (item (node two) no_items)) no_fields)) ≡ field 1 (many (item (node two) no_items)) no_fields
+no_path_goes_through_a_list : cleared (of_requests (through 1 1) ∷ [])
+    (request (field 1 (many (item (node two) no_items)) no_fields))
+    ≡ field 1 (many (item (node two) no_items)) no_fields
 no_path_goes_through_a_list = refl
 
 -- ---- lines
@@ -102,11 +104,26 @@ a_line : said_clear small (codes "clear method 0 2") ≡ Some (record { method =
 unfolding line_of
 a_line = refl
 
-a_line_of_replies : said_clear small (codes "clear method 0 reply 3.3.1") ≡ Some (record { method = 0; sort = Reply; path = record { way = 3 ∷ 3 ∷ []; number = 1; kind = Uint64; label = Plain } })
+a_line_of_replies : said_clear small (codes "clear method 0 reply 3.3.1")
+    ≡ Some (record {
+      method = 0;
+      sort = Reply;
+      path = record {
+        way = 3 ∷ 3 ∷ [];
+        number = 1;
+        kind = Uint64;
+        label = Plain;
+      };
+    })
 unfolding line_of
 a_line_of_replies = refl
 
-the_last_field_may_be_a_message : said_clear small (codes "clear method 0 3") ≡ Some (record { method = 0; sort = Request; path = record { way = []; number = 3; kind = Message 0; label = Member 0 } })
+the_last_field_may_be_a_message : said_clear small (codes "clear method 0 3")
+    ≡ Some (record {
+      method = 0;
+      sort = Request;
+      path = record { way = []; number = 3; kind = Message 0; label = Member 0 };
+    })
 unfolding line_of
 the_last_field_may_be_a_message = refl
 

@@ -37,13 +37,23 @@ pub struct Number {
 }
 
 /// An import of another file.
-#[derive(Drop)]
 pub struct Import {
     /// What the path's string stands for.
     pub path: Name,
     pub public: bool,
     /// Where the path stands.
     pub span: Span,
+}
+
+// By hand, so that a drop is one call where it is needed, and not a drop of each part.
+impl Drop for Import {
+    fn drop(self) {
+        let Import {
+            path: _path,
+            public: _,
+            span: _,
+        } = self;
+    }
 }
 
 /// Imports in the order of their statements.
@@ -58,7 +68,6 @@ pub enum FieldLabel {
 }
 
 /// The type of a field, as it is written.
-#[derive(Drop)]
 pub enum FieldType {
     /// A scalar, or the name of a message or an enum.
     Named(Word),
@@ -68,8 +77,21 @@ pub enum FieldType {
     NestedMap { key: Word },
 }
 
+// By hand, so that a drop is one call where it is needed, and not a drop of each part.
+impl Drop for FieldType {
+    fn drop(self) {
+        match self {
+            FieldType::Named(_a) => {}
+            FieldType::Map {
+                key: _key,
+                value: _value,
+            } => {}
+            FieldType::NestedMap { key: _key } => {}
+        }
+    }
+}
+
 /// A field of a message.
-#[derive(Drop)]
 pub struct FieldDecl {
     pub name: Word,
     pub number: Number,
@@ -79,6 +101,20 @@ pub struct FieldDecl {
     pub oneof: Option<usize>,
     /// What its last option `packed` says, of those that are `true` or `false`.
     pub packed: Option<bool>,
+}
+
+// By hand, so that a drop is one call where it is needed, and not a drop of each part.
+impl Drop for FieldDecl {
+    fn drop(self) {
+        let FieldDecl {
+            name: _name,
+            number: _number,
+            kind: _kind,
+            label: _label,
+            oneof: _,
+            packed: _,
+        } = self;
+    }
 }
 
 /// Fields in the order of the text.
@@ -114,10 +150,19 @@ pub struct MessageDecl {
 pub type MessageDecls = Sequence<MessageDecl>;
 
 /// A value of an enum.
-#[derive(Drop)]
 pub struct ValueDecl {
     pub name: Word,
     pub number: Number,
+}
+
+// By hand, so that a drop is one call where it is needed, and not a drop of each part.
+impl Drop for ValueDecl {
+    fn drop(self) {
+        let ValueDecl {
+            name: _name,
+            number: _number,
+        } = self;
+    }
 }
 
 /// Values in the order of the text.
@@ -141,11 +186,21 @@ pub struct EnumDecl {
 pub type EnumDecls = Sequence<EnumDecl>;
 
 /// A method of a service.
-#[derive(Drop)]
 pub struct RpcDecl {
     pub name: Word,
     pub input: Word,
     pub output: Word,
+}
+
+// By hand, so that a drop is one call where it is needed, and not a drop of each part.
+impl Drop for RpcDecl {
+    fn drop(self) {
+        let RpcDecl {
+            name: _name,
+            input: _input,
+            output: _output,
+        } = self;
+    }
 }
 
 /// Methods in the order of the text.

@@ -11,11 +11,20 @@ use std::marker::Model;
 pub type Places = Sequence<usize>;
 
 /// What stands at the head of a file among those that are resolved together.
-#[derive(Drop)]
 pub struct Head {
     pub package: Option<Word>,
     /// The files whose types and packages its references may name, itself among them.
     pub sees: Places,
+}
+
+// By hand, so that a drop is one call where it is needed, and not a drop of each part.
+impl Drop for Head {
+    fn drop(self) {
+        let Head {
+            package: _package,
+            sees: _sees,
+        } = self;
+    }
 }
 
 /// Files in the order in which they are resolved.
@@ -56,12 +65,23 @@ impl EnumDecl {
 
 /// What files say that are resolved together, or one alone: the declarations of all of them, file by file, as if their
 /// texts stood one behind another. Clauses see four lists.
-#[derive(Drop)]
 pub struct Joined<'a> {
     heads: &'a [Head],
     messages: &'a [MessageDecl],
     enums: &'a [EnumDecl],
     services: &'a [ServiceDecl],
+}
+
+// By hand, so that a drop is one call where it is needed, and not a drop of each part.
+impl Drop for Joined<'_> {
+    fn drop(self) {
+        let Joined {
+            heads: _,
+            messages: _,
+            enums: _,
+            services: _,
+        } = self;
+    }
 }
 
 impl<'a> Model for Joined<'a> {

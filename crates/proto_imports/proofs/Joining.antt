@@ -1,5 +1,6 @@
 -- The order in which reached files are resolved.
-use Rattle.std.proofs.Common.{◌≡◌, ◌≢◌, ℕ, suc, ◌+◌, ◌<◌, ◌≤◌, inl, inr, false, List, [], ◌∷◌, ◌++◌, length, get_or, take, refl, sym, ap, ◌∙◌, subst, arith, add-one}
+use Rattle.std.proofs.Common.{◌≡◌, ◌≢◌, ℕ, suc, ◌+◌, ◌<◌, ◌≤◌, inl, inr, false, List, [], ◌∷◌, ◌++◌, length, get_or}
+use Rattle.std.proofs.Common.{take, refl, sym, ap, ◌∙◌, subst, arith, add-one}
 use Rattle.std.specs.Prelude.{Contains, All, Some, slice_get}
 use Rattle.std.specs.Borrow.{Bor}
 use Rattle.std.specs.List.Sorted.{IsPermutation, IsSorted}
@@ -52,7 +53,9 @@ others_none set marks pairs e = subst (OthersBefore set marks 1) (sym e) (record
   once = λ p q x a b. absurd cc;
 })
 
-pub others_more : (set : List Member) (marks : List Mark) (i : ℕ) (d : Member) (path : Bor (List ℕ)) (old new : List Pair) → i < length set → 1 ≤ i → slice_get marks i ≡ Some Left → path.now ≡ (get_or set i d).path → new ≡ old ++ (path, i) ∷ [] → OthersBefore set marks i old → OthersBefore set marks (i + 1) new
+pub others_more : (set : List Member) (marks : List Mark) (i : ℕ) (d : Member) (path : Bor (List ℕ))
+    (old new : List Pair) → i < length set → 1 ≤ i → slice_get marks i ≡ Some Left → path.now ≡ (get_or set i d).path
+    → new ≡ old ++ (path, i) ∷ [] → OthersBefore set marks i old → OthersBefore set marks (i + 1) new
 others_more set marks i d path old new l some left is e h =
     let places : places_in (old ++ (path, i) ∷ []) ≡ places_in old ++ i ∷ [] = map_push place_of old (path, i) in
     let at : HasPath set i path.now = subst (HasPath set i) (sym is) (path_of set i d l) in
@@ -78,7 +81,9 @@ others_more set marks i d path old new l some left is e h =
           (once_push (places_in old) i (λ c. (let p = (h.those i).0 c in omega (arith, p.1))) h.once);
     })
 
-pub others_skip : (set : List Member) (marks : List Mark) (i : ℕ) (old new : List Pair) → (slice_get marks i ≡ Some Left → ⊥) → new ≡ old → OthersBefore set marks i old → OthersBefore set marks (i + 1) new
+pub others_skip : (set : List Member) (marks : List Mark) (i : ℕ) (old new : List Pair)
+    → (slice_get marks i ≡ Some Left → ⊥) → new ≡ old → OthersBefore set marks i old
+    → OthersBefore set marks (i + 1) new
 others_skip set marks i old new other e h = subst (OthersBefore set marks (i + 1)) (sym e) (record {
   named = h.named;
   those = λ k. (
@@ -96,7 +101,9 @@ others_skip set marks i old new other e h = subst (OthersBefore set marks (i + 1
 abbrev pub pair_cmp : Pair → Pair → Ordering
 pair_cmp p q = ordering_then (slice_cmp nat_cmp p.0.now q.0.now) (nat_cmp p.1 q.1)
 
-sorted_step : (set : List Member) (sorted : List Pair) → ArePathsApart set → AreNamed set sorted → AreApart (places_in sorted) → IsSorted pair_cmp sorted → (k d : ℕ) → suc k < length sorted → IsPathBelow set (get_or (places_in sorted) k d) (get_or (places_in sorted) (suc k) d)
+sorted_step : (set : List Member) (sorted : List Pair) → ArePathsApart set → AreNamed set sorted
+    → AreApart (places_in sorted) → IsSorted pair_cmp sorted → (k d : ℕ) → suc k < length sorted
+    → IsPathBelow set (get_or (places_in sorted) k d) (get_or (places_in sorted) (suc k) d)
 sorted_step set sorted own named apart ascends k d m =
     let n : k < length sorted = omega arith in
     let x = element sorted k n in
@@ -120,7 +127,9 @@ sorted_step set sorted own named apart ascends k d m =
     let pair : IsPathBelow set x.0.1 y.0.1 = record { lower = x.0.0.now; upper = y.0.0.now; lower_at = xn; upper_at = yn; below = below } in
     subst (λ (i : ℕ). IsPathBelow set i (get_or (places_in sorted) (suc k) d)) (sym xi) (subst (IsPathBelow set x.0.1) (sym yi) pair)
 
-pub others_sorted : (set : List Member) (marks : List Mark) (n : ℕ) (pairs sorted : List Pair) → ArePathsApart set → length marks ≤ n → OthersBefore set marks n pairs → IsPermutation pairs sorted → IsSorted pair_cmp sorted → AreOthers set marks sorted
+pub others_sorted : (set : List Member) (marks : List Mark) (n : ℕ) (pairs sorted : List Pair) → ArePathsApart set
+    → length marks ≤ n → OthersBefore set marks n pairs → IsPermutation pairs sorted → IsSorted pair_cmp sorted
+    → AreOthers set marks sorted
 others_sorted set marks n pairs sorted own all h moved ascends =
     let places = IsPermutation-map place_of pairs sorted moved in
     let apart : AreApart (places_in sorted) = apart_moved (places_in pairs) (places_in sorted) places (once_apart (places_in pairs) h.once) in
@@ -138,14 +147,18 @@ others_sorted set marks n pairs sorted own all h moved ascends =
 
 -- ---- the joined order
 
-pub order_more : (pairs : List Pair) (i : ℕ) (d : Pair) (old new : List ℕ) → i < length pairs → old ≡ 0 ∷ take i (places_in pairs) → new ≡ old ++ (get_or pairs i d).1 ∷ [] → new ≡ 0 ∷ take (i + 1) (places_in pairs)
+pub order_more : (pairs : List Pair) (i : ℕ) (d : Pair) (old new : List ℕ) → i < length pairs
+    → old ≡ 0 ∷ take i (places_in pairs) → new ≡ old ++ (get_or pairs i d).1 ∷ []
+    → new ≡ 0 ∷ take (i + 1) (places_in pairs)
 order_more pairs i d old new l was e =
     let within : i < length (places_in pairs) = omega (arith, length-map pairs place_of) in
     e ∙ ap (λ (ks : List ℕ). ks ++ (get_or pairs i d).1 ∷ []) was
     ∙ ap (λ (k : ℕ). 0 ∷ (take i (places_in pairs) ++ k ∷ [])) (sym (get_or-map place_of pairs i d 0 l))
     ∙ ap (λ (ks : List ℕ). 0 ∷ ks) (sym (take_more (places_in pairs) i 0 within))
 
-pub joined_is : (set : List Member) (marks : List Mark) (pairs : List Pair) (i : ℕ) (order : List ℕ) → length pairs ≤ i → order ≡ 0 ∷ take i (places_in pairs) → AreOthers set marks pairs → AreReached set marks → IsJoined set order
+pub joined_is : (set : List Member) (marks : List Mark) (pairs : List Pair) (i : ℕ) (order : List ℕ)
+    → length pairs ≤ i → order ≡ 0 ∷ take i (places_in pairs) → AreOthers set marks pairs → AreReached set marks
+    → IsJoined set order
 joined_is set marks pairs i order all e h reached =
     let is : order ≡ 0 ∷ places_in pairs = e ∙ ap (λ (ks : List ℕ). 0 ∷ ks) (take_all i (places_in pairs) (omega (arith, length-map pairs place_of))) in
     subst (IsJoined set) (sym is) (record {

@@ -51,7 +51,8 @@ some_is : (set : List Member) (path : List ℕ) (o : Option ℕ) (j : ℕ) → M
 some_is set path None j h e = absurd cc
 some_is set path (Some k) j h e = let same : k ≡ j = cc in subst (λ (m : ℕ). HasPath set m path) same h
 
-pub no_file : (set : List Member) (paths : Paths) (path : List ℕ) (o : Option ℕ) → KnowsPaths set paths → o ≡ place_in paths path → is_some o ≡ false → (j : ℕ) → HasPath set j path → ⊥
+pub no_file : (set : List Member) (paths : Paths) (path : List ℕ) (o : Option ℕ) → KnowsPaths set paths
+    → o ≡ place_in paths path → is_some o ≡ false → (j : ℕ) → HasPath set j path → ⊥
 no_file set paths path o known e none = none_is set path (place_in paths path) (known.each path) (ap is_some (sym e) ∙ none)
 
 pub has_file : (set : List Member) (paths : Paths) (path : List ℕ) (o : Option ℕ) (j : ℕ) → KnowsPaths set paths → o ≡ place_in paths path → o ≡ Some j → HasPath set j path
@@ -61,7 +62,8 @@ some_of : (o : Option ℕ) → is_some o ≡ true → (j : ℕ) × (o ≡ Some j
 some_of None e = absurd cc
 some_of (Some j) e = (j, refl)
 
-pub has_some : (set : List Member) (paths : Paths) (path : List ℕ) (o : Option ℕ) → KnowsPaths set paths → o ≡ place_in paths path → is_some o ≡ true → (j : ℕ) × HasPath set j path
+pub has_some : (set : List Member) (paths : Paths) (path : List ℕ) (o : Option ℕ) → KnowsPaths set paths
+    → o ≡ place_in paths path → is_some o ≡ true → (j : ℕ) × HasPath set j path
 has_some set paths path o known e some =
     let j = some_of o some in
     (j.0, has_file set paths path o j.0 known e j.1)
@@ -70,7 +72,8 @@ known_is : (set : List Member) (path : List ℕ) (o : Option ℕ) → MatchOptio
 known_is set path None h known = absurd (known h)
 known_is set path (Some j) h known = refl
 
-pub known_file : (set : List Member) (paths : Paths) (path : List ℕ) (o : Option ℕ) → KnowsPaths set paths → o ≡ place_in paths path → (((j : ℕ) → HasPath set j path → ⊥) → ⊥) → IsSome o
+pub known_file : (set : List Member) (paths : Paths) (path : List ℕ) (o : Option ℕ) → KnowsPaths set paths
+    → o ≡ place_in paths path → (((j : ℕ) → HasPath set j path → ⊥) → ⊥) → IsSome o
 known_file set paths path o known e there = subst (λ (p : Option ℕ). IsSome p) (sym e) (known_is set path (place_in paths path) (known.each path) there)
 
 -- ---- imports before the n-th one
@@ -108,20 +111,25 @@ twice_parts (twice {k = k} x y l a b e) =
 pub cycle_parts : {set : List Member} {i n : ℕ} → IsFault set Cycle i n → VisitsRoot set (ring i n)
 cycle_parts (cycle v) = v
 
-pub fault_import : {set : List Member} {q : ImportReason} {i n : ℕ} → IsFault set q i n → ((i n : ℕ) → VisitsRoot set (ring i n) → (x : Import) × HasImport set i n x) → (x : Import) × HasImport set i n x
+pub fault_import : {set : List Member} {q : ImportReason} {i n : ℕ} → IsFault set q i n
+    → ((i n : ℕ) → VisitsRoot set (ring i n) → (x : Import) × HasImport set i n x)
+    → (x : Import) × HasImport set i n x
 fault_import (missing x at nobody) by_ring = (x, at)
 fault_import (twice x y l a b e) by_ring = (y, b)
 fault_import (cycle {i = i} {n = n} v) by_ring = by_ring i n v
 
 -- a file that has a path doesn't lack it
-pub not_missing : (set : List Member) (i n j : ℕ) (xs : List Import) (d : Import) → AreImports set i xs → n < length xs → HasPath set j (get_or xs n d).path → IsFault set Missing i n → ⊥
+pub not_missing : (set : List Member) (i n j : ℕ) (xs : List Import) (d : Import) → AreImports set i xs
+    → n < length xs → HasPath set j (get_or xs n d).path → IsFault set Missing i n → ⊥
 not_missing set i n j xs d h l has f =
     let p = missing_parts f in
     let same : get_or xs n d ≡ p.import = import_one (import_in h n d l) p.import_at in
     p.no_file j (subst (λ (x : Import). HasPath set j x.path) same has)
 
 -- past the last import
-pub free_all : (set : List Member) (q : ImportReason) (i n : ℕ) (xs : List Import) → AreImports set i xs → length xs ≤ n → ((m : ℕ) → IsFault set q i m → (x : Import) × HasImport set i m x) → FreeBefore set q i n → IsFreeAt set q i
+pub free_all : (set : List Member) (q : ImportReason) (i n : ℕ) (xs : List Import) → AreImports set i xs
+    → length xs ≤ n → ((m : ℕ) → IsFault set q i m → (x : Import) × HasImport set i m x) → FreeBefore set q i n
+    → IsFreeAt set q i
 free_all set q i n xs h l has before m f =
     let x = has m f in
     before m (omega (arith, slice_get_within xs m x.0 (import_within h x.1))) f
@@ -154,7 +162,9 @@ by_place set q i n j m files before f = elim (cases_order i j) [
   ]
 ]
 
-pub comes_first : (set : List Member) (q : ImportReason) (i n : ℕ) → NoneAbove set q → ((k : ℕ) → k < i → IsFreeAt set q k) → FreeBefore set q i n → (r : ImportReason) (j m : ℕ) → IsFault set r j m → ComesFirst q i n r j m
+pub comes_first : (set : List Member) (q : ImportReason) (i n : ℕ) → NoneAbove set q
+    → ((k : ℕ) → k < i → IsFreeAt set q k) → FreeBefore set q i n → (r : ImportReason) (j m : ℕ) → IsFault set r j m
+    → ComesFirst q i n r j m
 comes_first set q i n above files before r j m f = elim (cases_order (rank_of q) (rank_of r)) [
   | inl e ↦
       let same : q ≡ r = rank_one q r e in
@@ -166,7 +176,8 @@ comes_first set q i n above files before r j m f = elim (cases_order (rank_of q)
   ]
 ]
 
-pub first_is : (set : List Member) (q : ImportReason) (i : ℕ) (e : ImportFault) → NoneAbove set q → ((k : ℕ) → k < i → IsFreeAt set q k) → IsFirstAt set q i e → IsFaultOf set e
+pub first_is : (set : List Member) (q : ImportReason) (i : ℕ) (e : ImportFault) → NoneAbove set q
+    → ((k : ℕ) → k < i → IsFreeAt set q k) → IsFirstAt set q i e → IsFaultOf set e
 first_is set q i e above files h =
     let fault : HasFault set q i h.import.span = record {
       n = h.n;
@@ -194,7 +205,9 @@ none_above_cycle set known once Twice l = once
 none_above_cycle set known once Cycle l = absurd (omega arith)
 
 -- a ring is the first fault where no import is missing or stands twice
-pub ring_first : (set : List Member) (i n : ℕ) (x : Import) (e : ImportFault) → ArePathsApart set → IsFree set Missing → IsFree set Twice → HasImport set i n x → e ≡ fault.At Cycle i x.span → VisitsRoot set (ring i n) → IsFaultOf set e
+pub ring_first : (set : List Member) (i n : ℕ) (x : Import) (e : ImportFault) → ArePathsApart set → IsFree set Missing
+    → IsFree set Twice → HasImport set i n x → e ≡ fault.At Cycle i x.span → VisitsRoot set (ring i n)
+    → IsFaultOf set e
 ring_first set i n x e apart known once at is v =
     first_is set Cycle i e (none_above_cycle set known once)
     (λ k l m f. let same : ring i n ≡ ring k m = root_one apart v (cycle_parts f) in let eq : i ≡ k = cc in absurd (omega arith))
@@ -207,6 +220,7 @@ ring_first set i n x e apart known once at is v =
       first = λ m l f. (let same : ring i n ≡ ring i m = root_one apart v (cycle_parts f) in let eq : n ≡ m = cc in omega arith);
     })
 
-pub first_unless : (set : List Member) (q : ImportReason) (i : ℕ) (e : ImportFault) → NoneAbove set q → ((k : ℕ) → k < i → IsFreeAt set q k) → IsFirstUnlessMemory set q i e → IsFaultOf set e
+pub first_unless : (set : List Member) (q : ImportReason) (i : ℕ) (e : ImportFault) → NoneAbove set q
+    → ((k : ℕ) → k < i → IsFreeAt set q k) → IsFirstUnlessMemory set q i e → IsFaultOf set e
 first_unless set q i (fault.At r j span) above files h = first_is set q i (fault.At r j span) above files (h (λ e. cc))
 first_unless set q i fault.Memory above files h = tt

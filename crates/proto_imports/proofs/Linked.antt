@@ -1,5 +1,6 @@
 -- Where the imports of a file lead.
-use Rattle.std.proofs.Common.{◌≡◌, ℕ, zero, suc, ◌+◌, ◌<◌, ◌≤◌, ◌⊎◌, ⊎_elim, Bool, true, List, [], ◌∷◌, ◌++◌, inl, inr, length, set, refl, sym, ap, ◌∙◌, subst, arith}
+use Rattle.std.proofs.Common.{◌≡◌, ℕ, zero, suc, ◌+◌, ◌<◌, ◌≤◌, ◌⊎◌, ⊎_elim, Bool, true, List, [], ◌∷◌, ◌++◌, inl}
+use Rattle.std.proofs.Common.{inr, length, set, refl, sym, ap, ◌∙◌, subst, arith}
 use Rattle.std.specs.Prelude.{slice_get, Some}
 use Rattle.std.proofs.lemmas.Bool.{cases_lt}
 use Rattle.std.proofs.lemmas.List.{length_push}
@@ -75,13 +76,16 @@ path_same a b =
     sym a.path_is ∙ ap (λ (m : Member). m.path) same ∙ b.path_is
 
 -- an import that leads to where an earlier one leads
-pub linked_twice : (set : List Member) (i n j : ℕ) (x : Import) (links : List Link) → LinksBefore set i n links → HasImport set i n x → HasPath set j x.path → IsLinked links j → IsFault set Twice i n
+pub linked_twice : (set : List Member) (i n j : ℕ) (x : Import) (links : List Link) → LinksBefore set i n links
+    → HasImport set i n x → HasPath set j x.path → IsLinked links j → IsFault set Twice i n
 linked_twice set i n j x links known at has h =
     let link = known.each h.0 h.1 h.2 in
     let there : HasPath set j link.leads.import.path = subst (λ (k : ℕ). HasPath set k link.leads.import.path) h.3 link.leads.path_at in
     twice link.leads.import x (omega (arith, slice_get_within links h.0 h.1 h.2, known.count)) link.leads.import_at at (path_same there has)
 
-pub unlinked_once : (set : List Member) (i n j : ℕ) (x : Import) (links : List Link) → ArePathsApart set → LinksBefore set i n links → HasImport set i n x → HasPath set j x.path → (IsLinked links j → ⊥) → IsFault set Twice i n → ⊥
+pub unlinked_once : (set : List Member) (i n j : ℕ) (x : Import) (links : List Link) → ArePathsApart set
+    → LinksBefore set i n links → HasImport set i n x → HasPath set j x.path → (IsLinked links j → ⊥)
+    → IsFault set Twice i n → ⊥
 unlinked_once set i n j x links apart known at has out f =
     let p = twice_parts f in
     let l = some_at links p.k (omega (arith, p.before, known.count)) in
@@ -92,7 +96,9 @@ unlinked_once set i n j x links apart known at has out f =
     let file : l.0.file ≡ j = apart.one (subst (HasPath set l.0.file) path link.leads.path_at) has in
     out (p.k, l.0, l.1, file)
 
-pub links_more : (set : List Member) (i n : ℕ) (x : Import) (l : Link) (old new : List Link) → LinksBefore set i n old → HasImport set i n x → HasPath set l.file x.path → l.public ≡ x.public → (IsFault set Twice i n → ⊥) → new ≡ old ++ l ∷ [] → LinksBefore set i (n + 1) new
+pub links_more : (set : List Member) (i n : ℕ) (x : Import) (l : Link) (old new : List Link) → LinksBefore set i n old
+    → HasImport set i n x → HasPath set l.file x.path → l.public ≡ x.public → (IsFault set Twice i n → ⊥)
+    → new ≡ old ++ l ∷ [] → LinksBefore set i (n + 1) new
 links_more set i n x l old new known at has is_public once e = subst (LinksBefore set i (n + 1)) (sym e) (record {
   count = omega (arith, length_push old l, known.count);
   each = λ m k is. elim (get_push old l k m is) [
@@ -105,7 +111,8 @@ links_more set i n x l old new known at has is_public once e = subst (LinksBefor
   once = free_more set Twice i n known.once once;
 })
 
-pub links_all : (set : List Member) (i n : ℕ) (xs : List Import) (links : List Link) → AreImports set i xs → length xs ≤ n → n ≤ length xs → LinksBefore set i n links → AreLinks set i links
+pub links_all : (set : List Member) (i n : ℕ) (xs : List Import) (links : List Link) → AreImports set i xs
+    → length xs ≤ n → n ≤ length xs → LinksBefore set i n links → AreLinks set i links
 links_all set i n xs links h least most known = record {
   each = known.each;
   all = λ m x at. omega (arith, slice_get_within xs m x (import_within h at), known.count);
@@ -129,7 +136,8 @@ keeps_none set all e = subst (KeepsBefore set 0) (sym e) (record {
   once = λ i l. absurd (omega arith);
 })
 
-pub keeps_more : (set : List Member) (n : ℕ) (links : List Link) (old new : List (List Link)) → KeepsBefore set n old → AreLinks set n links → IsFreeAt set Twice n → new ≡ old ++ links ∷ [] → KeepsBefore set (n + 1) new
+pub keeps_more : (set : List Member) (n : ℕ) (links : List Link) (old new : List (List Link)) → KeepsBefore set n old
+    → AreLinks set n links → IsFreeAt set Twice n → new ≡ old ++ links ∷ [] → KeepsBefore set (n + 1) new
 keeps_more set n links old new known here once e = subst (KeepsBefore set (n + 1)) (sym e) (record {
   count = omega (arith, length_push old links, known.count);
   each = λ i ls at. elim (get_push old links ls i at) [
@@ -152,7 +160,8 @@ keeps_all set n all e known = record { count = known.count ∙ e; each = known.e
 pub link_leads : {set : List Member} {i : ℕ} {links : List Link} → AreLinks set i links → (n : ℕ) (l : Link) → slice_get links n ≡ Some l → Leads set i n l.file
 link_leads h n l at = (h.each n l at).leads
 
-pub link_public : {set : List Member} {i : ℕ} {links : List Link} → AreLinks set i links → (n : ℕ) (l : Link) → slice_get links n ≡ Some l → l.public ≡ true → LeadsPublicly set i n l.file
+pub link_public : {set : List Member} {i : ℕ} {links : List Link} → AreLinks set i links → (n : ℕ) (l : Link)
+    → slice_get links n ≡ Some l → l.public ≡ true → LeadsPublicly set i n l.file
 link_public h n l at is = record { leads = (h.each n l at).leads; is_public = sym (h.each n l at).is_public ∙ is }
 
 -- the link of an import

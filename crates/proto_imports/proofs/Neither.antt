@@ -1,5 +1,6 @@
 -- A set has a reach where it has no first fault.
-use Rattle.std.proofs.Common.{◌≡◌, ℕ, zero, suc, ◌+◌, ◌<◌, ◌≤◌, ◌⊎◌, List, [], ◌∷◌, ◌++◌, inl, inr, length, refl, sym, ap, ◌∙◌, subst, arith, add-one}
+use Rattle.std.proofs.Common.{◌≡◌, ℕ, zero, suc, ◌+◌, ◌<◌, ◌≤◌, ◌⊎◌, List, [], ◌∷◌, ◌++◌, inl, inr, length, refl, sym}
+use Rattle.std.proofs.Common.{ap, ◌∙◌, subst, arith, add-one}
 use Rattle.std.specs.Prelude.{slice_get, Some, None, Contains}
 use Rattle.std.specs.List.{AllZip}
 use Rattle.std.specs.Ordering.{nat_cmp, is_eq, ordering_reverse}
@@ -132,7 +133,8 @@ find_import set i n = elim (cases_get set i) [
 
 -- ---- the walk ends
 
-take_out : (rest : List ℕ) (j : ℕ) → Contains rest j → (less : List ℕ) × (suc (length less) ≡ length rest) × ((k : ℕ) → Contains rest k → (k ≡ j → ⊥) → Contains less k)
+take_out : (rest : List ℕ) (j : ℕ) → Contains rest j → (less : List ℕ) × (suc (length less) ≡ length rest) × ((k : ℕ)
+    → Contains rest k → (k ≡ j → ⊥) → Contains less k)
 take_out [] j c = absurd (let l : c.0 < 0 = c.1 in omega arith)
 take_out (x ∷ xs) j c = elim (cons_cases x xs j c) [
   | inl e ↦ (
@@ -169,12 +171,15 @@ Solves set a = (within left : List ℕ) (i : ℕ) (rest : List ℕ) → length r
 abbrev Few : List Member → ℕ → ℕ → ℕ → Type 0
 Few set i n more = (m : ℕ) (x : Import) → HasImport set i m x → m < n + more
 
-covers_less : (set : List Member) (rest less visiting left : List ℕ) (j : ℕ) → ((k : ℕ) → Contains rest k → (k ≡ j → ⊥) → Contains less k) → Covers set rest visiting left → Covers set less (visiting ++ j ∷ []) left
+covers_less : (set : List Member) (rest less visiting left : List ℕ) (j : ℕ)
+    → ((k : ℕ) → Contains rest k → (k ≡ j → ⊥) → Contains less k) → Covers set rest visiting left
+    → Covers set less (visiting ++ j ∷ []) left
 covers_less set rest less visiting left j out cover k l new =
     out k (cover k l (record { unvisited = λ c. new.unvisited (Contains-append_left visiting (j ∷ []) k c); unleft = new.unleft }))
     (λ e. new.unvisited (subst (Contains (visiting ++ j ∷ [])) (sym e) (Contains-push visiting j)))
 
-covers_after : (set : List Member) (rest visiting left after : List ℕ) → ((k : ℕ) → Contains left k → Contains after k) → Covers set rest visiting left → Covers set rest visiting after
+covers_after : (set : List Member) (rest visiting left after : List ℕ)
+    → ((k : ℕ) → Contains left k → Contains after k) → Covers set rest visiting left → Covers set rest visiting after
 covers_after set rest visiting left after keeps cover k l new =
     cover k l (record { unvisited = new.unvisited; unleft = λ c. new.unleft (keeps k c) })
 
@@ -182,14 +187,18 @@ module _ (set : List Member) (lead : AllLead set) (a : ℕ) (solve : Solves set 
   abbrev GoesOn : ℕ → Type 0
   GoesOn more = (left : List ℕ) (n : ℕ) → Few set i n more → IsAt within left i → Covers set rest (within ++ i ∷ []) left → Comes set within left i n
 
-  after_child : (more n j : ℕ) (left : List ℕ) (o : Outcome) → GoesOn more → Few set i (n + 1) more → IsAt within left i → Covers set rest (within ++ i ∷ []) left → Leads set i n j → IsNew (within ++ i ∷ []) left j → Visits set (within ++ i ∷ []) left j 0 o → Comes set within left i n
+  after_child : (more n j : ℕ) (left : List ℕ) (o : Outcome) → GoesOn more → Few set i (n + 1) more
+      → IsAt within left i → Covers set rest (within ++ i ∷ []) left → Leads set i n j
+      → IsNew (within ++ i ∷ []) left j → Visits set (within ++ i ∷ []) left j 0 o → Comes set within left i n
   after_child more n j left (leaves after) go few at cover l new v =
       let so = leaves_so (new_at (within ++ i ∷ []) left j at.1 new) v in
       let r = go after (n + 1) few (at.0, so.apart) (covers_after set rest (within ++ i ∷ []) left after so.keeps cover) in
       (r.0, enters l new v r.1)
   after_child more n j left (ring k m) go few at cover l new v = (ring k m, meets l new v)
 
-  enter_new : (more n j : ℕ) (left : List ℕ) → GoesOn more → Few set i (n + 1) more → IsAt within left i → Covers set rest (within ++ i ∷ []) left → Leads set i n j → IsNew (within ++ i ∷ []) left j → Comes set within left i n
+  enter_new : (more n j : ℕ) (left : List ℕ) → GoesOn more → Few set i (n + 1) more → IsAt within left i
+      → Covers set rest (within ++ i ∷ []) left → Leads set i n j → IsNew (within ++ i ∷ []) left j
+      → Comes set within left i n
   enter_new more n j left go few at cover l new =
       let t = take_out rest j (cover j (link_file l) new) in
       let r = solve (within ++ i ∷ []) left j t.0 (omega (arith, t.1, small)) (new_at (within ++ i ∷ []) left j at.1 new)
@@ -241,7 +250,8 @@ root_comes set lead =
 
 -- ---- the order
 
-order_cases : (set : List Member) (i j : ℕ) (a b : List ℕ) (o : Ordering) → ArePathsApart set → HasPath set i a → HasPath set j b → slice_cmp nat_cmp a b ≡ o → (i ≡ j → ⊥) → IsPathBelow set i j ⊎ IsPathBelow set j i
+order_cases : (set : List Member) (i j : ℕ) (a b : List ℕ) (o : Ordering) → ArePathsApart set → HasPath set i a
+    → HasPath set j b → slice_cmp nat_cmp a b ≡ o → (i ≡ j → ⊥) → IsPathBelow set i j ⊎ IsPathBelow set j i
 order_cases set i j a b Less own p q e ne = inl (record { lower = a; upper = b; lower_at = p; upper_at = q; below = e })
 order_cases set i j a b Equal own p q e ne =
     let same : a ≡ b = exact_bytes a b e in
@@ -268,7 +278,9 @@ record Inserted (set : List Member) (k : ℕ) (xs : List ℕ) : Type 0 where
   pub keeps : (z : ℕ) → Contains xs z → Contains all z
   pub alone : (z : ℕ) → Contains all z → (z ≡ k) ⊎ Contains xs z
 
-insert_file : (set : List Member) (k : ℕ) (xs : List ℕ) → ArePathsApart set → k < length set → ((z : ℕ) → Contains xs z → z < length set) → (Contains xs k → ⊥) → Ascends (IsPathBelow set) xs → Inserted set k xs
+insert_file : (set : List Member) (k : ℕ) (xs : List ℕ) → ArePathsApart set → k < length set
+    → ((z : ℕ) → Contains xs z → z < length set) → (Contains xs k → ⊥) → Ascends (IsPathBelow set) xs
+    → Inserted set k xs
 insert_file set k [] own l within out h = record {
   all = k ∷ [];
   ascend = tt;
@@ -438,7 +450,8 @@ seen_of set i l h = (
   },
 )
 
-not_no_sees : (set : List Member) (order : List ℕ) → ((k : ℕ) → Contains order k → k < length set) → ((sees : List (List ℕ)) → AllZip (AreSeen set) order sees → ⊥) → ⊥
+not_no_sees : (set : List Member) (order : List ℕ) → ((k : ℕ) → Contains order k → k < length set)
+    → ((sees : List (List ℕ)) → AllZip (AreSeen set) order sees → ⊥) → ⊥
 not_no_sees set [] within never = never [] tt
 not_no_sees set (i ∷ order) within never =
     not_no_sees set order (λ k c. within k (cons_more i order k c)) (λ sees all.

@@ -50,14 +50,17 @@ path_at set i d path l h =
     let same : get_or set i d ≡ h.member = same_Some (get_or set i d) h.member (sym (slice_get-get_or set i d l) ∙ h.member_at) in
     ap (λ (m : Member). m.path) same ∙ h.path_is
 
-older : (set : List Member) (i : ℕ) (d : Member) (path : List ℕ) (o : Option ℕ) → i < length set → ((get_or set i d).path ≡ path → ⊥) → Places set i path o → Places set (i + 1) path o
+older : (set : List Member) (i : ℕ) (d : Member) (path : List ℕ) (o : Option ℕ) → i < length set
+    → ((get_or set i d).path ≡ path → ⊥) → Places set i path o → Places set (i + 1) path o
 older set i d path None l other h = λ j m at. elim (cases_lt j i) [
   | inl old ↦ h j old at
   | inr new ↦ let e : j ≡ i = omega arith in other (path_at set i d path l (subst (λ (k : ℕ). HasPath set k path) e at))
 ]
 older set i d path (Some j) l other h = h
 
-choose : (set : List Member) (i : ℕ) (d : Member) (path : List ℕ) (b : Bool) (o p : Option ℕ) → i < length set → is_eq (slice_cmp nat_cmp (get_or set i d).path path) ≡ b → p ≡ cond b (Some i) o → Places set i path o → Places set (i + 1) path p
+choose : (set : List Member) (i : ℕ) (d : Member) (path : List ℕ) (b : Bool) (o p : Option ℕ) → i < length set
+    → is_eq (slice_cmp nat_cmp (get_or set i d).path path) ≡ b → p ≡ cond b (Some i) o → Places set i path o
+    → Places set (i + 1) path p
 choose set i d path true o p l is e h =
     let same : (get_or set i d).path ≡ path = same_bytes (get_or set i d).path path is in
     let at : HasPath set i path = subst (HasPath set i) same (path_of set i d l) in
@@ -67,12 +70,15 @@ choose set i d path false o p l is e h =
     λ same. (let t : is_eq (slice_cmp nat_cmp (get_or set i d).path path) ≡ true = bytes_same (get_or set i d).path path same in cc) in
     subst (Places set (i + 1) path) (sym e) (older set i d path o l other h)
 
-pub before_more : (set : List Member) (i : ℕ) (d : Member) (old new : Paths) → i < length set → ((path : List ℕ) → place_in new path ≡ cond (is_eq (slice_cmp nat_cmp (get_or set i d).path path)) (Some i) (place_in old path)) → KnowsBefore set i old → KnowsBefore set (i + 1) new
+pub before_more : (set : List Member) (i : ℕ) (d : Member) (old new : Paths) → i < length set
+    → ((path : List ℕ) → place_in new path ≡ cond (is_eq (slice_cmp nat_cmp (get_or set i d).path path)) (Some i)
+    (place_in old path)) → KnowsBefore set i old → KnowsBefore set (i + 1) new
 before_more set i d old new l changed known = record {
   each = λ path. choose set i d path (is_eq (slice_cmp nat_cmp (get_or set i d).path path)) (place_in old path) (place_in new path) l refl (changed path) (known.each path);
 }
 
-all_before : (set : List Member) (i : ℕ) (path : List ℕ) (o : Option ℕ) → length set ≤ i → Places set i path o → MatchOption o ((j : ℕ) → HasPath set j path → ⊥) (λ j. HasPath set j path)
+all_before : (set : List Member) (i : ℕ) (path : List ℕ) (o : Option ℕ) → length set ≤ i → Places set i path o
+    → MatchOption o ((j : ℕ) → HasPath set j path → ⊥) (λ j. HasPath set j path)
 all_before set i path None l h = λ j at. h j (omega (arith, slice_get_within set j at.member at.member_at)) at
 all_before set i path (Some j) l h = h
 

@@ -54,7 +54,9 @@ leads_apart {set} once i n m j a b = elim (cases_order n m) [
   ]
 ]
 
-pub reach_is : (set : List Member) (left : List ℕ) (reach : Reach) → ArePathsApart set → AllLead set → IsFree set Twice → VisitsRoot set (leaves left) → IsJoined set reach.order → AllZip (AreSeen set) reach.order reach.sees → IsReach set reach
+pub reach_is : (set : List Member) (left : List ℕ) (reach : Reach) → ArePathsApart set → AllLead set
+    → IsFree set Twice → VisitsRoot set (leaves left) → IsJoined set reach.order
+    → AllZip (AreSeen set) reach.order reach.sees → IsReach set reach
 reach_is set left reach own led once visits order sees = record {
   led = led;
   apart = leads_apart once;

@@ -55,7 +55,8 @@ fresh_left (m ∷ ms) (Visiting ∷ marks) (suc i) = fresh_left ms marks i
 fresh_left (m ∷ ms) (Left ∷ marks) (suc i) = fresh_left ms marks i
 
 -- a new file that is entered
-pub fresh_entered : (set' : List Member) (marks : List Mark) (i : ℕ) → i < length set' → slice_get marks i ≡ Some New → fresh set' (set marks i Visiting) + suc (count_at set' i) ≡ fresh set' marks
+pub fresh_entered : (set' : List Member) (marks : List Mark) (i : ℕ) → i < length set' → slice_get marks i ≡ Some New
+    → fresh set' (set marks i Visiting) + suc (count_at set' i) ≡ fresh set' marks
 fresh_entered [] marks i l e = absurd (omega arith)
 fresh_entered (m ∷ ms) [] i l e = absurd cc
 fresh_entered (m ∷ ms) (New ∷ marks) zero l e = omega arith
@@ -71,10 +72,21 @@ less_left set' rest f marks =
     omega (arith, pending-append set' rest (f ∷ []), fresh_left set' marks f.file)
 
 -- one of its imports was followed
-pub less_passed : (set' : List Member) (rest : List Frame) (f : Frame) (marks : List Mark) → f.next < count_at set' f.file → remaining set' (rest ++ next_frame f ∷ []) marks < remaining set' (rest ++ f ∷ []) marks
+pub less_passed : (set' : List Member) (rest : List Frame) (f : Frame) (marks : List Mark)
+    → f.next < count_at set' f.file
+    → remaining set' (rest ++ next_frame f ∷ []) marks < remaining set' (rest ++ f ∷ []) marks
 less_passed set' rest f marks l =
     omega (arith, pending-append set' rest (f ∷ []), pending-append set' rest (next_frame f ∷ []))
 
-pub less_entered : (set' : List Member) (rest : List Frame) (f : Frame) (j : ℕ) (marks : List Mark) → f.next < count_at set' f.file → j < length set' → slice_get marks j ≡ Some New → remaining set' ((rest ++ next_frame f ∷ []) ++ first_frame j ∷ []) (set marks j Visiting) < remaining set' (rest ++ f ∷ []) marks
+pub less_entered : (set' : List Member) (rest : List Frame) (f : Frame) (j : ℕ) (marks : List Mark)
+    → f.next < count_at set' f.file → j < length set' → slice_get marks j ≡ Some New
+    → remaining set' ((rest ++ next_frame f ∷ []) ++ first_frame j ∷ []) (set marks j Visiting)
+    < remaining set' (rest ++ f ∷ []) marks
 less_entered set' rest f j marks l within e =
-    omega (arith, pending-append set' rest (f ∷ []), pending-append set' rest (next_frame f ∷ []), pending-append set' (rest ++ next_frame f ∷ []) (first_frame j ∷ []), fresh_entered set' marks j within e)
+    omega (
+      arith,
+      pending-append set' rest (f ∷ []),
+      pending-append set' rest (next_frame f ∷ []),
+      pending-append set' (rest ++ next_frame f ∷ []) (first_frame j ∷ []),
+      fresh_entered set' marks j within e,
+    )

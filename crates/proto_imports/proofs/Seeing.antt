@@ -1,5 +1,6 @@
 -- What a file sees.
-use Rattle.std.proofs.Common.{◌≡◌, ℕ, zero, suc, ◌+◌, ◌<◌, ◌≤◌, ◌⊎◌, inl, inr, Bool, true, false, List, [], ◌∷◌, ◌++◌, length, get_or, set, take, replicate, refl, sym, ap, ◌∙◌, subst, arith, length-set}
+use Rattle.std.proofs.Common.{◌≡◌, ℕ, zero, suc, ◌+◌, ◌<◌, ◌≤◌, ◌⊎◌, inl, inr, Bool, true, false, List, [], ◌∷◌, ◌++◌}
+use Rattle.std.proofs.Common.{length, get_or, set, take, replicate, refl, sym, ap, ◌∙◌, subst, arith, length-set}
 use Rattle.std.specs.Prelude.{Contains, All, Some, slice_get, Result, Ok, Err, IfOk}
 use Rattle.std.specs.List.{AllZip}
 use Rattle.std.proofs.lemmas.Bool.{cases_lt, cases_eq}
@@ -40,7 +41,9 @@ more_none file old new marks next at = record {
   less = omega (arith, ap unmarked marks, ap length next);
 }
 
-pub more_one : (file : ℕ) (old new : Seen) → slice_get old.marks.items file ≡ Some false → new.marks.items ≡ set old.marks.items file true → new.next.items ≡ old.next.items ++ file ∷ [] → MarksMore (λ i. i ≡ file) old new
+pub more_one : (file : ℕ) (old new : Seen) → slice_get old.marks.items file ≡ Some false
+    → new.marks.items ≡ set old.marks.items file true → new.next.items ≡ old.next.items ++ file ∷ []
+    → MarksMore (λ i. i ≡ file) old new
 more_one file old new at marks next =
     let count : length new.marks.items ≡ length old.marks.items = ap length marks ∙ length-set old.marks.items file true in
     let here : IsMarked new file =
@@ -82,7 +85,8 @@ more_start P s none = record {
   less = omega arith;
 }
 
-pub more_then : (P Q R : ℕ → Type 0) (a b c : Seen) → MarksMore P a b → MarksMore Q b c → ((i : ℕ) → R i → P i ⊎ Q i) → ((i : ℕ) → P i → R i) → ((i : ℕ) → Q i → R i) → MarksMore R a c
+pub more_then : (P Q R : ℕ → Type 0) (a b c : Seen) → MarksMore P a b → MarksMore Q b c → ((i : ℕ) → R i → P i ⊎ Q i)
+    → ((i : ℕ) → P i → R i) → ((i : ℕ) → Q i → R i) → MarksMore R a c
 more_then P Q R a b c f g split left right = record {
   count = g.count ∙ f.count;
   keeps = λ i m. g.keeps i (f.keeps i m);
@@ -132,7 +136,9 @@ linked_front xs x j h = (h.0, h.1, get_front xs x h.1 h.0 h.2, h.3)
 linked_last : (xs : List Link) (x : Link) (j : ℕ) → j ≡ x.file → IsLinked (xs ++ x ∷ []) j
 linked_last xs x j e = (length xs, x, get_last xs x, sym e)
 
-pub linked_more : (links : List Link) (i : ℕ) (d : Link) (a b c : Seen) → i < length links → MarksMore (IsLinked (take i links)) a b → MarksMore (λ k. k ≡ (get_or links i d).file) b c → MarksMore (IsLinked (take (i + 1) links)) a c
+pub linked_more : (links : List Link) (i : ℕ) (d : Link) (a b c : Seen) → i < length links
+    → MarksMore (IsLinked (take i links)) a b → MarksMore (λ k. k ≡ (get_or links i d).file) b c
+    → MarksMore (IsLinked (take (i + 1) links)) a c
 linked_more links i d a b c l f g =
     let x = get_or links i d in
     let xs = take i links in
@@ -157,7 +163,9 @@ public_front xs x j h = (h.0, h.1, get_front xs x h.1 h.0 h.2, h.3, h.4)
 public_last : (xs : List Link) (x : Link) → x.public ≡ true → (j : ℕ) → j ≡ x.file → IsLinkedPublicly (xs ++ x ∷ []) j
 public_last xs x is j e = (length xs, x, get_last xs x, is, sym e)
 
-pub public_more : (links : List Link) (i : ℕ) (d : Link) (a b c : Seen) → i < length links → (get_or links i d).public ≡ true → MarksMore (IsLinkedPublicly (take i links)) a b → MarksMore (λ k. k ≡ (get_or links i d).file) b c → MarksMore (IsLinkedPublicly (take (i + 1) links)) a c
+pub public_more : (links : List Link) (i : ℕ) (d : Link) (a b c : Seen) → i < length links
+    → (get_or links i d).public ≡ true → MarksMore (IsLinkedPublicly (take i links)) a b
+    → MarksMore (λ k. k ≡ (get_or links i d).file) b c → MarksMore (IsLinkedPublicly (take (i + 1) links)) a c
 public_more links i d a b c l is f g =
     let x = get_or links i d in
     let xs = take i links in
@@ -165,7 +173,9 @@ public_more links i d a b c l is f g =
     (more_then (IsLinkedPublicly xs) (λ k. k ≡ x.file) (IsLinkedPublicly (xs ++ x ∷ [])) a b c f g
     (λ k h. elim (public_cases xs x k h) [ inl old ↦ inl old | inr new ↦ inr new.0 ]) (public_front xs x) (public_last xs x is))
 
-pub public_skip : (links : List Link) (i : ℕ) (d : Link) (a b : Seen) → i < length links → (get_or links i d).public ≡ false → MarksMore (IsLinkedPublicly (take i links)) a b → MarksMore (IsLinkedPublicly (take (i + 1) links)) a b
+pub public_skip : (links : List Link) (i : ℕ) (d : Link) (a b : Seen) → i < length links
+    → (get_or links i d).public ≡ false → MarksMore (IsLinkedPublicly (take i links)) a b
+    → MarksMore (IsLinkedPublicly (take (i + 1) links)) a b
 public_skip links i d a b l is f =
     let x = get_or links i d in
     let xs = take i links in
@@ -188,7 +198,8 @@ places_none marks places e = subst (PlacesBefore marks 0) (sym e) (record {
   ascend = tt;
 })
 
-pub places_more : (marks : List Bool) (i : ℕ) (old new : List ℕ) → slice_get marks i ≡ Some true → new ≡ old ++ i ∷ [] → PlacesBefore marks i old → PlacesBefore marks (i + 1) new
+pub places_more : (marks : List Bool) (i : ℕ) (old new : List ℕ) → slice_get marks i ≡ Some true → new ≡ old ++ i ∷ []
+    → PlacesBefore marks i old → PlacesBefore marks (i + 1) new
 places_more marks i old new at e h = subst (PlacesBefore marks (i + 1)) (sym e) (record {
   those = λ k. (
     λ c. elim (Contains-push_cases old i k c) [
@@ -218,7 +229,9 @@ places_skip marks i old new at e h = subst (PlacesBefore marks (i + 1)) (sym e) 
   ascend = h.ascend;
 })
 
-pub places_those : (marks : List Bool) (i : ℕ) (places : List ℕ) → length marks ≤ i → PlacesBefore marks i places → (k : ℕ) → (Contains places k → slice_get marks k ≡ Some true) × (slice_get marks k ≡ Some true → Contains places k)
+pub places_those : (marks : List Bool) (i : ℕ) (places : List ℕ) → length marks ≤ i → PlacesBefore marks i places
+    → (k : ℕ) → (Contains places k → slice_get marks k ≡ Some true) × (slice_get marks k ≡ Some true
+    → Contains places k)
 places_those marks i places all h k = (
   λ c. ((h.those k).0 c).1,
   λ e. (h.those k).1 (omega (arith, slice_get_within marks k true e), e),
@@ -238,7 +251,9 @@ pub links_within : {set' : List Member} {i : ℕ} {links : List Link} → AreLin
 links_within {set'} {i} {links} h n e = λ k d l.
     omega (arith, link_file (link_leads h k (get_or links k d) (slice_get-get_or links k d l)))
 
-pub sees_start : (set' : List Member) (i n : ℕ) (links : List Link) (a b c : Seen) → ArePathsApart set' → n ≡ length set' → AreLinks set' i links → a.marks.items ≡ replicate n false → a.next.items ≡ [] → MarksMore (λ k. k ≡ i) a b → MarksMore (IsLinked links) b c → SeesSoFar set' i c
+pub sees_start : (set' : List Member) (i n : ℕ) (links : List Link) (a b c : Seen) → ArePathsApart set'
+    → n ≡ length set' → AreLinks set' i links → a.marks.items ≡ replicate n false → a.next.items ≡ []
+    → MarksMore (λ k. k ≡ i) a b → MarksMore (IsLinked links) b c → SeesSoFar set' i c
 sees_start set' i n links a b c own count known marks next one all =
     let alone : (j : ℕ) → IsMarked c j → ((j ≡ i) ⊎ IsLinked links j) × Contains c.next.items j =
     λ j m. elim (all.alone j m) [
@@ -275,7 +290,9 @@ front_within : (xs : List ℕ) (x n : ℕ) → All (λ k. k < n) (xs ++ x ∷ []
 front_within xs x n h = λ k d l.
     subst (λ (y : ℕ). y < n) (get_or_append_left xs (x ∷ []) d k l) (h k d (omega (arith, length_push xs x)))
 
-pub sees_more : (set' : List Member) (i j : ℕ) (links : List Link) (old popped new : Seen) → ArePathsApart set' → AreLinks set' j links → popped.marks.items ≡ old.marks.items → old.next.items ≡ popped.next.items ++ j ∷ [] → MarksMore (IsLinkedPublicly links) popped new → SeesSoFar set' i old → SeesSoFar set' i new
+pub sees_more : (set' : List Member) (i j : ℕ) (links : List Link) (old popped new : Seen) → ArePathsApart set'
+    → AreLinks set' j links → popped.marks.items ≡ old.marks.items → old.next.items ≡ popped.next.items ++ j ∷ []
+    → MarksMore (IsLinkedPublicly links) popped new → SeesSoFar set' i old → SeesSoFar set' i new
 sees_more set' i j links old popped new own known marks next more h =
     let was : (k : ℕ) → IsMarked old k → IsMarked popped k = λ k m. ap (λ (bs : List Bool). slice_get bs k) marks ∙ m in
     let is : (k : ℕ) → IsMarked popped k → IsMarked old k = λ k m. sym (ap (λ (bs : List Bool). slice_get bs k) marks) ∙ m in
@@ -310,7 +327,8 @@ sees_more set' i j links old popped new own known marks next more h =
           (front_within popped.next.items j (length set') (subst (λ (ks : List ℕ). All (λ k. k < length set') ks) next h.within))));
     }
 
-pub sees_less : (old popped new : Seen) (j : ℕ) (P : ℕ → Type 0) → popped.marks.items ≡ old.marks.items → old.next.items ≡ popped.next.items ++ j ∷ [] → MarksMore P popped new → work_of new < work_of old
+pub sees_less : (old popped new : Seen) (j : ℕ) (P : ℕ → Type 0) → popped.marks.items ≡ old.marks.items
+    → old.next.items ≡ popped.next.items ++ j ∷ [] → MarksMore P popped new → work_of new < work_of old
 sees_less old popped new j P marks next more =
     omega (arith, more.less, ap unmarked marks, ap length next, length_push popped.next.items j)
 
@@ -326,7 +344,9 @@ sees_all set' i s h e k (publicly {j = j} {n = n} seen l) = elim (h.closed j n k
   | inr waits ↦ absurd (no_element (subst (λ (ks : List ℕ). Contains ks j) e waits))
 ]
 
-pub seen_is : (set' : List Member) (i : ℕ) (s : Seen) (places : List ℕ) → SeesSoFar set' i s → s.next.items ≡ [] → ((k : ℕ) → (Contains places k → IsMarked s k) × (IsMarked s k → Contains places k)) → Ascends ◌<◌ places → AreSeen set' i places
+pub seen_is : (set' : List Member) (i : ℕ) (s : Seen) (places : List ℕ) → SeesSoFar set' i s → s.next.items ≡ []
+    → ((k : ℕ) → (Contains places k → IsMarked s k) × (IsMarked s k → Contains places k)) → Ascends ◌<◌ places
+    → AreSeen set' i places
 seen_is set' i s places h e those ascend = record {
   those = λ j. (λ c. h.sound j ((those j).0 c), λ v. (those j).1 (sees_all set' i s h e j v));
   ascend = ascend;
@@ -340,7 +360,9 @@ zip_push R [] (b ∷ bs) x y h r = absurd h
 zip_push R (a ∷ as') [] x y h r = absurd h
 zip_push R (a ∷ as') (b ∷ bs) x y h r = (h.0, zip_push R as' bs x y h.1 r)
 
-pub zip_more : {X Y : Type 0} (R : X → Y → Type 0) (xs : List X) (i : ℕ) (d : X) (old new : List Y) (y : Y) → i < length xs → new ≡ old ++ y ∷ [] → AllZip R (take i xs) old → R (get_or xs i d) y → AllZip R (take (i + 1) xs) new
+pub zip_more : {X Y : Type 0} (R : X → Y → Type 0) (xs : List X) (i : ℕ) (d : X) (old new : List Y) (y : Y)
+    → i < length xs → new ≡ old ++ y ∷ [] → AllZip R (take i xs) old → R (get_or xs i d) y
+    → AllZip R (take (i + 1) xs) new
 zip_more {X} {Y} R xs i d old new y l e h r =
     subst (λ (ys : List Y). AllZip R (take (i + 1) xs) ys) (sym e)
     (subst (λ (zs : List X). AllZip R zs (old ++ y ∷ [])) (sym (take_more xs i d l)) (zip_push R (take i xs) old (get_or xs i d) y h r))

@@ -148,10 +148,13 @@ once_apart xs once i j d a b e =
 -- ---- lists of the same elements
 
 -- nothing stands before the first one
-pub first_is_least : {X : Type 0} (R : X → X → Type 0) → ((x y z : X) → R x y → R y z → R x z) → (x : X) (xs : List X) → Ascends R (x ∷ xs) → (y : X) → Contains xs y → R x y
+pub first_is_least : {X : Type 0} (R : X → X → Type 0) → ((x y z : X) → R x y → R y z → R x z) → (x : X) (xs : List X)
+    → Ascends R (x ∷ xs) → (y : X) → Contains xs y → R x y
 first_is_least {X} R trans x xs h y c = subst (R x) c.2 (ascends_past R trans x xs h c.0 y c.1)
 
-same_first : {X : Type 0} (R : X → X → Type 0) → ((x y z : X) → R x y → R y z → R x z) → ((x : X) → R x x → ⊥) → (x y : X) (xs ys : List X) → Ascends R (x ∷ xs) → Ascends R (y ∷ ys) → Contains (y ∷ ys) x → Contains (x ∷ xs) y → x ≡ y
+same_first : {X : Type 0} (R : X → X → Type 0) → ((x y z : X) → R x y → R y z → R x z) → ((x : X) → R x x → ⊥)
+    → (x y : X) (xs ys : List X) → Ascends R (x ∷ xs) → Ascends R (y ∷ ys) → Contains (y ∷ ys) x → Contains (x ∷ xs) y
+    → x ≡ y
 same_first R trans strict x y xs ys h k cx cy = elim (cons_cases y ys x cx) [
   | inl e ↦ sym e
   | inr behind ↦ elim (cons_cases x xs y cy) [
@@ -160,13 +163,17 @@ same_first R trans strict x y xs ys h k cx cy = elim (cons_cases y ys x cx) [
   ]
 ]
 
-rest_contains : {X : Type 0} (R : X → X → Type 0) → ((x y z : X) → R x y → R y z → R x z) → ((x : X) → R x x → ⊥) → (x y : X) (xs ys : List X) → Ascends R (x ∷ xs) → x ≡ y → ((z : X) → Contains (x ∷ xs) z → Contains (y ∷ ys) z) → (z : X) → Contains xs z → Contains ys z
+rest_contains : {X : Type 0} (R : X → X → Type 0) → ((x y z : X) → R x y → R y z → R x z) → ((x : X) → R x x → ⊥)
+    → (x y : X) (xs ys : List X) → Ascends R (x ∷ xs) → x ≡ y → ((z : X) → Contains (x ∷ xs) z → Contains (y ∷ ys) z)
+    → (z : X) → Contains xs z → Contains ys z
 rest_contains {X} R trans strict x y xs ys h e all z c = elim (cons_cases y ys z (all z (cons_more x xs z c))) [
   | inl same ↦ absurd (strict x (subst (R x) (sym (e ∙ same)) (first_is_least R trans x xs h z c)))
   | inr other ↦ other
 ]
 
-pub ascends_same : {X : Type 0} (R : X → X → Type 0) → ((x y z : X) → R x y → R y z → R x z) → ((x : X) → R x x → ⊥) → (xs ys : List X) → Ascends R xs → Ascends R ys → ((z : X) → Contains xs z → Contains ys z) → ((z : X) → Contains ys z → Contains xs z) → xs ≡ ys
+pub ascends_same : {X : Type 0} (R : X → X → Type 0) → ((x y z : X) → R x y → R y z → R x z) → ((x : X) → R x x → ⊥)
+    → (xs ys : List X) → Ascends R xs → Ascends R ys → ((z : X) → Contains xs z → Contains ys z)
+    → ((z : X) → Contains ys z → Contains xs z) → xs ≡ ys
 ascends_same R trans strict [] [] h k to from = refl
 ascends_same R trans strict [] (y ∷ ys) h k to from = absurd (let c = from y (cons_here y ys) in let l : c.0 < 0 = c.1 in omega arith)
 ascends_same R trans strict (x ∷ xs) [] h k to from = absurd (let c = to x (cons_here x xs) in let l : c.0 < 0 = c.1 in omega arith)

@@ -1,5 +1,6 @@
 -- What comes of visiting a file: one outcome, a ring that is one, and files that no imports lead back to.
-use Rattle.std.proofs.Common.{◌≡◌, ℕ, zero, suc, ◌+◌, ◌<◌, ◌≤◌, ◌⊎◌, inl, inr, List, [], ◌∷◌, ◌++◌, length, get_or, Some, refl, ap, sym, ◌∙◌, subst, arith}
+use Rattle.std.proofs.Common.{◌≡◌, ℕ, zero, suc, ◌+◌, ◌<◌, ◌≤◌, ◌⊎◌, inl, inr, List, [], ◌∷◌, ◌++◌, length, get_or}
+use Rattle.std.proofs.Common.{Some, refl, ap, sym, ◌∙◌, subst, arith}
 use Rattle.std.specs.Prelude.{slice_get, Contains, map}
 use Rattle.std.proofs.lemmas.Bool.{cases_lt, cases_eq}
 use Rattle.std.proofs.lemmas.List.Elements.{Contains-append_left, Contains-push, Contains-push_cases}
@@ -104,7 +105,8 @@ new_at visiting left j free new = (
   ],
 )
 
-pub leaves_so : {set : List Member} {within left : List ℕ} {i n : ℕ} {after : List ℕ} → IsAt within left i → Visits set within left i n (leaves after) → Leaves within left i after
+pub leaves_so : {set : List Member} {within left : List ℕ} {i n : ℕ} {after : List ℕ} → IsAt within left i
+    → Visits set within left i n (leaves after) → Leaves within left i after
 leaves_so {set} {within} {left} {i} at (ends none) = record {
   keeps = λ k c. cons_more i left k c;
   has = cons_here i left;
@@ -126,7 +128,8 @@ leaves_so {set} {within} {left} {i} at (enters {after = mid} {j = j} l new v w) 
 
 -- ---- one outcome
 
-pub visits_one : {set : List Member} {within left : List ℕ} {i n : ℕ} {o p : Outcome} → ArePathsApart set → IsAt within left i → Visits set within left i n o → Visits set within left i n p → o ≡ p
+pub visits_one : {set : List Member} {within left : List ℕ} {i n : ℕ} {o p : Outcome} → ArePathsApart set
+    → IsAt within left i → Visits set within left i n o → Visits set within left i n p → o ≡ p
 visits_one apart at (ends none) (ends none') = refl
 visits_one apart at (ends none) (closes l c) = absurd (leads_has l none)
 visits_one apart at (ends none) (passes l c v) = absurd (leads_has l none)
@@ -198,13 +201,16 @@ LeadBackFrom set within i = (k : ℕ) → Contains (within ++ i ∷ []) k → Re
 abbrev IsRing : List Member → ℕ → ℕ → Type 0
 IsRing set i n = Reaches set 0 i × ((j : ℕ) × Leads set i n j × Reaches set j i)
 
-below_reached : {set : List Member} {i n j : ℕ} (visiting : List ℕ) → Leads set i n j → ((k : ℕ) → Contains visiting k → Reaches set k i) → (k : ℕ) → Contains (visiting ++ j ∷ []) k → Reaches set k j
+below_reached : {set : List Member} {i n j : ℕ} (visiting : List ℕ) → Leads set i n j
+    → ((k : ℕ) → Contains visiting k → Reaches set k i) → (k : ℕ) → Contains (visiting ++ j ∷ []) k → Reaches set k j
 below_reached {set} {i} {n} {j} visiting l from k c = elim (Contains-push_cases visiting j k c) [
   | inl old ↦ onward (from k old) l
   | inr e ↦ subst (λ (x : ℕ). Reaches set x j) e here
 ]
 
-pub ring_from : {set : List Member} {within left : List ℕ} {i n k m : ℕ} → Reaches set 0 i → ((k : ℕ) → Contains (within ++ i ∷ []) k → Reaches set k i) → Visits set within left i n (ring k m) → Reaches set 0 k × ((j : ℕ) × Leads set k m j × Reaches set j k)
+pub ring_from : {set : List Member} {within left : List ℕ} {i n k m : ℕ} → Reaches set 0 i
+    → ((k : ℕ) → Contains (within ++ i ∷ []) k → Reaches set k i) → Visits set within left i n (ring k m)
+    → Reaches set 0 k × ((j : ℕ) × Leads set k m j × Reaches set j k)
 ring_from root from (closes {j = j} l c) = (root, (j, l, from j c))
 ring_from root from (passes l c v) = ring_from root from v
 ring_from root from (enters l new v w) = ring_from root from w
@@ -229,7 +235,9 @@ pub data AreLeft (set : List Member) : List ℕ → Type 0 where
 abbrev pub LedBefore : List Member → List ℕ → ℕ → ℕ → Type 0
 LedBefore set left i n = (m j : ℕ) → m < n → Leads set i m j → Contains left j
 
-led_more : {set : List Member} (left after : List ℕ) {i n j : ℕ} → ArePathsApart set → Leads set i n j → Contains after j → ((k : ℕ) → Contains left k → Contains after k) → LedBefore set left i n → LedBefore set after i (n + 1)
+led_more : {set : List Member} (left after : List ℕ) {i n j : ℕ} → ArePathsApart set → Leads set i n j
+    → Contains after j → ((k : ℕ) → Contains left k → Contains after k) → LedBefore set left i n
+    → LedBefore set after i (n + 1)
 led_more {set} left after {i} {n} {j} apart l c keeps before m k below lk = elim (cases_eq m n) [
   | inl e ↦
       let lj : Leads set i m j = subst (λ (x : ℕ). Leads set i x j) (sym e) l in
@@ -237,7 +245,9 @@ led_more {set} left after {i} {n} {j} apart l c keeps before m k below lk = elim
   | inr ne ↦ keeps k (before m k (omega arith) lk)
 ]
 
-pub left_so : {set : List Member} {within left : List ℕ} {i n : ℕ} {after : List ℕ} → ArePathsApart set → IsAt within left i → LedBefore set left i n → AreLeft set left → Visits set within left i n (leaves after) → AreLeft set after
+pub left_so : {set : List Member} {within left : List ℕ} {i n : ℕ} {after : List ℕ} → ArePathsApart set
+    → IsAt within left i → LedBefore set left i n → AreLeft set left → Visits set within left i n (leaves after)
+    → AreLeft set after
 left_so {set} {within} {left} {i} {n} apart at before known (ends none) =
     behind {left = left}
     (λ m j l. elim (cases_lt m n) [
@@ -285,7 +295,9 @@ none_in_ring {set} {left} {i} apart v r back =
 
 -- ---- left files are reached
 
-left_reached : {set : List Member} {within left : List ℕ} {i n : ℕ} {after : List ℕ} → Reaches set 0 i → ((k : ℕ) → Contains left k → Reaches set 0 k) → Visits set within left i n (leaves after) → (k : ℕ) → Contains after k → Reaches set 0 k
+left_reached : {set : List Member} {within left : List ℕ} {i n : ℕ} {after : List ℕ} → Reaches set 0 i
+    → ((k : ℕ) → Contains left k → Reaches set 0 k) → Visits set within left i n (leaves after) → (k : ℕ)
+    → Contains after k → Reaches set 0 k
 left_reached {set} {left = left} {i = i} root known (ends none) k c = elim (cons_cases i left k c) [
   | inl e ↦ subst (Reaches set 0) e root
   | inr old ↦ known k old
@@ -294,7 +306,8 @@ left_reached root known (passes l c v) k d = left_reached root known v k d
 left_reached root known (enters l new v w) k d =
     left_reached root (λ m e. left_reached (onward root l) known v m e) w k d
 
-pub root_reaches : {set : List Member} {left : List ℕ} → ArePathsApart set → VisitsRoot set (leaves left) → (k : ℕ) → (Contains left k → Reaches set 0 k) × (Reaches set 0 k → Contains left k)
+pub root_reaches : {set : List Member} {left : List ℕ} → ArePathsApart set → VisitsRoot set (leaves left) → (k : ℕ)
+    → (Contains left k → Reaches set 0 k) × (Reaches set 0 k → Contains left k)
 root_reaches apart v k =
     let known = root_left apart v in
     (left_reached here (λ m c. absurd (none_in m c)) v k, λ r. left_reaches known.0 known.1 r)

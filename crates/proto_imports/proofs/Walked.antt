@@ -1,5 +1,6 @@
 -- How a walk stands, and what comes of it.
-use Rattle.std.proofs.Common.{◌≡◌, Bool, true, false, ℕ, zero, suc, ◌<◌, ◌≤◌, inl, inr, List, [], ◌∷◌, ◌++◌, length, set, replicate, refl, sym, ap, ◌∙◌, subst, arith, length-set}
+use Rattle.std.proofs.Common.{◌≡◌, Bool, true, false, ℕ, zero, suc, ◌<◌, ◌≤◌, inl, inr, List, [], ◌∷◌, ◌++◌, length}
+use Rattle.std.proofs.Common.{set, replicate, refl, sym, ap, ◌∙◌, subst, arith, length-set}
 use Rattle.std.specs.Prelude.{slice_get, Some, Contains, map}
 use Rattle.std.proofs.lemmas.Bool.{cases_eq}
 use Rattle.std.proofs.lemmas.List.{map_push, same_from_push, length-replicate}
@@ -45,7 +46,8 @@ no_frames : (rest : List Frame) (f : Frame) → [] ≡ rest ++ f ∷ [] → ⊥
 no_frames [] f e = cc
 no_frames (x ∷ xs) f e = cc
 
-parts_at : {set : List Member} {frames : List Frame} {left : List ℕ} {outcome : Outcome} (rest : List Frame) (f : Frame) → frames ≡ rest ++ f ∷ [] → Resumes set frames left outcome → Parts set rest f left outcome
+parts_at : {set : List Member} {frames : List Frame} {left : List ℕ} {outcome : Outcome} (rest : List Frame)
+    (f : Frame) → frames ≡ rest ++ f ∷ [] → Resumes set frames left outcome → Parts set rest f left outcome
 parts_at rest f e done = absurd (no_frames rest f e)
 parts_at {set} {left = left} rest f e (in_ring {k = k} {m = m} rest' g is v) =
     let same = same_from_push rest rest' f g (sym e ∙ is) in
@@ -64,23 +66,31 @@ from_parts rest f (part_ring v) = in_ring rest f refl v
 from_parts rest f (part_goes v r) = goes rest f refl v r
 
 -- the innermost file has no further import
-leave_parts : {set : List Member} {left : List ℕ} {outcome : Outcome} (rest : List Frame) (f : Frame) → HasNoImport set f.file f.next → Resumes set rest (f.file ∷ left) outcome → Parts set rest f left outcome
+leave_parts : {set : List Member} {left : List ℕ} {outcome : Outcome} (rest : List Frame) (f : Frame)
+    → HasNoImport set f.file f.next → Resumes set rest (f.file ∷ left) outcome → Parts set rest f left outcome
 leave_parts rest f none r = part_goes (ends none) r
 
 -- its next import leads to a left file
-pass_parts : {set : List Member} {left : List ℕ} {j : ℕ} {outcome : Outcome} (rest : List Frame) (f : Frame) → Leads set f.file f.next j → Contains left j → Parts set rest (next_frame f) left outcome → Parts set rest f left outcome
+pass_parts : {set : List Member} {left : List ℕ} {j : ℕ} {outcome : Outcome} (rest : List Frame) (f : Frame)
+    → Leads set f.file f.next j → Contains left j → Parts set rest (next_frame f) left outcome
+    → Parts set rest f left outcome
 pass_parts rest f l c (part_ring v) = part_ring (passes l c v)
 pass_parts rest f l c (part_goes v r) = part_goes (passes l c v) r
 
 files_next : (rest : List Frame) (f : Frame) → files_of (rest ++ next_frame f ∷ []) ≡ files_of rest ++ f.file ∷ []
 files_next rest f = map_push file_of rest (next_frame f)
 
-entered : {set : List Member} {left after : List ℕ} {j : ℕ} {outcome : Outcome} (rest : List Frame) (f : Frame) → Leads set f.file f.next j → IsNew (files_of rest ++ f.file ∷ []) left j → Visits set (files_of rest ++ f.file ∷ []) left j 0 (leaves after) → Parts set rest (next_frame f) after outcome → Parts set rest f left outcome
+entered : {set : List Member} {left after : List ℕ} {j : ℕ} {outcome : Outcome} (rest : List Frame) (f : Frame)
+    → Leads set f.file f.next j → IsNew (files_of rest ++ f.file ∷ []) left j
+    → Visits set (files_of rest ++ f.file ∷ []) left j 0 (leaves after) → Parts set rest (next_frame f) after outcome
+    → Parts set rest f left outcome
 entered rest f l new v (part_ring w) = part_ring (enters l new v w)
 entered rest f l new v (part_goes w r) = part_goes (enters l new v w) r
 
 -- it leads to a new file
-enter_parts : {set : List Member} {left : List ℕ} {j : ℕ} {outcome : Outcome} (rest : List Frame) (f : Frame) → Leads set f.file f.next j → IsNew (files_of rest ++ f.file ∷ []) left j → Parts set (rest ++ next_frame f ∷ []) (first_frame j) left outcome → Parts set rest f left outcome
+enter_parts : {set : List Member} {left : List ℕ} {j : ℕ} {outcome : Outcome} (rest : List Frame) (f : Frame)
+    → Leads set f.file f.next j → IsNew (files_of rest ++ f.file ∷ []) left j
+    → Parts set (rest ++ next_frame f ∷ []) (first_frame j) left outcome → Parts set rest f left outcome
 enter_parts {set} {left} {j} rest f l new (part_ring {k = k} {m = m} v) =
     part_ring (meets l new (subst (λ (fs : List ℕ). Visits set fs left j 0 (ring k m)) (files_next rest f) v))
 enter_parts {set} {left} {j} rest f l new (part_goes {after = after} v r) =
@@ -131,7 +141,9 @@ once_last xs x once c =
     omega (arith, slice_get_within xs at.0 x at.1)
 
 -- a new file is entered
-pub shows_entered : {set' : List Member} {visiting left : List ℕ} {marks : List Mark} (j : ℕ) → Shows set' visiting left marks → slice_get marks j ≡ Some New → Shows set' (visiting ++ j ∷ []) left (set marks j Visiting)
+pub shows_entered : {set' : List Member} {visiting left : List ℕ} {marks : List Mark} (j : ℕ)
+    → Shows set' visiting left marks → slice_get marks j ≡ Some New
+    → Shows set' (visiting ++ j ∷ []) left (set marks j Visiting)
 shows_entered {set'} {visiting} {left} {marks} j h new =
     let within = slice_get_within marks j New new in
     let fresh = new_is h new in
@@ -211,7 +223,8 @@ pub record IsInnermost (set' : List Member) (rest : List Frame) (f : Frame) (mar
   pub shows : Shows set' (files_of rest ++ f.file ∷ []) left marks
   pub resumes : (outcome : Outcome) → Parts set' rest f left outcome → VisitsRoot set' outcome
 
-pub innermost : {set' : List Member} {frames : List Frame} {marks : List Mark} (rest : List Frame) (f : Frame) → frames ≡ rest ++ f ∷ [] → IsWalk set' frames marks → IsInnermost set' rest f marks
+pub innermost : {set' : List Member} {frames : List Frame} {marks : List Mark} (rest : List Frame) (f : Frame)
+    → frames ≡ rest ++ f ∷ [] → IsWalk set' frames marks → IsInnermost set' rest f marks
 innermost {set'} {frames} {marks} rest f e h = record {
   left = h.left;
   shows = subst (λ (fs : List ℕ). Shows set' fs h.left marks) (ap files_of e ∙ map_push file_of rest f) h.shows;
@@ -222,21 +235,26 @@ pub innermost_file : {set' : List Member} {rest : List Frame} {f : Frame} {marks
 innermost_file {rest = rest} {f = f} {marks = marks} h =
     slice_get_within marks f.file Visiting ((h.shows.visited f.file).1 (Contains-push (files_of rest) f.file))
 
-pub walk_left : {set' : List Member} {rest : List Frame} {f : Frame} {marks : List Mark} → IsInnermost set' rest f marks → HasNoImport set' f.file f.next → IsWalk set' rest (set marks f.file Left)
+pub walk_left : {set' : List Member} {rest : List Frame} {f : Frame} {marks : List Mark}
+    → IsInnermost set' rest f marks → HasNoImport set' f.file f.next → IsWalk set' rest (set marks f.file Left)
 walk_left {set'} {rest} {f} {marks} h none = record {
   left = f.file ∷ h.left;
   shows = shows_left f.file h.shows;
   resumes = λ outcome r. h.resumes outcome (leave_parts rest f none r);
 }
 
-pub walk_passed : {set' : List Member} {rest : List Frame} {f : Frame} {marks : List Mark} {j : ℕ} → IsInnermost set' rest f marks → Leads set' f.file f.next j → slice_get marks j ≡ Some Left → IsWalk set' (rest ++ next_frame f ∷ []) marks
+pub walk_passed : {set' : List Member} {rest : List Frame} {f : Frame} {marks : List Mark} {j : ℕ}
+    → IsInnermost set' rest f marks → Leads set' f.file f.next j → slice_get marks j ≡ Some Left
+    → IsWalk set' (rest ++ next_frame f ∷ []) marks
 walk_passed {set'} {rest} {f} {marks} {j} h l mark = record {
   left = h.left;
   shows = subst (λ (fs : List ℕ). Shows set' fs h.left marks) (sym (files_next rest f)) h.shows;
   resumes = λ outcome r. h.resumes outcome (pass_parts rest f l ((h.shows.gone j).0 mark) (parts_at rest (next_frame f) refl r));
 }
 
-pub walk_entered : {set' : List Member} {rest : List Frame} {f : Frame} {marks : List Mark} {j : ℕ} → IsInnermost set' rest f marks → Leads set' f.file f.next j → slice_get marks j ≡ Some New → IsWalk set' ((rest ++ next_frame f ∷ []) ++ first_frame j ∷ []) (set marks j Visiting)
+pub walk_entered : {set' : List Member} {rest : List Frame} {f : Frame} {marks : List Mark} {j : ℕ}
+    → IsInnermost set' rest f marks → Leads set' f.file f.next j → slice_get marks j ≡ Some New
+    → IsWalk set' ((rest ++ next_frame f ∷ []) ++ first_frame j ∷ []) (set marks j Visiting)
 walk_entered {set'} {rest} {f} {marks} {j} h l mark =
     let is : files_of ((rest ++ next_frame f ∷ []) ++ first_frame j ∷ []) ≡ (files_of rest ++ f.file ∷ []) ++ j ∷ [] =
     map_push file_of (rest ++ next_frame f ∷ []) (first_frame j) ∙ ap (λ (fs : List ℕ). fs ++ j ∷ []) (files_next rest f) in
@@ -247,7 +265,9 @@ walk_entered {set'} {rest} {f} {marks} {j} h l mark =
           (enter_parts rest f l (new_is h.shows mark) (parts_at (rest ++ next_frame f ∷ []) (first_frame j) refl r));
     }
 
-pub walk_closed : {set' : List Member} {rest : List Frame} {f : Frame} {marks : List Mark} {j : ℕ} → IsInnermost set' rest f marks → Leads set' f.file f.next j → slice_get marks j ≡ Some Visiting → VisitsRoot set' (ring f.file f.next)
+pub walk_closed : {set' : List Member} {rest : List Frame} {f : Frame} {marks : List Mark} {j : ℕ}
+    → IsInnermost set' rest f marks → Leads set' f.file f.next j → slice_get marks j ≡ Some Visiting
+    → VisitsRoot set' (ring f.file f.next)
 walk_closed {rest = rest} {f = f} {j = j} h l mark =
     h.resumes (ring f.file f.next) (part_ring (closes l ((h.shows.visited j).0 mark)))
 
@@ -288,7 +308,9 @@ from_first (part_goes v (goes rest f e w r)) = absurd (no_frames rest f e)
 first_resumes : {set' : List Member} {outcome : Outcome} → Resumes set' (first_frame 0 ∷ []) [] outcome → VisitsRoot set' outcome
 first_resumes {set'} r = from_first (parts_at [] (first_frame 0) refl r)
 
-pub walk_first : (set' : List Member) (n : ℕ) (frames : List Frame) (marks : List Mark) → n ≡ length set' → 0 < length set' → frames ≡ first_frame 0 ∷ [] → marks ≡ set (replicate n New) 0 Visiting → IsWalk set' frames marks
+pub walk_first : (set' : List Member) (n : ℕ) (frames : List Frame) (marks : List Mark) → n ≡ length set'
+    → 0 < length set' → frames ≡ first_frame 0 ∷ [] → marks ≡ set (replicate n New) 0 Visiting
+    → IsWalk set' frames marks
 walk_first set' n frames marks e some is shows =
     subst (λ (ms : List Mark). IsWalk set' frames ms) (sym shows)
     (subst (λ (fs : List Frame). IsWalk set' fs (set (replicate n New) 0 Visiting)) (sym is) (record {
@@ -312,7 +334,9 @@ no_link {n = n} h l x at = omega (arith, h.all n x at)
 
 -- ---- an import that was followed
 
-pub followed : {set' : List Member} (old new : Walk) (f : Frame) (l : Link) (r : Bool) → r ≡ false → IsInnermost set' old.frames.items f old.marks.items → Leads set' f.file f.next l.file → Follows old f l r new → IsWalk set' new.frames.items new.marks.items
+pub followed : {set' : List Member} (old new : Walk) (f : Frame) (l : Link) (r : Bool) → r ≡ false
+    → IsInnermost set' old.frames.items f old.marks.items → Leads set' f.file f.next l.file → Follows old f l r new
+    → IsWalk set' new.frames.items new.marks.items
 followed {set'} old new f l r e h lead (to_new mark marks frames) =
     subst (λ (fs : List Frame). IsWalk set' fs new.marks.items) (sym frames)
     (subst (λ (ms : List Mark). IsWalk set' ((old.frames.items ++ next_frame f ∷ []) ++ first_frame l.file ∷ []) ms) (sym marks) (walk_entered h lead mark))
@@ -321,17 +345,22 @@ followed {set'} old new f l r e h lead (to_left mark marks frames) =
     subst (λ (fs : List Frame). IsWalk set' fs new.marks.items) (sym frames)
     (subst (λ (ms : List Mark). IsWalk set' (old.frames.items ++ next_frame f ∷ []) ms) (sym marks) (walk_passed h lead mark))
 
-pub ringed : {set' : List Member} (old new : Walk) (f : Frame) (l : Link) (r : Bool) → r ≡ true → IsInnermost set' old.frames.items f old.marks.items → Leads set' f.file f.next l.file → Follows old f l r new → VisitsRoot set' (ring f.file f.next)
+pub ringed : {set' : List Member} (old new : Walk) (f : Frame) (l : Link) (r : Bool) → r ≡ true
+    → IsInnermost set' old.frames.items f old.marks.items → Leads set' f.file f.next l.file → Follows old f l r new
+    → VisitsRoot set' (ring f.file f.next)
 ringed old new f l r e h lead (to_new mark marks frames) = absurd cc
 ringed old new f l r e h lead (to_visited mark) = walk_closed h lead mark
 ringed old new f l r e h lead (to_left mark marks frames) = absurd cc
 
-pub less_followed : (set' : List Member) (old new : Walk) (frames : List Frame) (f : Frame) (l : Link) (r : Bool) → r ≡ false → frames ≡ old.frames.items ++ f ∷ [] → Leads set' f.file f.next l.file → Follows old f l r new → remaining set' new.frames.items new.marks.items < remaining set' frames old.marks.items
+pub less_followed : (set' : List Member) (old new : Walk) (frames : List Frame) (f : Frame) (l : Link) (r : Bool)
+    → r ≡ false → frames ≡ old.frames.items ++ f ∷ [] → Leads set' f.file f.next l.file → Follows old f l r new
+    → remaining set' new.frames.items new.marks.items < remaining set' frames old.marks.items
 less_followed set' old new frames f l r e is lead (to_new mark marks frames') =
     rw (is, frames', marks) (less_entered set' old.frames.items f l.file old.marks.items (count_past lead.import_at) (link_file lead) mark)
 less_followed set' old new frames f l r e is lead (to_visited mark) = absurd cc
 less_followed set' old new frames f l r e is lead (to_left mark marks frames') =
     rw (is, frames', marks) (less_passed set' old.frames.items f old.marks.items (count_past lead.import_at))
 
-pub less_gone : (set' : List Member) (rest frames : List Frame) (f : Frame) (marks : List Mark) → frames ≡ rest ++ f ∷ [] → remaining set' rest (set marks f.file Left) < remaining set' frames marks
+pub less_gone : (set' : List Member) (rest frames : List Frame) (f : Frame) (marks : List Mark)
+    → frames ≡ rest ++ f ∷ [] → remaining set' rest (set marks f.file Left) < remaining set' frames marks
 less_gone set' rest frames f marks is = rw is (less_left set' rest f marks)

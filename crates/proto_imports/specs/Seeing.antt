@@ -1,4 +1,4 @@
--- What a file sees so far.
+-- The code's own: what a file sees so far.
 use Rattle.std.specs.Prelude.{◌≡◌, ◌⊎◌, ℕ, ◌+◌, ◌*◌, ◌<◌, ◌≤◌, List, [], ◌∷◌, Bool, true, false, Some, All, slice_get, length, Contains}
 use Rattle.proto_imports.specs.Leading.{Leads, LeadsPublicly, Sees}
 use Rattle.proto_imports.specs.declared.set.Member.{Member}

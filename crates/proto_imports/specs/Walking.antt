@@ -1,4 +1,4 @@
--- How the walk through the files of a set goes on.
+-- The code's own: how the walk through the files of a set goes on.
 use Rattle.std.specs.Prelude.{◌≡◌, ◌↔◌, ℕ, ◌+◌, List, [], ◌∷◌, ◌++◌, Bool, true, false, Some, slice_get, slice_set, length, Contains}
 use Rattle.proto_imports.specs.Leading.{Reaches}
 use Rattle.proto_imports.specs.Visiting.{leaves, ring, VisitsRoot}

@@ -16,7 +16,8 @@ use Rattle.proto_file.specs.declared.file.ServiceDecl.{ServiceDecl}
 use Rattle.proto_file.specs.Joined.{alone}
 use Rattle.proto_join.specs.declared.part.Part.{Part}
 use Rattle.proto_join.specs.Joining.{nothing, joined}
-use Rattle.proto_join.specs.Shifted.{shift_span, shift_word, shift_number, shift_range, shift_type, shift_field, shift_value, shift_rpc, shift_parent, shift_message, shift_enum, shift_service}
+use Rattle.proto_join.specs.Shifted.{shift_span, shift_word, shift_number, shift_range, shift_type, shift_field}
+use Rattle.proto_join.specs.Shifted.{shift_value, shift_rpc, shift_parent, shift_message, shift_enum, shift_service}
 
 map_same : {X : Type 0} (f : X → X) → ((x : X) → f x ≡ x) → (xs : List X) → map f xs ≡ xs
 map_same f h [] = refl

@@ -1,5 +1,6 @@
 -- What was joined is well formed.
-use Rattle.std.proofs.Common.{◌≡◌, ℕ, suc, ◌+◌, ◌<◌, ◌≤◌, List, [], ◌∷◌, length, get_or, map, All, Contains, Option, Some, None, option_map, slice_get, IfSome, refl, ap, sym, ◌∙◌, subst, arith}
+use Rattle.std.proofs.Common.{◌≡◌, ℕ, suc, ◌+◌, ◌<◌, ◌≤◌, List, [], ◌∷◌, length, get_or, map, All, Contains, Option}
+use Rattle.std.proofs.Common.{Some, None, option_map, slice_get, IfSome, refl, ap, sym, ◌∙◌, subst, arith}
 use Rattle.std.proofs.lemmas.Option.{slice_get_within}
 use Rattle.std.proofs.lemmas.List.{length-map, get_or-map}
 use Rattle.std.proofs.lemmas.List.Elements.{All-map}
@@ -13,14 +14,17 @@ use Rattle.proto_file.specs.declared.file.EnumDecl.{EnumDecl}
 use Rattle.proto_file.specs.declared.file.RpcDecl.{RpcDecl}
 use Rattle.proto_file.specs.declared.file.ServiceDecl.{ServiceDecl}
 use Rattle.proto_file.specs.declared.joined.Head.{Head}
-use Rattle.proto_file.specs.Order.{IsPlaceBelow, HasName, HasFullName, HasTypeName, relative, absolute, HasTypeNames, IsFormedField, IsFormedMessage, IsFormedEnum, IsFormedRpc, IsFormedService}
+use Rattle.proto_file.specs.Order.{IsPlaceBelow, HasName, HasFullName, HasTypeName, relative, absolute, HasTypeNames}
+use Rattle.proto_file.specs.Order.{IsFormedField, IsFormedMessage, IsFormedEnum, IsFormedRpc, IsFormedService}
 use Rattle.proto_file.specs.Together.{IsFormedHead, IsFormed}
 use Rattle.proto_join.specs.declared.part.Part.{Part}
 use Rattle.proto_join.specs.declared.part.Before.{Before}
 use Rattle.proto_join.specs.Joining.{nothing, behind, gathered, heads_of, joined}
 use Rattle.proto_join.specs.Shifted.{shift_word, shift_type, shift_field, shift_value, shift_rpc, shift_parent, shift_message, shift_enum, shift_service, shift_head}
 use Rattle.proto_join.specs.Sound.{AreSound}
-use Rattle.proto_join.proofs.Finding.{start-suc, start-le, start-one, one_start, before_at, messages_of, before-files, before-messages, got_of_all, all_of_got, got_of_contains, found, length-gathered}
+use Rattle.proto_join.proofs.Finding.{start-suc, start-le, start-one, one_start, before_at, messages_of, before-files}
+use Rattle.proto_join.proofs.Finding.{before-messages, got_of_all, all_of_got, got_of_contains, found}
+use Rattle.proto_join.proofs.Finding.{length-gathered}
 use Rattle.proto_join.proofs.Standing.{head_item}
 use Rattle.proto_join.proofs.Ordering.{parent_back, below_of}
 

@@ -1,5 +1,7 @@
 -- One item more that is moved, and one file more that is joined.
-use Rattle.std.proofs.Common.{◌≡◌, ℕ, ◌+◌, ◌^◌, ◌<◌, ◌≤◌, List, [], ◌∷◌, ◌++◌, length, take, drop, set, get_or, map, sum, sum_by, All, IfSome, Option, Some, None, refl, ap, sym, ◌∙◌, subst, arith, append-nil, append_assoc, get_or-drop, map-id}
+use Rattle.std.proofs.Common.{◌≡◌, ℕ, ◌+◌, ◌^◌, ◌<◌, ◌≤◌, List, [], ◌∷◌, ◌++◌, length, take, drop, set, get_or, map}
+use Rattle.std.proofs.Common.{sum, sum_by, All, IfSome, Option, Some, None, refl, ap, sym, ◌∙◌, subst, arith}
+use Rattle.std.proofs.Common.{append-nil, append_assoc, get_or-drop, map-id}
 use Rattle.std.proofs.lemmas.List.{take_more_set, map_more, drop-set-lt, drop-drop}
 use Rattle.std.proofs.lemmas.List.Elements.{All-same, All-weaker}
 use Rattle.std.proofs.lemmas.Option.{slice_get-get_or}
@@ -23,7 +25,9 @@ use Rattle.proto_join.specs.Joining.{nothing, behind, gathered, heads_of, joined
 use Rattle.proto_join.specs.Placing.{room_behind, CanPlace, with_file}
 use Rattle.proto_join.specs.Shifted.{shift_message, shift_enum, shift_service, shift_head}
 use Rattle.proto_join.specs.Sound.{IsSound}
-use Rattle.proto_file.specs.Within.{IsSpanWithin, IsWordWithin, IsNumberWithin, IsRangeWithin, IsTypeWithin, IsFieldWithin, IsMessageWithin, IsValueWithin, IsEnumWithin, IsRpcWithin, IsServiceWithin}
+use Rattle.proto_file.specs.Within.{IsSpanWithin, IsWordWithin, IsNumberWithin, IsRangeWithin, IsTypeWithin}
+use Rattle.proto_file.specs.Within.{IsFieldWithin, IsMessageWithin, IsValueWithin, IsEnumWithin, IsRpcWithin}
+use Rattle.proto_file.specs.Within.{IsServiceWithin}
 
 -- ---- a list whose first items are moved
 

@@ -9,15 +9,21 @@ use Rattle.proto_file.specs.declared.file.MessageDecl.{MessageDecl}
 use Rattle.proto_file.specs.declared.file.EnumDecl.{EnumDecl}
 use Rattle.proto_file.specs.declared.file.ServiceDecl.{ServiceDecl}
 use Rattle.proto_file.specs.Order.{Part as Piece, rank_of, IsPlaceBelow, Declaration as Own, StandsAt as OwnStandsAt}
-use Rattle.proto_file.specs.Together.{Declaration, StandsAt, Precedes, IsInFile, its_package, in_message_of, in_field_of, in_oneof_of, in_enum_of, in_value_of, in_service_of, in_rpc_of, IsOrdered}
+use Rattle.proto_file.specs.Together.{Declaration, StandsAt, Precedes, IsInFile, its_package, in_message_of}
+use Rattle.proto_file.specs.Together.{in_field_of, in_oneof_of, in_enum_of, in_value_of, in_service_of, in_rpc_of}
+use Rattle.proto_file.specs.Together.{IsOrdered}
 use Rattle.proto_join.specs.declared.part.Part.{Part}
 use Rattle.proto_join.specs.declared.part.Before.{Before}
 use Rattle.proto_join.specs.Joining.{nothing, joined, IsInText}
 use Rattle.proto_join.specs.Shifted.{shift_span, shift_parent, shift_message, shift_enum, shift_service}
 use Rattle.proto_join.specs.Sound.{AreSound}
 use Rattle.proto_join.specs.Texts.{base_at, IsInTextOf}
-use Rattle.proto_join.proofs.Finding.{start, start-suc, start-apart, one_start, before_at, size_of, messages_of, before-files, before-messages, bytes_here, base_at-sizes, got_of_all, found, one_part}
-use Rattle.proto_join.proofs.Standing.{Moved, of_package, of_message, of_field, of_oneof, of_enum, of_value, of_service, of_rpc, enums_of, services_of, Located, located, stands_within, same_own, same_moved, own_precedes}
+use Rattle.proto_join.proofs.Finding.{start, start-suc, start-apart, one_start, before_at, size_of, messages_of}
+use Rattle.proto_join.proofs.Finding.{before-files, before-messages, bytes_here, base_at-sizes, got_of_all, found}
+use Rattle.proto_join.proofs.Finding.{one_part}
+use Rattle.proto_join.proofs.Standing.{Moved, of_package, of_message, of_field, of_oneof, of_enum, of_value}
+use Rattle.proto_join.proofs.Standing.{of_service, of_rpc, enums_of, services_of, Located, located, stands_within}
+use Rattle.proto_join.proofs.Standing.{same_own, same_moved, own_precedes}
 
 -- ---- the file that a declaration is of
 

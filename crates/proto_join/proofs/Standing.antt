@@ -1,5 +1,6 @@
 -- Where each name and number of the joined files stands in its own file.
-use Rattle.std.proofs.Common.{◌≡◌, ℕ, ◌+◌, ◌<◌, ◌⊎◌, inl, inr, zero, suc, List, [], ◌∷◌, length, Option, Some, None, option_map, slice_get, IfSome, refl, ap, sym, ◌∙◌, subst, arith}
+use Rattle.std.proofs.Common.{◌≡◌, ℕ, ◌+◌, ◌<◌, ◌⊎◌, inl, inr, zero, suc, List, [], ◌∷◌, length, Option, Some, None}
+use Rattle.std.proofs.Common.{option_map, slice_get, IfSome, refl, ap, sym, ◌∙◌, subst, arith}
 use Rattle.std.proofs.lemmas.Option.{none-some, same_Some, slice_get_within}
 use Rattle.proto_file.specs.declared.file.Span.{Span}
 use Rattle.proto_file.specs.declared.file.Word.{Word}
@@ -13,8 +14,23 @@ use Rattle.proto_file.specs.declared.file.RpcDecl.{RpcDecl}
 use Rattle.proto_file.specs.declared.file.ServiceDecl.{ServiceDecl}
 use Rattle.proto_file.specs.declared.file.File.{File}
 use Rattle.proto_file.specs.declared.joined.Head.{Head}
-use Rattle.proto_file.specs.Order.{Part as Piece, IsOfField, field_type, map_key, map_value, outer_key, field_name, field_number, IsOfValue, value_name, value_number, IsOfRpc, rpc_name, rpc_input, rpc_output, Declaration as Own, package_decl as own_package, message_decl as own_message, field_decl as own_field, oneof_decl as own_oneof, enum_decl as own_enum, value_decl as own_value, service_decl as own_service, rpc_decl as own_rpc, StandsAt as OwnStandsAt, package_name as own_package_at, import as own_import_at, message as own_message_at, field as own_field_at, oneof as own_oneof_at, enum as own_enum_at, value as own_value_at, service as own_service_at, rpc as own_rpc_at, Precedes as OwnPrecedes, messages as own_messages, enums as own_enums, services as own_services, fields as own_fields, oneofs as own_oneofs, values as own_values, rpcs as own_rpcs, in_message as own_in_message, oneof_in_message as own_oneof_in_message, in_enum as own_in_enum, in_service as own_in_service}
-use Rattle.proto_file.specs.Together.{Declaration, package_decl, message_decl, field_decl, oneof_decl, enum_decl, value_decl, service_decl, rpc_decl, StandsAt, package_name, message, field, oneof, enum, value, service, rpc, Precedes, messages, enums, services, fields, oneofs, values, rpcs, in_message, oneof_in_message, in_enum, in_service}
+use Rattle.proto_file.specs.Order.{Part as Piece, IsOfField, field_type, map_key, map_value, outer_key, field_name}
+use Rattle.proto_file.specs.Order.{field_number, IsOfValue, value_name, value_number, IsOfRpc, rpc_name, rpc_input}
+use Rattle.proto_file.specs.Order.{rpc_output, Declaration as Own, package_decl as own_package}
+use Rattle.proto_file.specs.Order.{message_decl as own_message, field_decl as own_field, oneof_decl as own_oneof}
+use Rattle.proto_file.specs.Order.{enum_decl as own_enum, value_decl as own_value, service_decl as own_service}
+use Rattle.proto_file.specs.Order.{rpc_decl as own_rpc, StandsAt as OwnStandsAt, package_name as own_package_at}
+use Rattle.proto_file.specs.Order.{import as own_import_at, message as own_message_at, field as own_field_at}
+use Rattle.proto_file.specs.Order.{oneof as own_oneof_at, enum as own_enum_at, value as own_value_at}
+use Rattle.proto_file.specs.Order.{service as own_service_at, rpc as own_rpc_at, Precedes as OwnPrecedes}
+use Rattle.proto_file.specs.Order.{messages as own_messages, enums as own_enums, services as own_services}
+use Rattle.proto_file.specs.Order.{fields as own_fields, oneofs as own_oneofs, values as own_values, rpcs as own_rpcs}
+use Rattle.proto_file.specs.Order.{in_message as own_in_message, oneof_in_message as own_oneof_in_message}
+use Rattle.proto_file.specs.Order.{in_enum as own_in_enum, in_service as own_in_service}
+use Rattle.proto_file.specs.Together.{Declaration, package_decl, message_decl, field_decl, oneof_decl, enum_decl}
+use Rattle.proto_file.specs.Together.{value_decl, service_decl, rpc_decl, StandsAt, package_name, message, field}
+use Rattle.proto_file.specs.Together.{oneof, enum, value, service, rpc, Precedes, messages, enums, services, fields}
+use Rattle.proto_file.specs.Together.{oneofs, values, rpcs, in_message, oneof_in_message, in_enum, in_service}
 use Rattle.proto_join.specs.declared.part.Part.{Part}
 use Rattle.proto_join.specs.Joining.{nothing, heads_of, joined}
 use Rattle.proto_join.specs.Shifted.{shift_span, shift_word, shift_type, shift_field, shift_value, shift_rpc, shift_message, shift_enum, shift_service, shift_head}

@@ -1,4 +1,4 @@
--- What must fit a word of 64 bits for a file to stand behind others, and what the joined files are with it.
+-- The code's own: what must fit a word of 64 bits for a file to stand behind others, and what the joined files are with it.
 use Rattle.std.specs.Prelude.{ℕ, ◌+◌, ◌-◌, ◌^◌, ◌<◌, ◌++◌, map, IfSome, All}
 use Rattle.proto_file.specs.Joined.{Joined}
 use Rattle.proto_file.specs.declared.file.MessageDecl.{MessageDecl}

@@ -7,9 +7,14 @@ use Rattle.proto_file.specs.Dot.{dot}
 use Rattle.proto_schema.specs.Lexemes.{Meaning, identifier, integer, number, string, mark, the_end, none, Lexeme, semicolon, opening_brace, closing_brace, word_at, IsWord, IsMark, says}
 use Rattle.proto_schema.specs.Grammar.{FieldTypeOf, named, a_map, map_of_maps, begins_with, group_word, member_words, statement_words}
 use Rattle.proto_schema.specs.Files
-use Rattle.proto_schema.specs.Files.{Draft, Block, no_block, a_oneof, an_enum, a_service, an_rpc, InFile, InMessage, InBody, with_block, in_message, in_enum, open_message, open_enum, open_service, open_oneof, add_field, field, LabelOf, ClosesTo, Statement}
+use Rattle.proto_schema.specs.Files.{Draft, Block, no_block, a_oneof, an_enum, a_service, an_rpc, InFile, InMessage}
+use Rattle.proto_schema.specs.Files.{InBody, with_block, in_message, in_enum, open_message, open_enum, open_service}
+use Rattle.proto_schema.specs.Files.{open_oneof, add_field, field, LabelOf, ClosesTo, Statement}
 use Rattle.proto_schema.specs.Reading.{fault_at, wrong, next_option, field_step}
-use Rattle.proto_schema.specs.Running.{place_of, place_with, more, done, closes_in, is_body, has_fields, of_field, field_begins, mark_begins, opening_of, is_extend, file_begins, reserved_begins, labelled, message_begins, word_begins, begins, statement_step, in_oneof, filled_with, is_enum, without_first, closed_with, added}
+use Rattle.proto_schema.specs.Running.{place_of, place_with, more, done, closes_in, is_body, has_fields, of_field}
+use Rattle.proto_schema.specs.Running.{field_begins, mark_begins, opening_of, is_extend, file_begins, reserved_begins}
+use Rattle.proto_schema.specs.Running.{labelled, message_begins, word_begins, begins, statement_step, in_oneof}
+use Rattle.proto_schema.specs.Running.{filled_with, is_enum, without_first, closed_with, added}
 use Rattle.proto_schema.proofs.Choices.{either_is, same_bytes, and_both}
 use Rattle.proto_schema.proofs.TailRest.{option_of}
 use Rattle.proto_schema.proofs.FieldRest.{FieldRest, FieldBack, field_back, field_from}
@@ -40,7 +45,9 @@ use Rattle.proto_schema.specs.declared.statement.Said.{Said}
 use Rattle.proto_schema.specs.declared.statement.Said.TheVariants as said
 use Rattle.proto_schema.specs.declared.statement.Step.{Step}
 use Rattle.proto_schema.specs.declared.statement.Step.TheVariants as steps
-use Rattle.proto_schema.proofs.StatementRest.{Rest, NotBegin, PackageRest, package_rest, ImportRest, path_rest, public_rest, imported_rest, OptionEnd, option_end, OpeningRest, opening_rest, opened_rest, said_of}
+use Rattle.proto_schema.proofs.StatementRest.{Rest, NotBegin, PackageRest, package_rest, ImportRest, path_rest}
+use Rattle.proto_schema.proofs.StatementRest.{public_rest, imported_rest, OptionEnd, option_end, OpeningRest}
+use Rattle.proto_schema.proofs.StatementRest.{opening_rest, opened_rest, said_of}
 
 -- ---- what a first token does is right
 
@@ -98,7 +105,9 @@ field_in_oneof d x i filled m h ys f (field_from {ts = ts} {es = es} {kind = kin
     Files.member i filled m (widen member_words ts kind k (begins_same member_words x ys ts es h a)) e a in
     let r : added d (said.Field f) ≡ with_block (add_field d (record f { oneof = Some i })) (a_oneof i true) =
     ap (λ (b : Block). with_block (add_field d (in_oneof b f)) (filled_with b)) m in
-    subst (λ (c : Draft). Statement d (x ∷ ys) c) (sym r) (subst (λ (f : FieldDecl). Statement d (x ∷ ys) (with_block (add_field d (record f { oneof = Some i })) (a_oneof i true))) q s)
+    subst (λ (c : Draft). Statement d (x ∷ ys) c) (sym r)
+    (subst (λ (f : FieldDecl).
+    Statement d (x ∷ ys) (with_block (add_field d (record f { oneof = Some i })) (a_oneof i true))) q s)
 
 -- a field without a label, where its first token may begin one
 field_begins_back : (d : Draft) (x : Lexeme)
@@ -146,7 +155,9 @@ import_begins : (d : Draft) (x : Lexeme) → InFile d → IsWord x (codes "impor
 import_begins d x i h ys v (path_rest y path s (imported_rest z m b q) a) =
     subst (λ (v : Said). Statement d (x ∷ ys) (added d v)) q (Files.import x y z path i h s m (ap (λ (l : List Lexeme). x ∷ l) (a ∙ ap (λ (l : List Lexeme). y ∷ l) b)))
 import_begins d x i h ys v (public_rest p y path f w s (imported_rest z m b q) a) =
-    subst (λ (v : Said). Statement d (x ∷ ys) (added d v)) q (Files.public_import x p y z path i h w s m (ap (λ (l : List Lexeme). x ∷ l) (a ∙ ap (λ (l : List Lexeme). p ∷ y ∷ l) b)))
+    subst (λ (v : Said). Statement d (x ∷ ys) (added d v)) q
+    (Files.public_import x p y z path i h w s m
+    (ap (λ (l : List Lexeme). x ∷ l) (a ∙ ap (λ (l : List Lexeme). p ∷ y ∷ l) b)))
 
 not_some : {X : Type 0} (o : Option X) → not (is_some o) ≡ true → o ≡ None
 not_some None h = refl
@@ -156,7 +167,9 @@ file_back : (d : Draft) (x : Lexeme) (n : List ℕ) → IsWord x n → InFile d
     → BeginBack d x (file_begins (is_some d.file.package) n x (opening_of true n))
 file_back d x n h i =
     either_is (λ (o : Option Opening). BeginBack d x (file_begins (is_some d.file.package) n x o)) (bytes_eq n (codes "message")) (Some openings.Message)
-    (if bytes_eq n (codes "enum") then Some openings.Enum else if true && bytes_eq n (codes "service") then Some openings.Service else if not true && bytes_eq n (codes "oneof") then Some openings.Oneof else None)
+    (if bytes_eq n (codes "enum") then Some openings.Enum else if true
+    && bytes_eq n (codes "service") then Some openings.Service else if not true
+    && bytes_eq n (codes "oneof") then Some openings.Oneof else None)
     (λ e. (tt, opens d x openings.Message (open_message d) (λ y z m w b. Files.message x y z m i.0 (is_same x n (codes "message") h e) w b refl) (λ w. refl)))
     (λ a. either_is (λ (o : Option Opening). BeginBack d x (file_begins (is_some d.file.package) n x o)) (bytes_eq n (codes "enum")) (Some openings.Enum)
     (if true && bytes_eq n (codes "service") then Some openings.Service else if not true && bytes_eq n (codes "oneof") then Some openings.Oneof else None)
@@ -169,11 +182,15 @@ file_back d x n h i =
     others : BeginBack d x (file_begins (is_some d.file.package) n x None)
     others =
         either_is (BeginBack d x) (is_extend n) (Err (fault_at reasons.Extend x.span))
-        (if not (is_some d.file.package) && bytes_eq n (codes "package") then more (states.Package names.Start) else if bytes_eq n (codes "import") then more (states.Import false) else wrong x) (λ e. tt)
-        (λ a. either_is (BeginBack d x) (not (is_some d.file.package) && bytes_eq n (codes "package")) (more (states.Package names.Start)) (if bytes_eq n (codes "import") then more (states.Import false) else wrong x)
+        (if not (is_some d.file.package) && bytes_eq n (codes "package") then more (states.Package names.Start)
+        else if bytes_eq n (codes "import") then more (states.Import false) else wrong x) (λ e. tt)
+        (λ a. either_is (BeginBack d x) (not (is_some d.file.package) && bytes_eq n (codes "package"))
+        (more (states.Package names.Start)) (if bytes_eq n (codes "import") then more (states.Import false)
+        else wrong x)
         (λ e. let b : (not (is_some d.file.package) ≡ true) × (bytes_eq n (codes "package") ≡ true) = and_both (not (is_some d.file.package)) (bytes_eq n (codes "package")) e in
         (tt, package_begins d x i (not_some d.file.package b.0) (is_same x n (codes "package") h b.1)))
-        (λ b. either_is (BeginBack d x) (bytes_eq n (codes "import")) (more (states.Import false)) (wrong x) (λ e. (tt, import_begins d x i (is_same x n (codes "import") h e))) (λ e. tt)))
+        (λ b. either_is (BeginBack d x) (bytes_eq n (codes "import")) (more (states.Import false)) (wrong x)
+        (λ e. (tt, import_begins d x i (is_same x n (codes "import") h e))) (λ e. tt)))
 
 -- reserved numbers and names of a message, and of an enum
 
@@ -219,7 +236,9 @@ message_back : (d : Draft) (x : Lexeme) (n : List ℕ) → IsWord x n → bytes_
     → BeginBack d x (message_begins n x (opening_of false n))
 message_back d x n h no_option i =
     either_is (λ (o : Option Opening). BeginBack d x (message_begins n x o)) (bytes_eq n (codes "message")) (Some openings.Message)
-    (if bytes_eq n (codes "enum") then Some openings.Enum else if false && bytes_eq n (codes "service") then Some openings.Service else if not false && bytes_eq n (codes "oneof") then Some openings.Oneof else None)
+    (if bytes_eq n (codes "enum") then Some openings.Enum else if false
+    && bytes_eq n (codes "service") then Some openings.Service else if not false
+    && bytes_eq n (codes "oneof") then Some openings.Oneof else None)
     (λ e. (tt, opens d x openings.Message (open_message d) (λ y z m w b. Files.message x y z m i.0 (is_same x n (codes "message") h e) w b refl) (λ w. refl)))
     (λ a. either_is (λ (o : Option Opening). BeginBack d x (message_begins n x o)) (bytes_eq n (codes "enum")) (Some openings.Enum)
     (if not false && bytes_eq n (codes "oneof") then Some openings.Oneof else None)
@@ -246,13 +265,27 @@ message_back d x n h no_option i =
         → bytes_eq n (codes "oneof") ≡ false → BeginBack d x (message_begins n x None)
     others a b c =
         either_is (BeginBack d x) (is_extend n) (Err (fault_at reasons.Extend x.span))
-        (if bytes_eq n (codes "reserved") then reserved_begins false else if bytes_eq n (codes "optional") then labelled labels.Optional else if bytes_eq n (codes "repeated") then labelled labels.Repeated else field_begins x) (λ e. tt)
-        (λ e. either_is (BeginBack d x) (bytes_eq n (codes "reserved")) (reserved_begins false) (if bytes_eq n (codes "optional") then labelled labels.Optional else if bytes_eq n (codes "repeated") then labelled labels.Repeated else field_begins x)
+        (if bytes_eq n (codes "reserved") then reserved_begins false
+        else if bytes_eq n (codes "optional") then labelled labels.Optional
+        else if bytes_eq n (codes "repeated") then labelled labels.Repeated else field_begins x) (λ e. tt)
+        (λ e. either_is (BeginBack d x) (bytes_eq n (codes "reserved")) (reserved_begins false)
+        (if bytes_eq n (codes "optional") then labelled labels.Optional
+        else if bytes_eq n (codes "repeated") then labelled labels.Repeated else field_begins x)
         (λ w. (tt, reserved_in_message d x i (is_same x n (codes "reserved") h w)))
         (λ r. either_is (BeginBack d x) (bytes_eq n (codes "optional")) (labelled labels.Optional) (if bytes_eq n (codes "repeated") then labelled labels.Repeated else field_begins x)
-        (λ w. (tt, λ ys v k. subst (λ (v : Said). Statement d (x ∷ ys) (added d v)) k.2 (labelled_in_message d x labels.Optional i (Files.optional x (is_same x n (codes "optional") h w)) ys k.0 k.1)))
+        (λ w. (
+          tt,
+          λ ys v k. subst (λ (v : Said). Statement d (x ∷ ys) (added d v)) k.2
+              (labelled_in_message d x labels.Optional i (Files.optional x (is_same x n (codes "optional") h w)) ys k.0
+              k.1),
+        ))
         (λ o. either_is (BeginBack d x) (bytes_eq n (codes "repeated")) (labelled labels.Repeated) (field_begins x)
-        (λ w. (tt, λ ys v k. subst (λ (v : Said). Statement d (x ∷ ys) (added d v)) k.2 (labelled_in_message d x labels.Repeated i (Files.repeated x (is_same x n (codes "repeated") h w)) ys k.0 k.1)))
+        (λ w. (
+          tt,
+          λ ys v k. subst (λ (v : Said). Statement d (x ∷ ys) (added d v)) k.2
+              (labelled_in_message d x labels.Repeated i (Files.repeated x (is_same x n (codes "repeated") h w)) ys k.0
+              k.1),
+        ))
         (λ p. fields_only a b c e r o p))))
 
 oneof_back : (d : Draft) (x : Lexeme) (n : List ℕ) (i : ℕ) (filled : Bool) → IsWord x n
@@ -331,7 +364,9 @@ closes_to d an_rpc ms e f t = Files.rpc_ends e
 
 mark_back : (d : Draft) (x : Lexeme) (c : ℕ) → IsMark x c → BeginBack d x (mark_begins (place_of d) x c)
 mark_back d x c h =
-    either_is (BeginBack d x) (c == dot && has_fields (place_of d)) (field_begins x) (if c == semicolon && is_body (place_of d) then done said.Nothing else if c == closing_brace && closes_in (place_of d) then done said.Close else wrong x)
+    either_is (BeginBack d x) (c == dot && has_fields (place_of d)) (field_begins x)
+    (if c == semicolon && is_body (place_of d) then done said.Nothing else if c == closing_brace
+    && closes_in (place_of d) then done said.Close else wrong x)
     (λ e. let b : ((c == dot) ≡ true) × (has_fields (place_of d) ≡ true) = and_both (c == dot) (has_fields (place_of d)) e in
     dot_back d x d.block d.messages refl refl (h ∙ ap mark (eqb-true c dot b.0)) b.1)
     (λ e. either_is (BeginBack d x) (c == semicolon && is_body (place_of d)) (done said.Nothing) (if c == closing_brace && closes_in (place_of d) then done said.Close else wrong x)

@@ -6,7 +6,9 @@ use Rattle.proto_schema.specs.Lexemes.{Meaning, identifier, integer, number, str
 use Rattle.proto_schema.specs.Files.{Draft, Forms, nothing_said}
 use Rattle.proto_schema.specs.Faults.{is_no_token}
 use Rattle.proto_schema.specs.Reading.{fault_at, unexpected, is_mark}
-use Rattle.proto_schema.specs.Running.{place_of, added, statement_step, Outcome, cut_off, read, failed, is_over, behind, run, reading, behind_word, behind_equals, behind_value, behind_syntax, is_too_deep}
+use Rattle.proto_schema.specs.Running.{place_of, added, statement_step, Outcome, cut_off, read, failed, is_over}
+use Rattle.proto_schema.specs.Running.{behind, run, reading, behind_word, behind_equals, behind_value, behind_syntax}
+use Rattle.proto_schema.specs.Running.{is_too_deep}
 use Rattle.proto_schema.proofs.Next.{run_step, run_over}
 use Rattle.proto_file.specs.declared.file.File.{File}
 use Rattle.proto_schema.specs.declared.fault.ProtoReason.TheVariants as reasons
@@ -75,7 +77,8 @@ syntax_fails : (limited : Bool) (e : ProtoFault) (xs ys : List Lexeme)
 syntax_fails limited e [] ys h = absurd (let t : cut_off nothing_said states.Begin ≡ failed e = h in cc)
 syntax_fails limited e (z ∷ zs) ys h = by (is_mark z.means semicolon) h
   where
-    by : (b : Bool) → Fails e (if b then run limited nothing_said states.Begin zs else failed (unexpected z)) (if b then run limited nothing_said states.Begin (zs ++ ys) else failed (unexpected z))
+    by : (b : Bool) → Fails e (if b then run limited nothing_said states.Begin zs else failed (unexpected z))
+        (if b then run limited nothing_said states.Begin (zs ++ ys) else failed (unexpected z))
     by true h = run_fails limited e nothing_said states.Begin zs ys h
     by false h = h
 
@@ -83,7 +86,8 @@ value_fails : (limited : Bool) (e : ProtoFault) (w y : Lexeme) (xs ys : List Lex
     → Fails e (behind_value limited w y xs m) (behind_value limited w y (xs ++ ys) m)
 value_fails limited e w y xs ys (string v) h = by (bytes_eq v (codes "proto3")) h
   where
-    by : (b : Bool) → Fails e (if b then behind_syntax limited xs else failed (fault_at reasons.Syntax2 w.span)) (if b then behind_syntax limited (xs ++ ys) else failed (fault_at reasons.Syntax2 w.span))
+    by : (b : Bool) → Fails e (if b then behind_syntax limited xs else failed (fault_at reasons.Syntax2 w.span))
+        (if b then behind_syntax limited (xs ++ ys) else failed (fault_at reasons.Syntax2 w.span))
     by true h = syntax_fails limited e xs ys h
     by false h = h
 value_fails limited e w y xs ys (identifier v) h = h
@@ -174,7 +178,13 @@ cut_run xs d s h = by (state_ending d s)
   where
     by : (ys : List Lexeme) × (file : File) × (run false d s ys ≡ read file)
         → Finishes (λ l. run false nothing_said states.Begin l) xs
-    by (ys, file, r) = (ys, file, (let c : Continues false (run false nothing_said states.Begin xs) ys (run false nothing_said states.Begin (xs ++ ys)) = run_on false xs ys nothing_said states.Begin in rw h at c) ∙ r)
+    by (ys, file, r) = (
+      ys,
+      file,
+      (let c : Continues false (run false nothing_said states.Begin xs) ys
+          (run false nothing_said states.Begin (xs ++ ys)) = run_on false xs ys nothing_said states.Begin in rw h at c)
+          ∙ r,
+    )
 
 cut_syntax : (xs : List Lexeme) (d : Draft) (s : State) → behind_syntax false xs ≡ cut_off d s
     → Finishes (λ l. behind_syntax false l) xs
@@ -229,7 +239,9 @@ cut_reading (w ∷ xs) d s h = by (says w.means (codes "syntax")) refl h
     other true h = absurd (let t : failed (unexpected w) ≡ cut_off d s = h in cc)
     other false h = absurd (let t : failed (fault_at reasons.Syntax2 w.span) ≡ cut_off d s = h in cc)
 
-    by : (b : Bool) → says w.means (codes "syntax") ≡ b → (if b then behind_word false w xs else if is_no_token w.means then failed (unexpected w) else failed (fault_at reasons.Syntax2 w.span)) ≡ cut_off d s → Finishes (λ l. reading false l) (w ∷ xs)
+    by : (b : Bool) → says w.means (codes "syntax") ≡ b
+        → (if b then behind_word false w xs else if is_no_token w.means then failed (unexpected w)
+        else failed (fault_at reasons.Syntax2 w.span)) ≡ cut_off d s → Finishes (λ l. reading false l) (w ∷ xs)
     by true e h = let r : Finishes (λ l. behind_word false w l) xs = cut_word w xs d s h in (r.0, r.1, rw e r.2)
     by false e h = other (is_no_token w.means) h
 

@@ -20,7 +20,11 @@ use Rattle.proto_file.specs.Order.{IsPlaceBelow}
 use Rattle.proto_schema.proofs.Drafts.{edit_beyond}
 use Rattle.proto_schema.proofs.Places.{nothing_at, in_pushed, changed, kept, in_edited_at, in_edited_last}
 use Rattle.proto_schema.proofs.Spans.{IsWithin}
-use Rattle.proto_schema.proofs.KeptOrder.{Kept, EnumsBehind, kept_adds, InMessages, InEnums, InServices, of_messages, of_enums, of_services, in_messages, in_enums, in_services, IsName, adds_name, import_place, message_place, enum_place, service_place, import_precedes, message_precedes, enum_precedes, service_precedes, message_in, field_in, oneof_in, enum_in, value_in, service_in, rpc_in}
+use Rattle.proto_schema.proofs.KeptOrder.{Kept, EnumsBehind, kept_adds, InMessages, InEnums, InServices, of_messages}
+use Rattle.proto_schema.proofs.KeptOrder.{of_enums, of_services, in_messages, in_enums, in_services, IsName}
+use Rattle.proto_schema.proofs.KeptOrder.{adds_name, import_place, message_place, enum_place, service_place}
+use Rattle.proto_schema.proofs.KeptOrder.{import_precedes, message_precedes, enum_precedes, service_precedes}
+use Rattle.proto_schema.proofs.KeptOrder.{message_in, field_in, oneof_in, enum_in, value_in, service_in, rpc_in}
 
 -- ---- the package, and imports
 

@@ -4,10 +4,19 @@ use Rattle.std.specs.Prelude.{Ok, Err, Result, Option, Some, None, if◌then◌e
 use Rattle.std.specs.Str.{bytes_eq}
 use Rattle.mrpc_table.specs.declared.words.Decimal.{Decimal}
 use Rattle.proto_file.specs.Dot.{dot}
-use Rattle.proto_schema.specs.Lexemes.{Meaning, identifier, integer, number, string, mark, the_end, none, Lexeme, comma, semicolon, equals, minus, plus, opening_brace, closing_brace, opening_paren, closing_paren, opening_bracket, closing_bracket, greater, span_to, word_at, number_at, says}
+use Rattle.proto_schema.specs.Lexemes.{Meaning, identifier, integer, number, string, mark, the_end, none, Lexeme}
+use Rattle.proto_schema.specs.Lexemes.{comma, semicolon, equals, minus, plus, opening_brace, closing_brace}
+use Rattle.proto_schema.specs.Lexemes.{opening_paren, closing_paren, opening_bracket, closing_bracket, greater}
+use Rattle.proto_schema.specs.Lexemes.{span_to, word_at, number_at, says}
 use Rattle.proto_schema.specs.Grammar.{latest}
 use Rattle.proto_schema.specs.Faults.{is_no_token}
-use Rattle.proto_schema.specs.Reading.{fault_at, wrong, is_mark, is_string, is_number, by_name, if_name, by_number, if_number, full_step, typed_step, key_step, option_step, option_depth, more_option, value_start, brace_step, tail_step, tail_depth, of_option, next_option, field_step, field_depth, more_field, more_map, map_step, map_depth, closed, begins_map, of_key, of_inner_key, of_value, of_inner_value, of_type, of_map, of_tail, named_step, head, value_step, value_depth, of_value_tail, rpc_step, reserved_step}
+use Rattle.proto_schema.specs.Reading.{fault_at, wrong, is_mark, is_string, is_number, by_name, if_name, by_number}
+use Rattle.proto_schema.specs.Reading.{if_number, full_step, typed_step, key_step, option_step, option_depth}
+use Rattle.proto_schema.specs.Reading.{more_option, value_start, brace_step, tail_step, tail_depth, of_option}
+use Rattle.proto_schema.specs.Reading.{next_option, field_step, field_depth, more_field, more_map, map_step}
+use Rattle.proto_schema.specs.Reading.{map_depth, closed, begins_map, of_key, of_inner_key, of_value, of_inner_value}
+use Rattle.proto_schema.specs.Reading.{of_type, of_map, of_tail, named_step, head, value_step, value_depth}
+use Rattle.proto_schema.specs.Reading.{of_value_tail, rpc_step, reserved_step}
 use Rattle.proto_schema.specs.Running.{statement_step, depth, ended, import_step, begins, field_begins, of_package, of_options, of_reserved, of_rpc}
 use Rattle.proto_schema.specs.Running
 use Rattle.proto_file.specs.declared.file.Word.{Word}
@@ -142,7 +151,8 @@ brace_within n x none = tt
 option_within : (s : OptionState) (x : Lexeme) → OptionWithin (option_depth s + 1) (option_step s x)
 unfolding option_step
 option_within (options.Name first) x =
-    either (OptionWithin 1) (is_mark x.means opening_paren) (more_option options.Open) (if_name x (λ n. option_steps.More (options.Part (first && says x.means (codes "packed"))))) (omega arith)
+    either (OptionWithin 1) (is_mark x.means opening_paren) (more_option options.Open)
+    (if_name x (λ n. option_steps.More (options.Part (first && says x.means (codes "packed"))))) (omega arith)
     (named (OptionWithin 1) x (λ n. option_steps.More (options.Part (first && says x.means (codes "packed")))) (λ n. omega arith) tt)
 option_within options.Open x =
     either (OptionWithin 1) (is_mark x.means dot) (more_option options.OpenName) (if_name x (λ n. option_steps.More options.Inner)) (omega arith)
@@ -166,14 +176,17 @@ of_option_within : (n : ℕ) (packed : Option Bool) (x : Lexeme) (r : Result Opt
     → TailWithin n (of_option packed x r)
 of_option_within n packed x (Ok (option_steps.More s)) h = h
 of_option_within n packed x (Ok (option_steps.Whole b)) h =
-    either (TailWithin n) (is_mark x.means comma) (Ok (tail_steps.More (tails.Options (latest packed b) next_option))) (if is_mark x.means closing_bracket then Ok (tail_steps.More (tails.Closed (latest packed b))) else wrong x) (omega arith)
+    either (TailWithin n) (is_mark x.means comma) (Ok (tail_steps.More (tails.Options (latest packed b) next_option)))
+    (if is_mark x.means closing_bracket then Ok (tail_steps.More (tails.Closed (latest packed b))) else wrong x)
+    (omega arith)
     (either (TailWithin n) (is_mark x.means closing_bracket) (Ok (tail_steps.More (tails.Closed (latest packed b)))) (wrong x) (omega arith) tt)
 of_option_within n packed x (Err e) h = tt
 
 tail_within : (s : TailState) (x : Lexeme) → TailWithin (tail_depth s + 1) (tail_step s x)
 unfolding tail_step
 tail_within tails.Start x =
-    either (TailWithin 1) (is_mark x.means opening_bracket) (Ok (tail_steps.More (tails.Options None next_option))) (if is_mark x.means semicolon then Ok (tail_steps.Done None) else wrong x) (omega arith)
+    either (TailWithin 1) (is_mark x.means opening_bracket) (Ok (tail_steps.More (tails.Options None next_option)))
+    (if is_mark x.means semicolon then Ok (tail_steps.Done None) else wrong x) (omega arith)
     (either (TailWithin 1) (is_mark x.means semicolon) (Ok (tail_steps.Done None)) (wrong x) tt tt)
 tail_within (tails.Options packed s) x = of_option_within (option_depth s + 1) packed x (option_step s x) (option_within s x)
 tail_within (tails.Closed packed) x = either (TailWithin 1) (is_mark x.means semicolon) (Ok (tail_steps.Done packed)) (wrong x) tt tt
@@ -257,7 +270,8 @@ value_within : (s : ValueState) (x : Lexeme) → ValueWithin (value_depth s + 1)
 unfolding value_step
 value_within (values.Named name) x = either (ValueWithin 1) (is_mark x.means equals) (Ok (value_steps.More (values.Equals name))) (wrong x) (omega arith) tt
 value_within (values.Equals name) x =
-    either (ValueWithin 1) (is_mark x.means minus) (Ok (value_steps.More (values.Minus name x.span))) (if_number x (λ v. value_steps.More (values.Tail name (number_at false v x.span) tails.Start))) (omega arith)
+    either (ValueWithin 1) (is_mark x.means minus) (Ok (value_steps.More (values.Minus name x.span)))
+    (if_number x (λ v. value_steps.More (values.Tail name (number_at false v x.span) tails.Start))) (omega arith)
     (numbered (ValueWithin 1) x (λ v. value_steps.More (values.Tail name (number_at false v x.span) tails.Start)) (λ v. omega arith) tt)
 value_within (values.Minus name s) x = numbered (ValueWithin 1) x (λ v. value_steps.More (values.Tail name (number_at true v (span_to s x.span)) tails.Start)) (λ v. omega arith) tt
 value_within (values.Tail name n s) x = of_value_tail_within (tail_depth s + 1) name n (tail_step s x) (tail_within s x)
@@ -275,24 +289,33 @@ field_begins_within x = of_field_within 1 (field_step (fields.Type labels.Plain 
 mark_within : (p : Place) (x : Lexeme) (c : ℕ) → Within 1 (Running.mark_begins p x c)
 mark_within p x c =
     either (Within 1) (c == dot && Running.has_fields p) (field_begins x)
-    (if c == semicolon && Running.is_body p then Running.done said.Nothing else if c == closing_brace && Running.closes_in p then Running.done said.Close else wrong x) (field_begins_within x)
+    (if c == semicolon && Running.is_body p then Running.done said.Nothing else if c == closing_brace
+    && Running.closes_in p then Running.done said.Close else wrong x) (field_begins_within x)
     (either (Within 1) (c == semicolon && Running.is_body p) (Running.done said.Nothing) (if c == closing_brace && Running.closes_in p then Running.done said.Close else wrong x) tt
     (either (Within 1) (c == closing_brace && Running.closes_in p) (Running.done said.Close) (wrong x) tt tt))
 
 file_within : (p : Bool) (n : List ℕ) (x : Lexeme) (o : Option Opening) → Within 1 (Running.file_begins p n x o)
 file_within p n x (Some o) = omega arith
 file_within p n x None =
-    either (Within 1) (Running.is_extend n) (Err (fault_at reasons.Extend x.span)) (if not p && bytes_eq n (codes "package") then Running.more (states.Package names.Start) else if bytes_eq n (codes "import") then Running.more (states.Import false) else wrong x) tt
-    (either (Within 1) (not p && bytes_eq n (codes "package")) (Running.more (states.Package names.Start)) (if bytes_eq n (codes "import") then Running.more (states.Import false) else wrong x) (omega arith)
+    either (Within 1) (Running.is_extend n) (Err (fault_at reasons.Extend x.span))
+    (if not p && bytes_eq n (codes "package") then Running.more (states.Package names.Start)
+    else if bytes_eq n (codes "import") then Running.more (states.Import false) else wrong x) tt
+    (either (Within 1) (not p && bytes_eq n (codes "package")) (Running.more (states.Package names.Start))
+    (if bytes_eq n (codes "import") then Running.more (states.Import false) else wrong x) (omega arith)
     (either (Within 1) (bytes_eq n (codes "import")) (Running.more (states.Import false)) (wrong x) (omega arith) tt))
 
 message_within : (n : List ℕ) (x : Lexeme) (o : Option Opening) → Within 1 (Running.message_begins n x o)
 message_within n x (Some o) = omega arith
 message_within n x None =
     either (Within 1) (Running.is_extend n) (Err (fault_at reasons.Extend x.span))
-    (if bytes_eq n (codes "reserved") then Running.reserved_begins false else if bytes_eq n (codes "optional") then Running.labelled labels.Optional else if bytes_eq n (codes "repeated") then Running.labelled labels.Repeated else field_begins x) tt
-    (either (Within 1) (bytes_eq n (codes "reserved")) (Running.reserved_begins false) (if bytes_eq n (codes "optional") then Running.labelled labels.Optional else if bytes_eq n (codes "repeated") then Running.labelled labels.Repeated else field_begins x) (omega arith)
-    (either (Within 1) (bytes_eq n (codes "optional")) (Running.labelled labels.Optional) (if bytes_eq n (codes "repeated") then Running.labelled labels.Repeated else field_begins x) (omega arith)
+    (if bytes_eq n (codes "reserved") then Running.reserved_begins false
+    else if bytes_eq n (codes "optional") then Running.labelled labels.Optional
+    else if bytes_eq n (codes "repeated") then Running.labelled labels.Repeated else field_begins x) tt
+    (either (Within 1) (bytes_eq n (codes "reserved")) (Running.reserved_begins false)
+    (if bytes_eq n (codes "optional") then Running.labelled labels.Optional
+    else if bytes_eq n (codes "repeated") then Running.labelled labels.Repeated else field_begins x) (omega arith)
+    (either (Within 1) (bytes_eq n (codes "optional")) (Running.labelled labels.Optional)
+    (if bytes_eq n (codes "repeated") then Running.labelled labels.Repeated else field_begins x) (omega arith)
     (either (Within 1) (bytes_eq n (codes "repeated")) (Running.labelled labels.Repeated) (field_begins x) (omega arith) (field_begins_within x))))
 
 word_within : (p : Place) (x : Lexeme) (n : List ℕ) → Within 1 (Running.word_begins p x n)
@@ -323,9 +346,12 @@ package_within x (Ok (name_steps.More s)) = omega arith
 package_within x (Ok (name_steps.Whole w)) = ended_within 1 (said.Package w) x
 package_within x (Err e) = tt
 
-other_import : (x : Lexeme) (public : Bool) (m : Meaning) → Within 1 (if not public && says m (codes "public") then Running.more (states.Import true) else if is_no_token m || public then wrong x else Err (fault_at reasons.Import x.span))
+other_import : (x : Lexeme) (public : Bool) (m : Meaning)
+    → Within 1 (if not public && says m (codes "public") then Running.more (states.Import true) else if is_no_token m
+    || public then wrong x else Err (fault_at reasons.Import x.span))
 other_import x public m =
-    either (Within 1) (not public && says m (codes "public")) (Running.more (states.Import true)) (if is_no_token m || public then wrong x else Err (fault_at reasons.Import x.span)) (omega arith)
+    either (Within 1) (not public && says m (codes "public")) (Running.more (states.Import true))
+    (if is_no_token m || public then wrong x else Err (fault_at reasons.Import x.span)) (omega arith)
     (either (Within 1) (is_no_token m || public) (wrong x) (Err (fault_at reasons.Import x.span)) tt tt)
 
 import_within : (public : Bool) (x : Lexeme) (m : Meaning) → Within 1 (import_step public x m)

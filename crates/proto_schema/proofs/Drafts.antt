@@ -47,6 +47,8 @@ stack_pop (x ∷ []) = refl
 stack_pop (x ∷ y ∷ ys) =
     let e : length (y ∷ ys) - 1 ≡ length ys = omega arith in
     let d : suc (length ys) ≡ length (x ∷ y ∷ ys) - 1 = omega arith in
-    rest_front (stack ys) y x ∙ (ap (λ zs. zs ++ x ∷ []) (stack_pop (y ∷ ys)) ∙ (ap (λ k. stack (take k (y ∷ ys)) ++ x ∷ []) e ∙ ap (λ k. stack (take k (x ∷ y ∷ ys))) d))
+    rest_front (stack ys) y x
+    ∙ (ap (λ zs. zs ++ x ∷ []) (stack_pop (y ∷ ys))
+    ∙ (ap (λ k. stack (take k (y ∷ ys)) ++ x ∷ []) e ∙ ap (λ k. stack (take k (x ∷ y ∷ ys))) d))
 
 pub ruleset draft_lemmas = (stack_push, stack_length, stack_top, stack_pop)

@@ -6,9 +6,13 @@ use Rattle.std.proofs.lemmas.List.{append_assoc}
 use Rattle.mrpc_table.specs.declared.words.Decimal.{Decimal}
 use Rattle.proto_file.specs.Dot.{dot}
 use Rattle.proto_schema.specs.Lexemes.{integer, Lexeme, comma, equals, less, greater, span_to, word_at, number_at, rooted, IsWord, IsMark, says}
-use Rattle.proto_schema.specs.Grammar.{FullName, one, more, TypeName, relative, absolute, begins_with, group_word, MapKey, map_key, NestedMaps, innermost, around, FieldTypeOf, named, a_map, map_of_maps, whole, negative}
+use Rattle.proto_schema.specs.Grammar.{FullName, one, more, TypeName, relative, absolute, begins_with, group_word}
+use Rattle.proto_schema.specs.Grammar.{MapKey, map_key, NestedMaps, innermost, around, FieldTypeOf, named, a_map}
+use Rattle.proto_schema.specs.Grammar.{map_of_maps, whole, negative}
 use Rattle.proto_schema.specs.Files.{field, FieldEnd, field_end}
-use Rattle.proto_schema.specs.Reading.{is_mark, by_number, part, full_step, typed_step, behind_key, map_step, of_key, of_inner_key, of_value, of_inner_value, field_step, head, of_type, of_map, of_tail, field_of, tail_step}
+use Rattle.proto_schema.specs.Reading.{is_mark, by_number, part, full_step, typed_step, behind_key, map_step, of_key}
+use Rattle.proto_schema.specs.Reading.{of_inner_key, of_value, of_inner_value, field_step, head, of_type, of_map}
+use Rattle.proto_schema.specs.Reading.{of_tail, field_of, tail_step}
 use Rattle.proto_schema.proofs.NameLemmas.{Walks, stay, go, walks_on, walks_in, word_no_mark, is_name}
 use Rattle.proto_schema.proofs.NameRest.{behind_dot}
 use Rattle.proto_schema.proofs.OptionReads.{TailGoes, tail_reads}
@@ -170,8 +174,11 @@ pub inner_key_reads : (k0 : Word) (d : ℕ) {ks : List Lexeme} {k : Word} → Ma
     → Walks MapGoes (maps.InnerValue k0 d names.Start) ks (maps.InnerValue k0 (suc d) names.Start)
 inner_key_reads k0 d (map_key x y z {ys = ys} {w = w} hx hy t g hz e) =
     rw e (go x (y ∷ ys ++ z ∷ []) refl (in_inner_value k0 d names.Start (names.Part (word_at (codes "map") x.span)) x (first_goes x (codes "map") hx (rw hx refl)))
-    (go y (ys ++ z ∷ []) refl (subst (λ (n : ℕ). MapGoes (maps.InnerValue k0 d (names.Part (word_at (codes "map") x.span))) y (maps.InnerKey k0 n names.Start)) (add-one d) (inner_value_map k0 d x.span y hy))
-    (walks_on MapGoes (walks_in TypedGoes MapGoes (λ s. maps.InnerKey k0 (suc d) s) (in_inner_key k0 (suc d)) (typed_reads t g)) (go z [] refl (inner_comma k0 (suc d) w z hz) (stay refl refl)))))
+    (go y (ys ++ z ∷ []) refl
+    (subst (λ (n : ℕ). MapGoes (maps.InnerValue k0 d (names.Part (word_at (codes "map") x.span))) y
+    (maps.InnerKey k0 n names.Start)) (add-one d) (inner_value_map k0 d x.span y hy))
+    (walks_on MapGoes (walks_in TypedGoes MapGoes (λ s. maps.InnerKey k0 (suc d) s) (in_inner_key k0 (suc d))
+    (typed_reads t g)) (go z [] refl (inner_comma k0 (suc d) w z hz) (stay refl refl)))))
 
 pub outer_key_reads : (k0 : Word) {ks : List Lexeme} {k : Word} → MapKey ks k
     → Walks MapGoes (maps.Value k0 names.Start) ks (maps.InnerValue k0 1 names.Start)
@@ -183,14 +190,19 @@ outer_key_reads k0 (map_key x y z {ys = ys} {w = w} hx hy t g hz e) =
 nested_reads : (k0 : Word) (d : ℕ) {ys : List Lexeme} → NestedMaps ys
     → Walks MapGoes (maps.InnerValue k0 d names.Start) ys (maps.Close k0 (suc d))
 nested_reads k0 d (innermost x {w = w} k t g h e) =
-    rw e (walks_on MapGoes (walks_on MapGoes (inner_key_reads k0 d k) (walks_in TypedGoes MapGoes (λ s. maps.InnerValue k0 (suc d) s) (in_inner_value k0 (suc d)) (typed_reads t g))) (go x [] refl (inner_value_ends k0 (suc d) w x h) (stay refl refl)))
+    rw e (walks_on MapGoes
+    (walks_on MapGoes (inner_key_reads k0 d k) (walks_in TypedGoes MapGoes (λ s. maps.InnerValue k0 (suc d) s)
+    (in_inner_value k0 (suc d)) (typed_reads t g)))
+    (go x [] refl (inner_value_ends k0 (suc d) w x h) (stay refl refl)))
 nested_reads k0 d (around x k n h e) =
     rw e (walks_on MapGoes (walks_on MapGoes (inner_key_reads k0 d k) (nested_reads k0 (suc d) n)) (go x [] refl (close_goes k0 d x h) (stay refl refl)))
 
 outer_nested_reads : (k0 : Word) {ys : List Lexeme} → NestedMaps ys
     → Walks MapGoes (maps.Value k0 names.Start) ys (maps.Close k0 1)
 outer_nested_reads k0 (innermost x {w = w} k t g h e) =
-    rw e (walks_on MapGoes (walks_on MapGoes (outer_key_reads k0 k) (walks_in TypedGoes MapGoes (λ s. maps.InnerValue k0 1 s) (in_inner_value k0 1) (typed_reads t g))) (go x [] refl (inner_value_ends k0 1 w x h) (stay refl refl)))
+    rw e (walks_on MapGoes
+    (walks_on MapGoes (outer_key_reads k0 k) (walks_in TypedGoes MapGoes (λ s. maps.InnerValue k0 1 s)
+    (in_inner_value k0 1) (typed_reads t g))) (go x [] refl (inner_value_ends k0 1 w x h) (stay refl refl)))
 outer_nested_reads k0 (around x k n h e) =
     rw e (walks_on MapGoes (walks_on MapGoes (outer_key_reads k0 k) (nested_reads k0 1 n)) (go x [] refl (close_goes k0 0 x h) (stay refl refl)))
 
@@ -287,7 +299,9 @@ abbrev pub FieldTakes : FieldState → List Lexeme → FieldDecl → Type 0
 FieldTakes s ys f = Takes FieldGoes FieldEnds s ys f
 
 -- a type, a name, a number, and options
-pub field_takes : (label : FieldLabel) {ts es : List Lexeme} {kind : FieldType} {name : Word} {number : Number} {packed : Option Bool} → FieldTypeOf group_word ts kind → FieldEnd es name number packed
+pub field_takes :
+    (label : FieldLabel) {ts es : List Lexeme} {kind : FieldType} {name : Word} {number : Number} {packed : Option
+    Bool} → FieldTypeOf group_word ts kind → FieldEnd es name number packed
     → FieldTakes (fields.Type label names.Start) (ts ++ es) (field name number kind label None packed)
 field_takes label {ts = ts} {kind = kind} k (field_end x y z n {os = os} {packed = packed} hx hy (whole u v hv) o hz e) =
     let r : TypeReads label ts kind = type_reads label k in

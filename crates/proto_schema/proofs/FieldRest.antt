@@ -7,7 +7,9 @@ use Rattle.proto_file.specs.Dot.{dot}
 use Rattle.proto_schema.specs.Lexemes.{identifier, integer, Lexeme, semicolon, equals, less, span_to, word_at, number_at, IsWord, IsMark, says}
 use Rattle.proto_schema.specs.Grammar.{relative, group_word, FieldTypeOf, named, NumberOf, whole, FieldOptions}
 use Rattle.proto_schema.specs.Files.{field, FieldEnd, field_end}
-use Rattle.proto_schema.specs.Reading.{wrong, is_mark, part, fault_at, full_step, type_step, typed_step, begins_map, map_step, tail_step, field_step, more_field, named_step, head, of_type, of_map, of_tail, field_of}
+use Rattle.proto_schema.specs.Reading.{wrong, is_mark, part, fault_at, full_step, type_step, typed_step, begins_map}
+use Rattle.proto_schema.specs.Reading.{map_step, tail_step, field_step, more_field, named_step, head, of_type, of_map}
+use Rattle.proto_schema.specs.Reading.{of_tail, field_of}
 use Rattle.proto_schema.proofs.Choices.{either_is, named_is, numbered_is, same_bytes, and_both}
 use Rattle.proto_schema.proofs.NameLemmas.{mark_is}
 use Rattle.proto_schema.proofs.NameRest.{ends, TypedRest, from_start, from_root, from_dot, from_part, from_top, no_group}
@@ -144,7 +146,9 @@ of_type_back label s x (Ok (name_steps.More t)) b = λ ys f k. by ys f k
 of_type_back label s x (Ok (name_steps.Whole w)) (v, e, q) =
     either_is (FieldBack (fields.Type label s) x) (begins_map w x) (more_field (fields.Map label (maps.Key names.Start))) (named_step label (types.Named w) x)
     (λ m. λ ys f k. in_map m ys f k)
-    (λ m. named_is (FieldBack (fields.Type label s) x) x (λ n. steps.More (fields.Named (head label (types.Named w) (word_at n x.span)))) (λ n h. λ ys f k. in_name ys f (named_behind label (types.Named w) x n h ys f k)) tt)
+    (λ m. named_is (FieldBack (fields.Type label s) x) x
+    (λ n. steps.More (fields.Named (head label (types.Named w) (word_at n x.span))))
+    (λ n h. λ ys f k. in_name ys f (named_behind label (types.Named w) x n h ys f k)) tt)
   where
     in_map : begins_map w x ≡ true → (ys : List Lexeme) (f : FieldDecl)
         → FieldFrom (MapRest (maps.Key names.Start)) label ys f → FieldFrom (KindRest s) label (x ∷ ys) f

@@ -59,7 +59,10 @@ use Rattle.proto_schema.specs.Lexemes.{comma, opening_paren, closing_paren, clos
 use Rattle.proto_schema.specs.Grammar.{latest}
 use Rattle.proto_schema.specs.Reading.{part, tail_step, map_step, range_step, a_range, whole_range}
 use Rattle.proto_schema.proofs.OptionReads.{closing_goes, Ready, ready_value, ready_text, ready_end, TailGoes, options_bracket, in_options}
-use Rattle.proto_schema.proofs.FieldReads.{first_goes, TypedGoes, MapGoes, MapEnds, in_key, key_comma, in_inner_key, inner_comma, in_value as in_map_value, value_ends as map_value_ends, in_inner_value, inner_value_ends, close_goes, in_type, name_ready, in_map, map_ends, typed_ready, in_tail, tail_ends}
+use Rattle.proto_schema.proofs.FieldReads.{first_goes, TypedGoes, MapGoes, MapEnds, in_key, key_comma, in_inner_key}
+use Rattle.proto_schema.proofs.FieldReads.{inner_comma, in_value as in_map_value, value_ends as map_value_ends}
+use Rattle.proto_schema.proofs.FieldReads.{in_inner_value, inner_value_ends, close_goes, in_type, name_ready, in_map}
+use Rattle.proto_schema.proofs.FieldReads.{map_ends, typed_ready, in_tail, tail_ends}
 use Rattle.proto_schema.proofs.RpcReads.{RpcTypeGoes, in_input, input_ends, in_output, output_ends}
 use Rattle.proto_schema.proofs.ValueReads.{RangeGoes, in_tail as in_value_tail, tail_ends as value_tail_ends, in_ranges, range_ends, kept}
 use Rattle.proto_file.specs.declared.file.FieldType.TheVariants as types
@@ -72,7 +75,11 @@ use Rattle.proto_schema.specs.declared.tail.TailState.TheVariants as tails
 use Rattle.proto_schema.specs.declared.tail.TailStep.TheVariants as tail_steps
 use Rattle.proto_schema.specs.declared.reserved.RangeState.{RangeState}
 use Rattle.proto_schema.specs.declared.reserved.RangeState.TheVariants as ranges
-use Rattle.proto_schema.proofs.RunReads.{StepGoes, StepEnds, StepTakes, in_block, run_takes, in_package, package_ends, import_path, import_ends, in_option, option_ends, opening_name, opened_ends, in_field, field_ends, in_reserved, reserved_ends, in_value, value_ends, in_rpc, rpc_ends, closing, field_first, oneof_leads, by_word, value_word, whole_is_over}
+use Rattle.proto_schema.proofs.RunReads.{StepGoes, StepEnds, StepTakes, in_block, run_takes, in_package, package_ends}
+use Rattle.proto_schema.proofs.RunReads.{import_path, import_ends, in_option, option_ends, opening_name, opened_ends}
+use Rattle.proto_schema.proofs.RunReads.{in_field, field_ends, in_reserved, reserved_ends, in_value, value_ends}
+use Rattle.proto_schema.proofs.RunReads.{in_rpc, rpc_ends, closing, field_first, oneof_leads, by_word, value_word}
+use Rattle.proto_schema.proofs.RunReads.{whole_is_over}
 
 -- ---- some tokens
 
@@ -144,7 +151,8 @@ braces_finish : (d : ℕ) → OptionFinish (option_states.Braces d)
 unfolding option_step
 braces_finish zero = option_on (option_states.Braces 0) option_states.End (a_mark closing_brace) refl end_finish
 braces_finish (suc zero) = option_on (option_states.Braces 1) option_states.End (a_mark closing_brace) refl end_finish
-braces_finish (suc (suc n)) = option_on (option_states.Braces (suc (suc n))) (option_states.Braces (suc n)) (a_mark closing_brace) (closing_goes n (a_mark closing_brace) refl) (braces_finish (suc n))
+braces_finish (suc (suc n)) = option_on (option_states.Braces (suc (suc n))) (option_states.Braces (suc n))
+    (a_mark closing_brace) (closing_goes n (a_mark closing_brace) refl) (braces_finish (suc n))
 
 option_finish : (s : OptionState) → OptionFinish s
 unfolding option_step
@@ -248,18 +256,27 @@ field_tail_finish : (h : Head) (n : Number) (s : TailState) → FieldFinish (fie
 field_tail_finish h n s = by (tail_finish s)
   where
     by : TailFinish s → FieldFinish (fields.Tail h n s)
-    by (ys, b, t) = (ys, Reading.field_of h n b, takes_in TailGoes TailEnds FieldGoes FieldEnds (λ s. fields.Tail h n s) (λ b. Reading.field_of h n b) (in_tail h n) (λ s b x e. tail_ends h n s x b e) t)
+    by (ys, b, t) = (
+      ys,
+      Reading.field_of h n b,
+      takes_in TailGoes TailEnds FieldGoes FieldEnds (λ s. fields.Tail h n s) (λ b. Reading.field_of h n b)
+          (in_tail h n) (λ s b x e. tail_ends h n s x b e) t,
+    )
 
 equals_field : (h : Head) → FieldFinish (fields.Equals h)
 unfolding field_step
-equals_field h = field_on (fields.Equals h) (fields.Tail h (Lexemes.number_at false (Small 1) nowhere) tails.Start) a_one refl (field_tail_finish h (Lexemes.number_at false (Small 1) nowhere) tails.Start)
+equals_field h = field_on (fields.Equals h) (fields.Tail h (Lexemes.number_at false (Small 1) nowhere) tails.Start)
+    a_one refl (field_tail_finish h (Lexemes.number_at false (Small 1) nowhere) tails.Start)
 
 named_field : (h : Head) → FieldFinish (fields.Named h)
 unfolding field_step
 named_field h = field_on (fields.Named h) (fields.Equals h) (a_mark equals) refl (equals_field h)
 
 typed_field : (label : FieldLabel) (kind : FieldType) → FieldFinish (fields.Typed label kind)
-typed_field label kind = field_on (fields.Typed label kind) (fields.Named (Reading.head label kind (word_at (codes "a") nowhere))) a_word (typed_ready label kind a_word (codes "a") refl) (named_field (Reading.head label kind (word_at (codes "a") nowhere)))
+typed_field label kind =
+    field_on (fields.Typed label kind) (fields.Named (Reading.head label kind (word_at (codes "a") nowhere))) a_word
+    (typed_ready label kind a_word (codes "a") refl)
+    (named_field (Reading.head label kind (word_at (codes "a") nowhere)))
 
 field_finish : (s : FieldState) → FieldFinish s
 field_finish (fields.Type label s) = by (typed_finish s)
@@ -303,7 +320,9 @@ output_finish name input s = by (rpc_type_finish s)
     by : NameEnds RpcTypeGoes s → RpcFinish (rpcs.Output name input s)
     by (ys, w, t) =
         rpc_walk (rpcs.Output name input s) (rpcs.Output name input (names.Part w)) ys (walks_in RpcTypeGoes RpcGoes (λ s. rpcs.Output name input s) (in_output name input) t)
-        (rpc_on (rpcs.Output name input (names.Part w)) (rpcs.End (record { name = name; input = input; output = w })) (a_mark closing_paren) (output_ends name input w (a_mark closing_paren) refl) (end_rpc (record { name = name; input = input; output = w })))
+        (rpc_on (rpcs.Output name input (names.Part w)) (rpcs.End (record { name = name; input = input; output = w }))
+        (a_mark closing_paren) (output_ends name input w (a_mark closing_paren) refl)
+        (end_rpc (record { name = name; input = input; output = w })))
 
 open_finish : (name input : Word) → RpcFinish (rpcs.Open name input)
 unfolding rpc_step
@@ -325,7 +344,8 @@ rpc_finish : (s : RpcState) → RpcFinish s
 unfolding rpc_step
 rpc_finish rpcs.Start =
     rpc_on rpcs.Start (rpcs.Named (word_at (codes "a") nowhere)) a_word refl
-    (rpc_on (rpcs.Named (word_at (codes "a") nowhere)) (rpcs.Input (word_at (codes "a") nowhere) names.Start) (a_mark opening_paren) refl (input_finish (word_at (codes "a") nowhere) names.Start))
+    (rpc_on (rpcs.Named (word_at (codes "a") nowhere)) (rpcs.Input (word_at (codes "a") nowhere) names.Start)
+    (a_mark opening_paren) refl (input_finish (word_at (codes "a") nowhere) names.Start))
 rpc_finish (rpcs.Named name) = rpc_on (rpcs.Named name) (rpcs.Input name names.Start) (a_mark opening_paren) refl (input_finish name names.Start)
 rpc_finish (rpcs.Input name s) = input_finish name s
 rpc_finish (rpcs.Returns name input) = returns_finish name input
@@ -345,17 +365,26 @@ value_tail_finish : (name : Word) (n : Number) (s : TailState) → ValueFinish (
 value_tail_finish name n s = by (tail_finish s)
   where
     by : TailFinish s → ValueFinish (values.Tail name n s)
-    by (ys, b, t) = (ys, value_of name n, takes_in TailGoes TailEnds ValueGoes ValueEnds (λ s. values.Tail name n s) (λ b. value_of name n) (in_value_tail name n) (λ s b x e. value_tail_ends name n s x b e) t)
+    by (ys, b, t) = (
+      ys,
+      value_of name n,
+      takes_in TailGoes TailEnds ValueGoes ValueEnds (λ s. values.Tail name n s)
+          (λ b. value_of name n) (in_value_tail name n) (λ s b x e. value_tail_ends name n s x b e) t,
+    )
 
 enum_value_finish : (s : ValueState) → ValueFinish s
 unfolding value_step
 enum_value_finish (values.Named name) =
     value_on (values.Named name) (values.Equals name) (a_mark equals) refl
-    (value_on (values.Equals name) (values.Tail name (Lexemes.number_at false (Small 1) nowhere) tails.Start) a_one refl (value_tail_finish name (Lexemes.number_at false (Small 1) nowhere) tails.Start))
+    (value_on (values.Equals name) (values.Tail name (Lexemes.number_at false (Small 1) nowhere) tails.Start) a_one
+    refl (value_tail_finish name (Lexemes.number_at false (Small 1) nowhere) tails.Start))
 enum_value_finish (values.Equals name) =
-    value_on (values.Equals name) (values.Tail name (Lexemes.number_at false (Small 1) nowhere) tails.Start) a_one refl (value_tail_finish name (Lexemes.number_at false (Small 1) nowhere) tails.Start)
+    value_on (values.Equals name) (values.Tail name (Lexemes.number_at false (Small 1) nowhere) tails.Start) a_one
+    refl (value_tail_finish name (Lexemes.number_at false (Small 1) nowhere) tails.Start)
 enum_value_finish (values.Minus name s) =
-    value_on (values.Minus name s) (values.Tail name (Lexemes.number_at true (Small 1) (span_to s nowhere)) tails.Start) a_one refl (value_tail_finish name (Lexemes.number_at true (Small 1) (span_to s nowhere)) tails.Start)
+    value_on (values.Minus name s)
+    (values.Tail name (Lexemes.number_at true (Small 1) (span_to s nowhere)) tails.Start) a_one refl
+    (value_tail_finish name (Lexemes.number_at true (Small 1) (span_to s nowhere)) tails.Start)
 enum_value_finish (values.Tail name n s) = value_tail_finish name n s
 
 -- ---- reserved numbers and names
@@ -390,19 +419,24 @@ ranges_finish : (signed : Bool) (rs : List Range) (s : RangeState) → ReservedF
 unfolding range_step
 ranges_finish signed rs ranges.Start =
     reserved_on (kept (parts.Ranges rs ranges.Start) signed) (kept (parts.Ranges rs (ranges.First (Lexemes.number_at false (Small 1) nowhere))) signed) a_one
-    (in_ranges signed rs ranges.Start (ranges.First (Lexemes.number_at false (Small 1) nowhere)) a_one (start_goes signed)) (first_finish signed rs (Lexemes.number_at false (Small 1) nowhere))
+    (in_ranges signed rs ranges.Start (ranges.First (Lexemes.number_at false (Small 1) nowhere)) a_one
+    (start_goes signed)) (first_finish signed rs (Lexemes.number_at false (Small 1) nowhere))
 ranges_finish signed rs (ranges.Minus s) =
     reserved_on (kept (parts.Ranges rs (ranges.Minus s)) signed) (kept (parts.Ranges rs (ranges.First (Lexemes.number_at true (Small 1) (span_to s nowhere)))) signed) a_one
-    (in_ranges signed rs (ranges.Minus s) (ranges.First (Lexemes.number_at true (Small 1) (span_to s nowhere))) a_one refl) (first_finish signed rs (Lexemes.number_at true (Small 1) (span_to s nowhere)))
+    (in_ranges signed rs (ranges.Minus s) (ranges.First (Lexemes.number_at true (Small 1) (span_to s nowhere))) a_one
+    refl) (first_finish signed rs (Lexemes.number_at true (Small 1) (span_to s nowhere)))
 ranges_finish signed rs (ranges.First n) = first_finish signed rs n
 ranges_finish signed rs (ranges.To n) =
     reserved_on (kept (parts.Ranges rs (ranges.To n)) signed) (kept (parts.Ranges rs (ranges.Whole (a_range n (Some (Lexemes.number_at false (Small 1) nowhere))))) signed) a_one
     (in_ranges signed rs (ranges.To n) (ranges.Whole (a_range n (Some (Lexemes.number_at false (Small 1) nowhere)))) a_one (to_goes signed n))
     (whole_finish signed rs (ranges.Whole (a_range n (Some (Lexemes.number_at false (Small 1) nowhere)))) (a_range n (Some (Lexemes.number_at false (Small 1) nowhere))) refl)
 ranges_finish signed rs (ranges.ToMinus n s) =
-    reserved_on (kept (parts.Ranges rs (ranges.ToMinus n s)) signed) (kept (parts.Ranges rs (ranges.Whole (a_range n (Some (Lexemes.number_at true (Small 1) (span_to s nowhere)))))) signed) a_one
+    reserved_on (kept (parts.Ranges rs (ranges.ToMinus n s)) signed)
+    (kept (parts.Ranges rs
+    (ranges.Whole (a_range n (Some (Lexemes.number_at true (Small 1) (span_to s nowhere)))))) signed) a_one
     (in_ranges signed rs (ranges.ToMinus n s) (ranges.Whole (a_range n (Some (Lexemes.number_at true (Small 1) (span_to s nowhere))))) a_one refl)
-    (whole_finish signed rs (ranges.Whole (a_range n (Some (Lexemes.number_at true (Small 1) (span_to s nowhere))))) (a_range n (Some (Lexemes.number_at true (Small 1) (span_to s nowhere)))) refl)
+    (whole_finish signed rs (ranges.Whole (a_range n (Some (Lexemes.number_at true (Small 1) (span_to s nowhere)))))
+    (a_range n (Some (Lexemes.number_at true (Small 1) (span_to s nowhere)))) refl)
 ranges_finish signed rs (ranges.Whole r) = whole_finish signed rs (ranges.Whole r) r refl
 
 reserved_finish : (signed : Bool) (p : ReservedPart) → ReservedFinish (kept p signed)
@@ -435,15 +469,32 @@ step_finish p states.Begin n = absurd (n refl)
 step_finish p (states.Package s) n = by (full_finish s)
   where
     by : NameEnds FullGoes s → StepFinish p (states.Package s)
-    by (ys, w, t) = (ys ++ a_mark semicolon ∷ [], said.Package w, walk_takes (StepGoes p) (StepEnds p) (a_mark semicolon ∷ []) (walks_in FullGoes (StepGoes p) (λ s. states.Package s) (in_package p) t) (last (a_mark semicolon) (package_ends p w (a_mark semicolon) refl)))
+    by (ys, w, t) = (
+      ys ++ a_mark semicolon ∷ [],
+      said.Package w,
+      walk_takes (StepGoes p) (StepEnds p) (a_mark semicolon ∷ [])
+          (walks_in FullGoes (StepGoes p) (λ s. states.Package s) (in_package p) t)
+          (last (a_mark semicolon) (package_ends p w (a_mark semicolon) refl)),
+    )
 step_finish p (states.Import public) n =
-    step_on p (states.Import public) (states.Imported (imported public (codes "a") nowhere)) (token (string (codes "a"))) (import_path p public (token (string (codes "a"))) (codes "a") refl) (imported_finish p (imported public (codes "a") nowhere))
+    step_on p (states.Import public) (states.Imported (imported public (codes "a") nowhere))
+    (token (string (codes "a"))) (import_path p public (token (string (codes "a"))) (codes "a") refl)
+    (imported_finish p (imported public (codes "a") nowhere))
 step_finish p (states.Imported i) n = imported_finish p i
 step_finish p (states.Option s) n = by (option_finish s)
   where
     by : OptionFinish s → StepFinish p (states.Option s)
-    by (ys, t, b, w, r) = (ys ++ a_mark semicolon ∷ [], said.Nothing, walk_takes (StepGoes p) (StepEnds p) (a_mark semicolon ∷ []) (walks_in OptionGoes (StepGoes p) (λ s. states.Option s) (in_option p) w) (last (a_mark semicolon) (option_ends p t b (a_mark semicolon) (r (a_mark semicolon) semicolon refl (omega arith)) refl)))
-step_finish p (states.Opening o) n = step_on p (states.Opening o) (states.Opened o (word_at (codes "a") nowhere)) a_word (opening_name p o a_word (codes "a") refl) (opened_finish p o (word_at (codes "a") nowhere))
+    by (ys, t, b, w, r) = (
+      ys ++ a_mark semicolon ∷ [],
+      said.Nothing,
+      walk_takes (StepGoes p) (StepEnds p) (a_mark semicolon ∷ [])
+          (walks_in OptionGoes (StepGoes p) (λ s. states.Option s) (in_option p) w)
+          (last (a_mark semicolon)
+          (option_ends p t b (a_mark semicolon) (r (a_mark semicolon) semicolon refl (omega arith)) refl)),
+    )
+step_finish p (states.Opening o) n =
+    step_on p (states.Opening o) (states.Opened o (word_at (codes "a") nowhere)) a_word
+    (opening_name p o a_word (codes "a") refl) (opened_finish p o (word_at (codes "a") nowhere))
 step_finish p (states.Opened o w) n = opened_finish p o w
 step_finish p (states.Field s) n = by (field_finish s)
   where
@@ -460,7 +511,12 @@ step_finish p (states.Value s) n = by (enum_value_finish s)
 step_finish p (states.Rpc s) n = by (rpc_finish s)
   where
     by : RpcFinish s → StepFinish p (states.Rpc s)
-    by (ys, r, t) = (ys, said.Rpc r.0 r.1, takes_in RpcGoes RpcEnds (StepGoes p) (StepEnds p) (λ s. states.Rpc s) (λ r. said.Rpc r.0 r.1) (in_rpc p) (λ s r x e. rpc_ends p s r.0 r.1 x e) t)
+    by (ys, r, t) = (
+      ys,
+      said.Rpc r.0 r.1,
+      takes_in RpcGoes RpcEnds (StepGoes p) (StepEnds p) (λ s. states.Rpc s)
+          (λ r. said.Rpc r.0 r.1) (in_rpc p) (λ s r x e. rpc_ends p s r.0 r.1 x e) t,
+    )
 
 -- ---- drafts
 
@@ -505,8 +561,12 @@ oneof_ending d i e = by (field_finish (fields.Type labels.Plain (names.Part (wor
   where
     by : FieldFinish (fields.Type labels.Plain (names.Part (word_at (codes "a") nowhere))) → Ending d
     by (ys, f, t) =
-        let u : FieldTakes (fields.Type labels.Plain names.Start) (a_word ∷ ys) f = next a_word (in_type labels.Plain names.Start (names.Part (word_at (codes "a") nowhere)) a_word (first_goes a_word (codes "a") refl refl)) t in
-        let k : StepTakes (places.Oneof false) states.Begin (a_word ∷ ys) (said.Field f) = field_first (places.Oneof false) a_word ys f (oneof_leads false a_word (by_word (codes "a") refl refl)) u in
+        let u : FieldTakes (fields.Type labels.Plain names.Start) (a_word ∷ ys) f =
+        next a_word (in_type labels.Plain names.Start (names.Part (word_at (codes "a") nowhere)) a_word
+        (first_goes a_word (codes "a") refl refl)) t in
+        let k : StepTakes (places.Oneof false) states.Begin (a_word ∷ ys) (said.Field f) =
+        field_first (places.Oneof false) a_word ys f (oneof_leads false a_word (by_word (codes "a") refl refl)) u
+        in
         let q : place_of d ≡ (places.Oneof false) = in_block d (a_oneof i false) e in
         ending_on d (said.Field f) (a_word ∷ ys) (subst (λ (p : Place). StepTakes p states.Begin (a_word ∷ ys) (said.Field f)) (sym q) k)
         (filled_oneof_ending (added d (said.Field f)) i (ap filled_with e))
@@ -517,7 +577,10 @@ enum_ending d e = by (enum_value_finish (values.Named (word_at (codes "a") nowhe
     by : ValueFinish (values.Named (word_at (codes "a") nowhere)) → Ending d
     by (ys, v, t) =
         let k : StepTakes (places.Enum false) states.Begin (a_word ∷ ys) (said.Value v) =
-        next a_word (value_word false a_word (codes "a") refl refl refl) (takes_in ValueGoes ValueEnds (StepGoes (places.Enum false)) (StepEnds (places.Enum false)) (λ s. states.Value s) (λ v. said.Value v) (in_value (places.Enum false)) (value_ends (places.Enum false)) t) in
+        next a_word (value_word false a_word (codes "a") refl refl refl)
+        (takes_in ValueGoes ValueEnds (StepGoes (places.Enum false)) (StepEnds (places.Enum false))
+        (λ s. states.Value s) (λ v. said.Value v) (in_value (places.Enum false)) (value_ends (places.Enum false))
+        t) in
         let q : place_of d ≡ (places.Enum false) = in_block d (an_enum false) e in
         ending_on d (said.Value v) (a_word ∷ ys) (subst (λ (p : Place). StepTakes p states.Begin (a_word ∷ ys) (said.Value v)) (sym q) k)
         (filled_enum_ending (added d (said.Value v)) refl)

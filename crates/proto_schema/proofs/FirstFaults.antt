@@ -1,5 +1,6 @@
 -- The first token at fault: a text that is no file has one, and a file has none.
-use Rattle.std.proofs.Common.{subst, ◌≡◌, ◌≢◌, ◌⊎◌, inl, inr, ℕ, zero, suc, ◌+◌, ◌-◌, ◌<◌, ◌≤◌, length, take, drop, Bool, true, false, List, [], ◌∷◌, ◌++◌, codes, refl, ap, sym, ◌∙◌, arith}
+use Rattle.std.proofs.Common.{subst, ◌≡◌, ◌≢◌, ◌⊎◌, inl, inr, ℕ, zero, suc, ◌+◌, ◌-◌, ◌<◌, ◌≤◌, length, take, drop}
+use Rattle.std.proofs.Common.{Bool, true, false, List, [], ◌∷◌, ◌++◌, codes, refl, ap, sym, ◌∙◌, arith}
 use Rattle.std.specs.Prelude.{Ok, Err, Result, Option, Some, None, if◌then◌else◌, slice_get}
 use Rattle.std.proofs.lemmas.List.{append_assoc, append-nil}
 use Rattle.std.proofs.lemmas.Bool.{false_from_ne_true}
@@ -11,14 +12,18 @@ use Rattle.proto_tokens.specs.Tokens.{AreTokens, IsHere, Stands, is_last, litera
 use Rattle.proto_tokens.specs.declared.token.Kind.{Kind}
 use Rattle.proto_tokens.specs.declared.token.Kind.TheVariants as kinds
 use Rattle.proto_tokens.specs.declared.token.Token.{Token}
-use Rattle.proto_schema.specs.Lexemes.{Meaning, identifier, integer, number, string, mark, the_end, none, Lexeme, span_of, meaning, lexeme, lexemes, semicolon, equals, IsWord, says, says_one_of}
+use Rattle.proto_schema.specs.Lexemes.{Meaning, identifier, integer, number, string, mark, the_end, none, Lexeme}
+use Rattle.proto_schema.specs.Lexemes.{span_of, meaning, lexeme, lexemes, semicolon, equals, IsWord, says}
+use Rattle.proto_schema.specs.Lexemes.{says_one_of}
 use Rattle.proto_schema.specs.Files
 use Rattle.proto_schema.specs.Files.{Draft, Forms, nothing_said}
 use Rattle.proto_schema.specs.Faults
 use Rattle.proto_schema.specs.Faults.{is_no_token, CanGoOn, BreaksAt, IsNamed, IsFault, IsTextOf, HasFault}
 use Rattle.proto_schema.specs.Reading.{fault_at, unexpected, is_mark}
 use Rattle.std.specs.Str.{bytes_eq}
-use Rattle.proto_schema.specs.Running.{place_of, added, statement_step, Outcome, cut_off, read, failed, is_over, is_too_deep, behind, run, behind_word, behind_equals, behind_value, behind_syntax, reading}
+use Rattle.proto_schema.specs.Running.{place_of, added, statement_step, Outcome, cut_off, read, failed, is_over}
+use Rattle.proto_schema.specs.Running.{is_too_deep, behind, run, behind_word, behind_equals, behind_value}
+use Rattle.proto_schema.specs.Running.{behind_syntax, reading}
 use Rattle.proto_schema.proofs.Next.{run_step, run_over, mark_not_last, word_not_last}
 use Rattle.proto_schema.proofs.Stops.{takes_no_last}
 use Rattle.proto_schema.proofs.RunRest.{Begun, begun, reading_reads}
@@ -204,7 +209,9 @@ breaks_early text ts k x a b = by (drop_behind (k + 1) all) (reading true front)
     by : (rest : List Lexeme) × (take (k + 1) (lexemes text ts) ++ rest ≡ lexemes text ts) → (o : Outcome)
         → reading true (take (k + 1) (lexemes text ts)) ≡ o → Early (lexemes text ts) k
     by (rest, e) (cut_off d s) h =
-        absurd (b.behind (cut_goes_on (take (k + 1) (lexemes text ts)) d s (reading_keeps (take (k + 1) (lexemes text ts)) (cut_off d s) (λ f q. let t : failed f ≡ cut_off d s = q in cc) h)))
+        absurd (b.behind (cut_goes_on (take (k + 1) (lexemes text ts)) d s
+        (reading_keeps (take (k + 1) (lexemes text ts)) (cut_off d s) (λ f q. let t : failed f ≡ cut_off d s =
+        q in cc) h)))
     by (rest, e) (read file) h = absurd (b.behind (front_goes_on text ts (take (k + 1) (lexemes text ts)) rest file a e h))
     by (rest, e) (failed f) h = at (reading_told (take (k + 1) (lexemes text ts)) f h)
       where
@@ -225,11 +232,13 @@ named_token {ts = ts} {k = k} x (Faults.import j i y d e s f g w p n c) h t =
     let q : ◌≡◌ {A = Option Lexeme} (Some y) (Some x) = sym p ∙ h in let r : y ≡ x = (cc) in
     absurd (let u : true ≡ false = sym t ∙ subst (λ (z : Lexeme). is_no_token z.means ≡ false) r n in cc)
 named_token {ts = ts} {k = k} x (Faults.stream xs ys zs y z d e l s b w c) h t =
-    let g : slice_get ts k ≡ Some y = subst (λ (l : List Lexeme). slice_get l k ≡ Some y) (sym e) (subst (λ (n : ℕ). slice_get ((xs ++ ys) ++ y ∷ z ∷ zs) n ≡ Some y) l (get_behind (xs ++ ys) (z ∷ zs) y)) in
+    let g : slice_get ts k ≡ Some y = subst (λ (l : List Lexeme). slice_get l k ≡ Some y) (sym e)
+    (subst (λ (n : ℕ). slice_get ((xs ++ ys) ++ y ∷ z ∷ zs) n ≡ Some y) l (get_behind (xs ++ ys) (z ∷ zs) y)) in
     let q : ◌≡◌ {A = Option Lexeme} (Some y) (Some x) = sym g ∙ h in let r : y ≡ x = (cc) in
     absurd (let u : true ≡ false = sym t ∙ (ap (λ (z : Lexeme). is_no_token z.means) (sym r) ∙ ap is_no_token w) in cc)
 named_token {ts = ts} {k = k} x (Faults.group xs ys zs y d e l s b w) h t =
-    let g : slice_get ts k ≡ Some y = subst (λ (l : List Lexeme). slice_get l k ≡ Some y) (sym e) (subst (λ (n : ℕ). slice_get ((xs ++ ys) ++ y ∷ zs) n ≡ Some y) l (get_behind (xs ++ ys) zs y)) in
+    let g : slice_get ts k ≡ Some y = subst (λ (l : List Lexeme). slice_get l k ≡ Some y) (sym e)
+    (subst (λ (n : ℕ). slice_get ((xs ++ ys) ++ y ∷ zs) n ≡ Some y) l (get_behind (xs ++ ys) zs y)) in
     let q : ◌≡◌ {A = Option Lexeme} (Some y) (Some x) = sym g ∙ h in let r : y ≡ x = (cc) in
     absurd (let u : true ≡ false = sym t ∙ (ap (λ (z : Lexeme). is_no_token z.means) (sym r) ∙ ap is_no_token w) in cc)
 named_token x (Faults.extend y d s b g w) h t =
@@ -289,7 +298,9 @@ break_reports text ts k q x a b known = by (breaks_early text ts k x a b)
             let c : Same j i z y s r = same_report text ts a (report g (f ∙ ap failed (sym p))) (report h f) in
             let u : ◌≡◌ {A = Option Lexeme} (Some y) (Some x) = sym h ∙ (ap (slice_get (lexemes text ts)) e ∙ b.here) in
             let v : y ≡ x = (cc) in
-            let n : Means (lexemes text ts) k x s = subst (λ (w : Lexeme). Means (lexemes text ts) k w s) (c.token ∙ v) (subst (λ (n : ℕ). Means (lexemes text ts) n z s) (c.place ∙ e) m) in
+            let n : Means (lexemes text ts) k x s =
+            subst (λ (w : Lexeme). Means (lexemes text ts) k w s) (c.token ∙ v)
+            (subst (λ (n : ℕ). Means (lexemes text ts) n z s) (c.place ∙ e) m) in
             let o : r ≡ q = sym c.reason ∙ known s n in
             here x b.here (f ∙ (ap (λ (w : Lexeme). failed (fault_at r w.span)) v ∙ ap (λ (w : ProtoReason). failed (fault_at w x.span)) o))
 
@@ -516,7 +527,8 @@ reading_ends text ts (Tokens.last u e n l) c t h = by (says (lexeme text u).mean
     g = ap (λ (us : List Token). reading true (lexemes text us)) (sym e) ∙ h
 
     by : (b : Bool) → says (lexeme text u).means (codes "syntax") ≡ b
-        → (if b then behind_word true (lexeme text u) [] else if is_no_token (lexeme text u).means then failed (unexpected (lexeme text u)) else failed (fault_at reasons.Syntax2 (span_of u))) ≡ cut_off c t → ⊥
+        → (if b then behind_word true (lexeme text u) [] else if is_no_token (lexeme text u).means then failed
+        (unexpected (lexeme text u)) else failed (fault_at reasons.Syntax2 (span_of u))) ≡ cut_off c t → ⊥
     by true s g = let q : true ≡ false = sym l ∙ word_not_last text u (codes "syntax") s in cc
     by false s g = other_first (lexeme text u) c t (is_no_token (lexeme text u).means) g
 reading_ends text ts (Tokens.another u others e n l o) c t h = by (says (lexeme text u).means (codes "syntax")) g
@@ -524,7 +536,9 @@ reading_ends text ts (Tokens.another u others e n l o) c t h = by (says (lexeme 
     g : reading true (lexeme text u ∷ lexemes text others) ≡ cut_off c t
     g = ap (λ (us : List Token). reading true (lexemes text us)) (sym e) ∙ h
 
-    by : (b : Bool) → (if b then behind_word true (lexeme text u) (lexemes text others) else if is_no_token (lexeme text u).means then failed (unexpected (lexeme text u)) else failed (fault_at reasons.Syntax2 (span_of u))) ≡ cut_off c t → ⊥
+    by : (b : Bool) → (if b then behind_word true (lexeme text u) (lexemes text others)
+        else if is_no_token (lexeme text u).means then failed (unexpected (lexeme text u))
+        else failed (fault_at reasons.Syntax2 (span_of u))) ≡ cut_off c t → ⊥
     by true g = word_ends text u.end others (lexeme text u) o c t g
     by false g = other_first (lexeme text u) c t (is_no_token (lexeme text u).means) g
 

@@ -1,14 +1,20 @@
 -- What the statements so far say is well formed: places are those of the lists, a closed oneof has a field and a closed
 -- enum a value, and names have the forms of names.
-use Rattle.std.proofs.Common.{◌≡◌, ◌⊎◌, inl, inr, ℕ, zero, suc, ◌+◌, ◌<◌, ◌≤◌, Bool, true, false, List, [], ◌∷◌, ◌++◌, length, length-append, refl, ap, subst, sym, ◌∙◌, arith}
+use Rattle.std.proofs.Common.{◌≡◌, ◌⊎◌, inl, inr, ℕ, zero, suc, ◌+◌, ◌<◌, ◌≤◌, Bool, true, false, List, [], ◌∷◌, ◌++◌}
+use Rattle.std.proofs.Common.{length, length-append, refl, ap, subst, sym, ◌∙◌, arith}
 use Rattle.std.specs.Prelude.{Option, Some, None, slice_get, IfSome, Contains}
 use Rattle.std.proofs.lemmas.Bool.{cases_lt}
 use Rattle.proto_schema.specs.Lexemes.{Lexeme, word_at}
 use Rattle.proto_schema.specs.Files
-use Rattle.proto_schema.specs.Files.{Draft, Block, no_block, a_oneof, an_enum, a_service, an_rpc, Statement, Says, Forms, ClosesTo, nothing_said, edit_at, edit_last, first_of, with_file, with_block, in_message, in_enum, in_service, open_message, open_enum, open_service, open_oneof, add_field, add_rpc, oneofs_of, count_oneofs, field}
+use Rattle.proto_schema.specs.Files.{Draft, Block, no_block, a_oneof, an_enum, a_service, an_rpc, Statement, Says}
+use Rattle.proto_schema.specs.Files.{Forms, ClosesTo, nothing_said, edit_at, edit_last, first_of, with_file}
+use Rattle.proto_schema.specs.Files.{with_block, in_message, in_enum, in_service, open_message, open_enum}
+use Rattle.proto_schema.specs.Files.{open_service, open_oneof, add_field, add_rpc, oneofs_of, count_oneofs, field}
 use Rattle.proto_schema.specs.Faults.{IsTextOf}
 use Rattle.proto_file.specs.Order.{IsPlaceBelow, HasName, HasFullName, HasTypeNames, IsFormedField, IsFormedMessage, IsFormedEnum, IsFormedRpc, IsFormedService, IsFormed}
-use Rattle.proto_schema.proofs.Places.{nothing_at, all_by_place, contained, in_pushed, before_pushed, pushed, Changed, changed, kept, in_edited_at, length_edited_at, in_edited_last, length_edited_last}
+use Rattle.proto_schema.proofs.Places.{nothing_at, all_by_place, contained, in_pushed, before_pushed, pushed, Changed}
+use Rattle.proto_schema.proofs.Places.{changed, kept, in_edited_at, length_edited_at, in_edited_last}
+use Rattle.proto_schema.proofs.Places.{length_edited_last}
 use Rattle.proto_schema.proofs.Along.{Along, along_split, tokens_along}
 use Rattle.proto_schema.proofs.Spans.{NameWithin, EndWithin, RpcWithin, along_same, word_along, full_along, types_along, end_along, numbered_along, rpc_along}
 use Rattle.proto_file.specs.declared.file.Word.{Word}
@@ -200,7 +206,11 @@ formed_message d w b n s =
       package_name = s.package_name;
       messages = λ k m e. elim (in_pushed d.file.messages _ k m e) [
         | inl q ↦ messages_shut d no_block (length d.file.messages ∷ d.messages) s oneofs k m q
-        | inr (j, q) ↦ subst (λ (m : MessageDecl). MessageSoFar (λ o. IsOpenOneof no_block (length d.file.messages ∷ d.messages) k o) k m) (sym q) (subst (λ (i : ℕ). MessageSoFar (λ o. IsOpenOneof no_block (length d.file.messages ∷ d.messages) k o) i opened) (sym j) new)
+        | inr (j, q) ↦ subst
+            (λ (m : MessageDecl). MessageSoFar (λ o. IsOpenOneof no_block (length d.file.messages ∷ d.messages) k o) k
+            m) (sym q) (subst
+            (λ (i : ℕ). MessageSoFar (λ o. IsOpenOneof no_block (length d.file.messages ∷ d.messages) k o) i opened)
+            (sym j) new)
       ];
       enums = enums_shut d no_block (length d.file.enums) (length (open_message d w).file.messages) s enums (omega arith);
       services = s.services;
@@ -221,7 +231,8 @@ formed_message d w b n s =
     }
 
     unclosed : (j k : ℕ) → slice_get (length d.file.messages ∷ d.messages) j ≡ Some k → k < length (open_message d w).file.messages
-    unclosed zero k e = let t : ◌≡◌ (Some (length d.file.messages)) (Some k) = e in let q : length d.file.messages ≡ k = (cc) in omega (arith, length-append d.file.messages (opened ∷ []))
+    unclosed zero k e = let t : ◌≡◌ (Some (length d.file.messages)) (Some k) = e in
+        let q : length d.file.messages ≡ k = (cc) in omega (arith, length-append d.file.messages (opened ∷ []))
     unclosed (suc j) k e = let q : k < length d.file.messages = s.unclosed j k e in omega (arith, length-append d.file.messages (opened ∷ []))
 
 formed_enum : (d : Draft) (w : Word) → d.block ≡ no_block → HasName w → SoFar d → SoFar (open_enum d w)
@@ -289,7 +300,8 @@ formed_field d f b form unclosed enums still s =
     record {
       package_name = s.package_name;
       messages = λ k m e. elim (in_edited_at (first_of d.messages) added d.file.messages k m e) [
-        | changed x h i q ↦ subst (λ (m : MessageDecl). MessageSoFar (λ o. IsOpenOneof b d.messages k o) k m) (sym q) (message_field k x f (form k x i h) (λ o p. unclosed k o i p) (s.messages k x h))
+        | changed x h i q ↦ subst (λ (m : MessageDecl). MessageSoFar (λ o. IsOpenOneof b d.messages k o) k m) (sym q)
+            (message_field k x f (form k x i h) (λ o p. unclosed k o i p) (s.messages k x h))
         | kept h i ↦ message_open k m (λ o p. absurd (i p.innermost)) (s.messages k m h)
       ];
       enums = enums_shut d b (length d.file.enums) (length (edit_at (first_of d.messages) added d.file.messages)) s enums (omega arith);
@@ -350,7 +362,8 @@ formed_reserved d f b same s =
     record {
       package_name = s.package_name;
       messages = λ k m e. elim (in_edited_at (first_of d.messages) f d.file.messages k m e) [
-        | changed x h i q ↦ subst (λ (m : MessageDecl). MessageSoFar (λ o. IsOpenOneof d.block d.messages k o) k m) (sym q) (same (λ o. IsOpenOneof d.block d.messages k o) k x (s.messages k x h))
+        | changed x h i q ↦ subst (λ (m : MessageDecl). MessageSoFar (λ o. IsOpenOneof d.block d.messages k o) k m)
+            (sym q) (same (λ o. IsOpenOneof d.block d.messages k o) k x (s.messages k x h))
         | kept h i ↦ s.messages k m h
       ];
       enums = enums_shut d d.block (length d.file.enums) (length (edit_at (first_of d.messages) f d.file.messages)) s enums (omega arith);
@@ -396,7 +409,8 @@ formed_enum_edit d f b filled q shut never more s =
       package_name = s.package_name;
       messages = messages_shut d b d.messages s oneofs;
       enums = λ k e h. elim (in_edited_last f d.file.enums k e h) [
-        | changed x g l r ↦ subst (λ (e : EnumDecl). EnumSoFar (IsOpenEnum b (length (edit_last f d.file.enums)) k) (length d.file.messages) e) (sym r) (more k (length d.file.messages) x l (s.enums k x g))
+        | changed x g l r ↦ subst (λ (e : EnumDecl). EnumSoFar (IsOpenEnum b (length (edit_last f d.file.enums)) k)
+            (length d.file.messages) e) (sym r) (more k (length d.file.messages) x l (s.enums k x g))
         | kept g l ↦ enum_open (length d.file.messages) (length d.file.messages) e (λ p. absurd (l p.last)) (omega arith) (s.enums k e g)
       ];
       services = s.services;
@@ -428,7 +442,14 @@ formed_value_ranges d rs filled q s =
     (λ k c e l g. record {
       name = g.name;
       values = g.values;
-      filled = elim g.filled [ inl f ↦ inl f | inr p ↦ inr (record { block = p.block; last = omega (arith, length_edited_last (λ e. record e { ranges = e.ranges ++ rs }) d.file.enums) }) ];
+      filled = elim g.filled [
+        | inl f ↦ inl f
+        | inr p ↦ inr
+            (record {
+              block = p.block;
+              last = omega (arith, length_edited_last (λ e. record e { ranges = e.ranges ++ rs }) d.file.enums);
+            })
+      ];
       parent = g.parent;
     }) s
 
@@ -439,7 +460,14 @@ formed_value_names d ws filled q s =
     (λ k c e l g. record {
       name = g.name;
       values = g.values;
-      filled = elim g.filled [ inl f ↦ inl f | inr p ↦ inr (record { block = p.block; last = omega (arith, length_edited_last (λ e. record e { names = e.names ++ ws }) d.file.enums) }) ];
+      filled = elim g.filled [
+        | inl f ↦ inl f
+        | inr p ↦ inr
+            (record {
+              block = p.block;
+              last = omega (arith, length_edited_last (λ e. record e { names = e.names ++ ws }) d.file.enums);
+            })
+      ];
       parent = g.parent;
     }) s
 
@@ -531,7 +559,8 @@ formed_statement b e d {all = all} (Files.service x y z name i hx hy hz a) h s =
 formed_statement b e d {all = all} (Files.oneof x y z name i hx hy hz a) h s =
     let (l, p, r) = along_same b e all (x ∷ y ∷ z ∷ []) a h in
     formed_oneof d (word_at name y.span) i.0 (word_along (suc x.span.start) e y (z ∷ []) name hy r).formed s
-formed_statement b e d {all = all} (Files.a_field {ls = ls} {ts = ts} {es = es} {label = label} {words = words} {kind = kind} {name = name} {number = number} {packed = packed} i l t f a) h s =
+formed_statement b e d {all = all} (Files.a_field {ls = ls} {ts = ts} {es = es} {label = label} {words =
+    words} {kind = kind} {name = name} {number = number} {packed = packed} i l t f a) h s =
     let (g, r, v) = along_split b (ls ++ ts) es e (along_same b e all (ls ++ ts ++ es) a h) in
     let (c, p, u) = along_split b ls ts g r in
     let types : HasTypeNames kind = (types_along c g t u).0 in

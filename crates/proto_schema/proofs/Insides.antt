@@ -6,7 +6,9 @@ use Rattle.std.proofs.lemmas.List.Elements.{All-nil, All-cons, All-head, All-tai
 use Rattle.proto_tokens.specs.Tokens
 use Rattle.proto_tokens.specs.Tokens.{AreTokens}
 use Rattle.proto_tokens.specs.declared.token.Token.{Token}
-use Rattle.proto_file.specs.Within.{IsSpanWithin, IsWordWithin, IsNumberWithin, IsRangeWithin, IsTypeWithin, IsFieldWithin, IsMessageWithin, IsValueWithin, IsEnumWithin, IsRpcWithin, IsServiceWithin, IsWithin}
+use Rattle.proto_file.specs.Within.{IsSpanWithin, IsWordWithin, IsNumberWithin, IsRangeWithin, IsTypeWithin}
+use Rattle.proto_file.specs.Within.{IsFieldWithin, IsMessageWithin, IsValueWithin, IsEnumWithin, IsRpcWithin}
+use Rattle.proto_file.specs.Within.{IsServiceWithin, IsWithin}
 use Rattle.proto_file.specs.declared.file.Span.{Span}
 use Rattle.proto_file.specs.declared.file.Word.{Word}
 use Rattle.proto_file.specs.declared.file.Number.{Number}

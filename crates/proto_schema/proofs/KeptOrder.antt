@@ -3,7 +3,10 @@ use Rattle.std.proofs.Common.{◌≡◌, ◌⊎◌, inl, inr, ℕ, zero, suc, �
 use Rattle.std.specs.Prelude.{Some, slice_get}
 use Rattle.std.proofs.lemmas.Bool.{cases_order}
 use Rattle.std.proofs.lemmas.Option.{slice_get_within}
-use Rattle.proto_file.specs.Order.{Declaration, import_decl, message_decl, field_decl, oneof_decl, enum_decl, value_decl, service_decl, rpc_decl, Part, its_type, its_key, its_value, its_name, its_number, its_input, its_output, rank_of, IsOfField, IsOfValue, IsOfRpc, StandsAt, Precedes, IsOrdered}
+use Rattle.proto_file.specs.Order.{Declaration, import_decl, message_decl, field_decl, oneof_decl, enum_decl}
+use Rattle.proto_file.specs.Order.{value_decl, service_decl, rpc_decl, Part, its_type, its_key, its_value, its_name}
+use Rattle.proto_file.specs.Order.{its_number, its_input, its_output, rank_of, IsOfField, IsOfValue, IsOfRpc}
+use Rattle.proto_file.specs.Order.{StandsAt, Precedes, IsOrdered}
 use Rattle.proto_file.specs.Order
 use Rattle.proto_file.specs.declared.file.Span.{Span}
 use Rattle.proto_file.specs.declared.file.MessageDecl.{MessageDecl}

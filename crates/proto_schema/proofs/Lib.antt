@@ -26,6 +26,7 @@ mod RunReads
 mod Finishing
 mod Shallow
 mod Breaks
+mod SoFarWords
 mod SoFar
 mod Reports
 mod Named

@@ -1,5 +1,6 @@
 -- What completes a map's type, and a field's type, by how far it is read.
-use Rattle.std.proofs.Common.{subst, ◌≡◌, ℕ, suc, ◌+◌, ◌-◌, ◌<◌, ◌≤◌, nat_le, Bool, true, false, List, [], ◌∷◌, ◌++◌, codes, refl, ap, sym, ◌∙◌, arith, add-one}
+use Rattle.std.proofs.Common.{subst, ◌≡◌, ℕ, suc, ◌+◌, ◌-◌, ◌<◌, ◌≤◌, nat_le, Bool, true, false, List, [], ◌∷◌, ◌++◌}
+use Rattle.std.proofs.Common.{codes, refl, ap, sym, ◌∙◌, arith, add-one}
 use Rattle.std.specs.Prelude.{Ok, Err, Result, Option, Some, None, if◌then◌else◌}
 use Rattle.std.specs.Str.{bytes_eq}
 use Rattle.std.proofs.lemmas.Bool.{leb-true, leb-false}
@@ -7,7 +8,9 @@ use Rattle.std.proofs.lemmas.List.{append_assoc}
 use Rattle.proto_file.specs.Dot.{dot}
 use Rattle.proto_schema.specs.Lexemes.{identifier, Lexeme, comma, less, greater, span_to, word_at, IsWord, IsMark, says}
 use Rattle.proto_schema.specs.Grammar.{relative, group_word, map_key, NestedMaps, innermost, around, FieldTypeOf, a_map, map_of_maps}
-use Rattle.proto_schema.specs.Reading.{wrong, is_mark, part, fault_at, full_step, type_step, typed_step, key_step, behind_key, map_step, more_map, of_key, of_inner_key, of_value, of_inner_value, begins_map, closed}
+use Rattle.proto_schema.specs.Reading.{wrong, is_mark, part, fault_at, full_step, type_step, typed_step, key_step}
+use Rattle.proto_schema.specs.Reading.{behind_key, map_step, more_map, of_key, of_inner_key, of_value, of_inner_value}
+use Rattle.proto_schema.specs.Reading.{begins_map, closed}
 use Rattle.proto_schema.proofs.Choices.{either_is, named_is, same_bytes, and_both, dotted_differs}
 use Rattle.proto_schema.proofs.NameLemmas.{mark_is}
 use Rattle.proto_schema.proofs.NameRest.{ends, TypedRest, NameBack, from_start, from_root, from_dot, from_part, from_top, typed_back, no_group}
@@ -90,13 +93,16 @@ typed_value names.Start x =
     (λ d. named_is (ValueBack names.Start x) x (λ n. part n x.span) (λ n h. first_value x n h e) tt))
 typed_value (names.Rooted s) x =
     named_is (ValueBack (names.Rooted s) x) x (λ n. part (dot ∷ n) (span_to s x.span))
-    (λ n h. later_value (names.Rooted s) (names.Part (word_at (dot ∷ n) (span_to s x.span))) x (from_root s x n h) (part_not_start (word_at (dot ∷ n) (span_to s x.span))) (not_map [] n)) tt
+    (λ n h. later_value (names.Rooted s) (names.Part (word_at (dot ∷ n) (span_to s x.span))) x (from_root s x n h)
+    (part_not_start (word_at (dot ∷ n) (span_to s x.span))) (not_map [] n)) tt
 typed_value (names.Part v) x =
     either_is (ValueBack (names.Part v) x) (is_mark x.means dot) (Ok (name_steps.More (names.Dot v))) (Ok (name_steps.Whole v))
     (λ e. later_value (names.Part v) (names.Dot v) x (from_part v x (mark_is x.means dot e)) (dot_not_start v) (λ p. p)) (λ e. (ends, refl))
 typed_value (names.Dot v) x =
     named_is (ValueBack (names.Dot v) x) x (λ n. part (v.name ++ dot ∷ n) (span_to v.span x.span))
-    (λ n h. later_value (names.Dot v) (names.Part (word_at (v.name ++ dot ∷ n) (span_to v.span x.span))) x (from_dot v x n h) (part_not_start (word_at (v.name ++ dot ∷ n) (span_to v.span x.span))) (not_map v.name n)) tt
+    (λ n h. later_value (names.Dot v) (names.Part (word_at (v.name ++ dot ∷ n) (span_to v.span x.span))) x
+    (from_dot v x n h) (part_not_start (word_at (v.name ++ dot ∷ n) (span_to v.span x.span))) (not_map v.name n))
+    tt
 
 -- ---- a map from its key on
 
@@ -143,10 +149,14 @@ body_of bs (k, r, key_at z ks {vs = vs} t c v e) m l hm hl = by r v
     by : (r : Option Word) → ValueAt names.Start vs r → NestedMaps (m ∷ l ∷ bs)
     by r (plain x ys {w = w} u g a) =
         innermost x (map_key m l z hm hl t.0 t.1 c refl) u.0 u.1 g
-        (ap (λ (q : List Lexeme). m ∷ l ∷ q) (e ∙ (ap (λ (q : List Lexeme). ks ++ z ∷ q) a ∙ (sym (append_assoc ks (z ∷ []) (ys ++ x ∷ [])) ∙ sym (append_assoc (ks ++ z ∷ []) ys (x ∷ []))))))
+        (ap (λ (q : List Lexeme). m ∷ l ∷ q)
+        (e ∙ (ap (λ (q : List Lexeme). ks ++ z ∷ q) a
+        ∙ (sym (append_assoc ks (z ∷ []) (ys ++ x ∷ [])) ∙ sym (append_assoc (ks ++ z ∷ []) ys (x ∷ []))))))
     by r (nested x {ys = ys} s n g a) =
         around x (map_key m l z hm hl t.0 t.1 c refl) n g
-        (ap (λ (q : List Lexeme). m ∷ l ∷ q) (e ∙ (ap (λ (q : List Lexeme). ks ++ z ∷ q) a ∙ (sym (append_assoc ks (z ∷ []) (ys ++ x ∷ [])) ∙ sym (append_assoc (ks ++ z ∷ []) ys (x ∷ []))))))
+        (ap (λ (q : List Lexeme). m ∷ l ∷ q)
+        (e ∙ (ap (λ (q : List Lexeme). ks ++ z ∷ q) a
+        ∙ (sym (append_assoc ks (z ∷ []) (ys ++ x ∷ [])) ∙ sym (append_assoc (ks ++ z ∷ []) ys (x ∷ []))))))
     by r (map_from x y cs p h b g a) = absurd p
 
 -- the same, as the type of a field
@@ -157,10 +167,14 @@ kind_from m l bs kind hm hl (k, r, key_at z ks {vs = vs} t c v e, f) = by r v f
     by : (r : Option Word) → ValueAt names.Start vs r → kind_of k r ≡ kind → FieldTypeOf group_word (m ∷ l ∷ bs) kind
     by r (plain x ys {w = w} u g a) f =
         subst (λ (kind : FieldType). FieldTypeOf group_word (m ∷ l ∷ bs) kind) f (a_map x (map_key m l z hm hl t.0 t.1 c refl) u.0 u.1 g
-        (ap (λ (q : List Lexeme). m ∷ l ∷ q) (e ∙ (ap (λ (q : List Lexeme). ks ++ z ∷ q) a ∙ (sym (append_assoc ks (z ∷ []) (ys ++ x ∷ [])) ∙ sym (append_assoc (ks ++ z ∷ []) ys (x ∷ [])))))))
+        (ap (λ (q : List Lexeme). m ∷ l ∷ q)
+        (e ∙ (ap (λ (q : List Lexeme). ks ++ z ∷ q) a
+        ∙ (sym (append_assoc ks (z ∷ []) (ys ++ x ∷ [])) ∙ sym (append_assoc (ks ++ z ∷ []) ys (x ∷ [])))))))
     by r (nested x {ys = ys} s n g a) f =
         subst (λ (kind : FieldType). FieldTypeOf group_word (m ∷ l ∷ bs) kind) f (map_of_maps x (map_key m l z hm hl t.0 t.1 c refl) n g
-        (ap (λ (q : List Lexeme). m ∷ l ∷ q) (e ∙ (ap (λ (q : List Lexeme). ks ++ z ∷ q) a ∙ (sym (append_assoc ks (z ∷ []) (ys ++ x ∷ [])) ∙ sym (append_assoc (ks ++ z ∷ []) ys (x ∷ [])))))))
+        (ap (λ (q : List Lexeme). m ∷ l ∷ q)
+        (e ∙ (ap (λ (q : List Lexeme). ks ++ z ∷ q) a
+        ∙ (sym (append_assoc ks (z ∷ []) (ys ++ x ∷ [])) ∙ sym (append_assoc (ks ++ z ∷ []) ys (x ∷ [])))))))
     by r (map_from x y cs p h b g a) f = absurd p
 
 -- ---- keys
@@ -217,7 +231,8 @@ of_value_back k s x (Ok (name_steps.More t)) b = λ ys kind q. (q.0, b ys q.0 q.
 of_value_back k s x (Ok (name_steps.Whole w)) b =
     either_is (MapBack (maps.Value k s) x) (is_mark x.means greater) (Ok (steps.Done (types.Map k w))) (if begins_map w x then more_map (maps.InnerKey k 1 names.Start) else wrong x)
     (λ h. (Some w, plain x [] {w = w} b.0 (mark_is x.means greater h) refl, refl))
-    (λ h. either_is (MapBack (maps.Value k s) x) (begins_map w x) (more_map (maps.InnerKey k 1 names.Start)) (wrong x) (λ m. λ ys kind f. by (map_begins s w x b.1 m) ys kind (f (omega arith))) (λ m. tt))
+    (λ h. either_is (MapBack (maps.Value k s) x) (begins_map w x) (more_map (maps.InnerKey k 1 names.Start)) (wrong x)
+    (λ m. λ ys kind f. by (map_begins s w x b.1 m) ys kind (f (omega arith))) (λ m. tt))
   where
     by : (IsPart s (codes "map")) × IsMark x less → (ys : List Lexeme) (kind : FieldType)
         → InnerAt (SomeKey names.Start) k 1 ys kind → (r : Option Word) × ValueAt s (x ∷ ys) r × (kind_of k r ≡ kind)
@@ -231,7 +246,8 @@ of_inner_value_back k0 d s x (Ok (name_steps.More t)) b = λ ys kind f p. by ys 
     by : (ys : List Lexeme) (kind : FieldType) → InnerAt (SomeValue t) k0 d ys kind → InnerAt (SomeValue s) k0 d (x ∷ ys) kind
     by ys kind (inner_at {bs = bs} (r, v) c e q) = inner_at {bs = x ∷ bs} (r, b bs r v) c (ap (λ (l : List Lexeme). x ∷ l) e) q
 of_inner_value_back k0 d s x (Ok (name_steps.Whole w)) b =
-    either_is (MapBack (maps.InnerValue k0 d s) x) (is_mark x.means greater) (more_map (maps.Close k0 d)) (if begins_map w x then more_map (maps.InnerKey k0 (d + 1) names.Start) else wrong x)
+    either_is (MapBack (maps.InnerValue k0 d s) x) (is_mark x.means greater) (more_map (maps.Close k0 d))
+    (if begins_map w x then more_map (maps.InnerKey k0 (d + 1) names.Start) else wrong x)
     (λ h. λ ys kind f p. ends_here (mark_is x.means greater h) ys kind (f p))
     (λ h. either_is (MapBack (maps.InnerValue k0 d s) x) (begins_map w x) (more_map (maps.InnerKey k0 (d + 1) names.Start)) (wrong x)
     (λ m. λ ys kind f p. goes_deeper (map_begins s w x b.1 m) ys kind (subst (λ (n : ℕ). InnerAt (SomeKey names.Start) k0 n ys kind) (add-one d) (f (omega arith)))) (λ m. tt))
@@ -264,4 +280,5 @@ map_back (maps.Key s) x = of_key_back s x (key_step s x) (key_back s x)
 map_back (maps.InnerKey k0 d s) x = of_inner_key_back k0 d s x (key_step s x) (key_back s x)
 map_back (maps.Value k s) x = of_value_back k s x (typed_step s x) (typed_value s x)
 map_back (maps.InnerValue k0 d s) x = of_inner_value_back k0 d s x (typed_step s x) (typed_value s x)
-map_back (maps.Close k0 d) x = either_is (MapBack (maps.Close k0 d) x) (is_mark x.means greater) (Ok (closed k0 d)) (wrong x) (λ h. closed_back k0 d x (mark_is x.means greater h)) (λ h. tt)
+map_back (maps.Close k0 d) x = either_is (MapBack (maps.Close k0 d) x) (is_mark x.means greater) (Ok (closed k0 d))
+    (wrong x) (λ h. closed_back k0 d x (mark_is x.means greater h)) (λ h. tt)

@@ -1,7 +1,9 @@
 -- A field, a oneof, a value or an rpc that is declared behind all others keeps the order.
 use Rattle.std.proofs.Common.{◌≡◌, ◌⊎◌, inl, inr, ℕ, suc, ◌<◌, ◌≤◌, List, [], ◌∷◌, ◌++◌, length, refl, ap, subst, sym, ◌∙◌, arith}
 use Rattle.std.specs.Prelude.{Option, Some, slice_get}
-use Rattle.proto_file.specs.Order.{Declaration, field_decl, oneof_decl, value_decl, rpc_decl, Part, its_name, rank_of, IsOfField, field_type, map_key, map_value, outer_key, field_name, field_number, IsOfValue, value_name, value_number, IsOfRpc, rpc_name, rpc_input, rpc_output}
+use Rattle.proto_file.specs.Order.{Declaration, field_decl, oneof_decl, value_decl, rpc_decl, Part, its_name, rank_of}
+use Rattle.proto_file.specs.Order.{IsOfField, field_type, map_key, map_value, outer_key, field_name, field_number}
+use Rattle.proto_file.specs.Order.{IsOfValue, value_name, value_number, IsOfRpc, rpc_name, rpc_input, rpc_output}
 use Rattle.proto_file.specs.declared.file.Span.{Span}
 use Rattle.proto_file.specs.declared.file.MessageDecl.{MessageDecl}
 use Rattle.proto_file.specs.declared.file.EnumDecl.{EnumDecl}
@@ -16,7 +18,11 @@ use Rattle.proto_file.specs.declared.file.ServiceDecl.{ServiceDecl}
 use Rattle.proto_schema.specs.Files.{edit_at, edit_last}
 use Rattle.proto_schema.proofs.Places.{one_at, in_pushed, changed, kept, in_edited_at, in_edited_last}
 use Rattle.proto_schema.proofs.Spans.{IsWithin, TypesWithin, RpcWithin}
-use Rattle.proto_schema.proofs.KeptOrder.{Kept, kept_to, kept_adds, InMessages, InEnums, InServices, of_messages, of_enums, of_services, in_messages, in_enums, in_services, precedes_itself, IsName, adds_name, no_place, field_place, oneof_place, value_place, rpc_place, field_precedes, oneof_precedes, value_precedes, rpc_precedes, message_in, field_in, oneof_in, enum_in, value_in, service_in, rpc_in}
+use Rattle.proto_schema.proofs.KeptOrder.{Kept, kept_to, kept_adds, InMessages, InEnums, InServices, of_messages}
+use Rattle.proto_schema.proofs.KeptOrder.{of_enums, of_services, in_messages, in_enums, in_services, precedes_itself}
+use Rattle.proto_schema.proofs.KeptOrder.{IsName, adds_name, no_place, field_place, oneof_place, value_place}
+use Rattle.proto_schema.proofs.KeptOrder.{rpc_place, field_precedes, oneof_precedes, value_precedes, rpc_precedes}
+use Rattle.proto_schema.proofs.KeptOrder.{message_in, field_in, oneof_in, enum_in, value_in, service_in, rpc_in}
 use Rattle.proto_schema.proofs.Declares.{through, IsEdited, edit_at_cases, edit_last_cases, enums_behind_edit, enums_behind_last}
 
 -- ---- a new field

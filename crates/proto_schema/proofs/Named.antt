@@ -1,5 +1,6 @@
 -- Where a reason has a name, the reading is at a fault there for this reason, or earlier.
-use Rattle.std.proofs.Common.{subst, ◌≡◌, ◌≢◌, ◌⊎◌, inl, inr, ℕ, zero, suc, ◌+◌, ◌<◌, ◌≤◌, length, length-append, take, Bool, true, false, List, [], ◌∷◌, ◌++◌, codes, refl, ap, sym, ◌∙◌, add-one, arith}
+use Rattle.std.proofs.Common.{subst, ◌≡◌, ◌≢◌, ◌⊎◌, inl, inr, ℕ, zero, suc, ◌+◌, ◌<◌, ◌≤◌, length, length-append}
+use Rattle.std.proofs.Common.{take, Bool, true, false, List, [], ◌∷◌, ◌++◌, codes, refl, ap, sym, ◌∙◌, add-one, arith}
 use Rattle.std.specs.Prelude.{Err, Result, Option, Some, None, is_some, ◌||◌, slice_get}
 use Rattle.std.specs.Str.{bytes_eq}
 use Rattle.std.proofs.lemmas.Bool.{and_right, false_from_ne_true}
@@ -15,9 +16,13 @@ use Rattle.proto_schema.specs.Running.{place_of, place_with, statement_step, imp
 use Rattle.proto_schema.proofs.Choices.{word_is, same_bytes}
 use Rattle.proto_schema.proofs.NameLemmas.{Walks, stay, go, walks_on, walks_in}
 use Rattle.proto_schema.proofs.Next.{run_step}
-use Rattle.proto_schema.proofs.FieldReads.{TypedGoes, first_goes, typed_reads, MapGoes, in_key, key_comma, in_value, in_inner_value, value_map, inner_value_map, inner_key_reads, outer_key_reads, FieldGoes, in_type, in_map, map_begins}
+use Rattle.proto_schema.proofs.FieldReads.{TypedGoes, first_goes, typed_reads, MapGoes, in_key, key_comma, in_value}
+use Rattle.proto_schema.proofs.FieldReads.{in_inner_value, value_map, inner_value_map, inner_key_reads}
+use Rattle.proto_schema.proofs.FieldReads.{outer_key_reads, FieldGoes, in_type, in_map, map_begins}
 use Rattle.proto_schema.proofs.RpcReads.{RpcGoes, RpcTypeGoes, quiet, in_input, input_ends, in_output, start_goes, named_goes, returns_goes, open_goes, rpc_type_reads}
-use Rattle.proto_schema.proofs.RunReads.{StepGoes, in_file, in_message, in_block, import_word, optional_word, repeated_word, rpc_word, in_field, in_rpc, by_word, message_leads, oneof_leads, map_no_statement, map_no_member, run_goes}
+use Rattle.proto_schema.proofs.RunReads.{StepGoes, in_file, in_message, in_block, import_word, optional_word}
+use Rattle.proto_schema.proofs.RunReads.{repeated_word, rpc_word, in_field, in_rpc, by_word, message_leads}
+use Rattle.proto_schema.proofs.RunReads.{oneof_leads, map_no_statement, map_no_member, run_goes}
 use Rattle.proto_schema.proofs.Shallow.{SaysWell, says_well, says_deep, deep, says_well_or, drop_behind, get_behind}
 use Rattle.proto_file.specs.declared.file.Span.{Span}
 use Rattle.proto_file.specs.declared.file.Word.{Word}
@@ -221,10 +226,14 @@ rpc_group {d = d} {ys = ys} x zs b h = by (rpc_at b)
     by : RpcAt ys → run true d states.Begin (ys ++ x ∷ zs) ≡ failed (fault_at reasons.Group x.span)
     by (at_input name w) =
         let s : State = states.Rpc (rpcs.Input name names.Start) in
-        walks_run d (x ∷ zs) (at_service d p w) ∙ fails_at d s x zs (fault_at reasons.Group x.span) (word_goes_on d s x (codes "group") h) (service_fails d s x (fault_at reasons.Group x.span) p (input_group name x h))
+        walks_run d (x ∷ zs) (at_service d p w) ∙ fails_at d s x zs (fault_at reasons.Group x.span)
+        (word_goes_on d s x (codes "group") h)
+        (service_fails d s x (fault_at reasons.Group x.span) p (input_group name x h))
     by (at_output name input w) =
         let s : State = states.Rpc (rpcs.Output name input names.Start) in
-        walks_run d (x ∷ zs) (at_service d p w) ∙ fails_at d s x zs (fault_at reasons.Group x.span) (word_goes_on d s x (codes "group") h) (service_fails d s x (fault_at reasons.Group x.span) p (output_group name input x h))
+        walks_run d (x ∷ zs) (at_service d p w) ∙ fails_at d s x zs (fault_at reasons.Group x.span)
+        (word_goes_on d s x (codes "group") h)
+        (service_fails d s x (fault_at reasons.Group x.span) p (output_group name input x h))
 
 rpc_stream : {d : Draft} {ys : List Lexeme} (x y : Lexeme) (zs : List Lexeme) → BeforeRpcType d ys
     → IsWord x (codes "stream") → is_type_part y.means ≡ true
@@ -237,11 +246,14 @@ rpc_stream {d = d} {ys = ys} x y zs b h t = by (rpc_at b)
     by : RpcAt ys → run true d states.Begin (ys ++ x ∷ y ∷ zs) ≡ failed (fault_at reasons.Stream x.span)
     by (at_input name w) =
         let u : State = states.Rpc (rpcs.Input name (names.Part (word_at (codes "stream") x.span))) in
-        let g : StepGoes places.Service (states.Rpc (rpcs.Input name names.Start)) x u = in_rpc places.Service (rpcs.Input name names.Start) (rpcs.Input name (names.Part (word_at (codes "stream") x.span))) x
+        let g : StepGoes places.Service (states.Rpc (rpcs.Input name names.Start)) x u =
+        in_rpc places.Service (rpcs.Input name names.Start)
+        (rpcs.Input name (names.Part (word_at (codes "stream") x.span))) x
         (in_input name names.Start (names.Part (word_at (codes "stream") x.span)) x (stream_first x h)) in
         walks_run d (x ∷ y ∷ zs) (at_service d p w)
         ∙ (walks_run d (y ∷ zs) (at_service d p (go x [] refl g (stay refl refl)))
-        ∙ fails_at d u y zs (fault_at reasons.Stream x.span) (over_not d u y (part_no_end y.means t)) (service_fails d u y (fault_at reasons.Stream x.span) p (input_stream name x.span y t)))
+        ∙ fails_at d u y zs (fault_at reasons.Stream x.span) (over_not d u y (part_no_end y.means t))
+        (service_fails d u y (fault_at reasons.Stream x.span) p (input_stream name x.span y t)))
     by (at_output name input w) =
         let u : State = states.Rpc (rpcs.Output name input (names.Part (word_at (codes "stream") x.span))) in
         let g : StepGoes places.Service (states.Rpc (rpcs.Output name input names.Start)) x u =
@@ -249,7 +261,8 @@ rpc_stream {d = d} {ys = ys} x y zs b h t = by (rpc_at b)
         (in_output name input names.Start (names.Part (word_at (codes "stream") x.span)) x (stream_first x h)) in
         walks_run d (x ∷ y ∷ zs) (at_service d p w)
         ∙ (walks_run d (y ∷ zs) (at_service d p (go x [] refl g (stay refl refl)))
-        ∙ fails_at d u y zs (fault_at reasons.Stream x.span) (over_not d u y (part_no_end y.means t)) (service_fails d u y (fault_at reasons.Stream x.span) p (output_stream name input x.span y t)))
+        ∙ fails_at d u y zs (fault_at reasons.Stream x.span) (over_not d u y (part_no_end y.means t))
+        (service_fails d u y (fault_at reasons.Stream x.span) p (output_stream name input x.span y t)))
 
 -- ---- where a part of a map begins
 
@@ -358,7 +371,9 @@ map_fails : (d : Draft) (s : State) (label : FieldLabel) {ms : List Lexeme} (x :
 map_fails d s label x zs (map_from m l rest hm hl e (t, w, a)) first h =
     ap (λ (q : List Lexeme). run true d s (q ++ x ∷ zs)) e
     ∙ (walks_run d (x ∷ zs) (go m (l ∷ rest) refl (first m hm) (behind_map (place_of d) label m l hl w))
-    ∙ fails_at d (states.Field (fields.Map label t)) x zs (fault_at reasons.Group x.span) (word_goes_on d (states.Field (fields.Map label t)) x (codes "group") h) (map_field_group (place_of d) label x a h))
+    ∙ fails_at d (states.Field (fields.Map label t)) x zs (fault_at reasons.Group x.span)
+    (word_goes_on d (states.Field (fields.Map label t)) x (codes "group") h)
+    (map_field_group (place_of d) label x a h))
 
 -- behind a label
 labelled_first : (p : Place) (label : FieldLabel) (m : Lexeme) → IsWord m (codes "map")
@@ -397,7 +412,9 @@ labelled_group : (d : Draft) (label : FieldLabel) (y x : Lexeme) (zs : List Lexe
     → IsWord x (codes "group") → run true d states.Begin (y ∷ x ∷ zs) ≡ failed (fault_at reasons.Group x.span)
 labelled_group d label y x zs g h =
     run_goes true d states.Begin (states.Field (fields.Type label names.Start)) y (x ∷ zs) g
-    ∙ fails_at d (states.Field (fields.Type label names.Start)) x zs (fault_at reasons.Group x.span) (word_goes_on d (states.Field (fields.Type label names.Start)) x (codes "group") h) (field_group (place_of d) label x h)
+    ∙ fails_at d (states.Field (fields.Type label names.Start)) x zs (fault_at reasons.Group x.span)
+    (word_goes_on d (states.Field (fields.Type label names.Start)) x (codes "group") h)
+    (field_group (place_of d) label x h)
 
 labelled_map_group : (d : Draft) (label : FieldLabel) (y : Lexeme) {ms : List Lexeme} (x : Lexeme) (zs : List Lexeme)
     → LabelGoes d y label → MapFrom ms → IsWord x (codes "group")
@@ -431,7 +448,9 @@ type_group : {d : Draft} {ys : List Lexeme} (x : Lexeme) (zs : List Lexeme) → 
 type_group x zs (Faults.of_rpc b) h = rpc_group x zs b h
 type_group {d = d} x zs (Faults.of_field i l) h = label_group d x zs i l h
 type_group {d = d} x zs (Faults.of_map {ls = ls} {ms = ms} i l b e) h =
-    ap (λ (q : List Lexeme). run true d states.Begin (q ++ x ∷ zs)) e ∙ (ap (λ (q : List Lexeme). run true d states.Begin q) (append_assoc ls ms (x ∷ zs)) ∙ label_map_group d x zs i l (part_from b) h)
+    ap (λ (q : List Lexeme). run true d states.Begin (q ++ x ∷ zs)) e
+    ∙ (ap (λ (q : List Lexeme). run true d states.Begin q) (append_assoc ls ms (x ∷ zs))
+    ∙ label_map_group d x zs i l (part_from b) h)
 type_group {d = d} x zs (Faults.of_member i filled b e) h =
     ap (λ (q : List Lexeme). run true d states.Begin (q ++ x ∷ zs)) e ∙ first_group d (places.Oneof filled) x zs (in_block d (a_oneof i filled) b) (oneof_group filled x h) h
 type_group {d = d} x zs (Faults.of_member_map i filled b m) h = map_fails d states.Begin labels.Plain x zs (part_from m) (oneof_map d i filled b) h
@@ -453,7 +472,8 @@ named_reports {ts = ts} {k = k} (Faults.import j x y d e s i g w f n p) o = by (
         (run_goes true d states.Begin (states.Import false) x (y ∷ rest) (ap (λ (p : Place). statement_step p states.Begin x) (in_file d i) ∙ import_word (is_some d.file.package) x w)
         ∙ fails_at d (states.Import false) y rest (fault_at reasons.Import y.span) (path_goes_on d y) (import_fails (place_of d) y n p))
 named_reports {ts = ts} {k = k} (Faults.stream xs ys zs x y d e l s b w t) o =
-    behind_says ts (ys ++ x ∷ y ∷ zs) k reasons.Stream x s (e ∙ append_assoc xs ys (x ∷ y ∷ zs)) (let m : length (xs ++ ys) ≡ length xs + length ys = length-append xs ys in omega arith)
+    behind_says ts (ys ++ x ∷ y ∷ zs) k reasons.Stream x s (e ∙ append_assoc xs ys (x ∷ y ∷ zs))
+    (let m : length (xs ++ ys) ≡ length xs + length ys = length-append xs ys in omega arith)
     (subst (λ (l : List Lexeme). slice_get l k ≡ Some x) (sym e) (subst (λ (n : ℕ). slice_get ((xs ++ ys) ++ x ∷ y ∷ zs) n ≡ Some x) l (get_behind (xs ++ ys) (y ∷ zs) x)))
     (rpc_stream x y zs b w t)
 named_reports {ts = ts} {k = k} (Faults.group xs ys zs x d e l s b w) o =

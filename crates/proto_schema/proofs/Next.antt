@@ -1,5 +1,6 @@
 -- The next token of a text, and what comes of the tokens behind it.
-use Rattle.std.proofs.Common.{subst, ◌≡◌, ℕ, suc, ◌+◌, ◌^◌, ◌≤◌, ◌<◌, Bool, true, false, List, [], ◌∷◌, ◌++◌, length, drop, length-append, refl, ap, sym, ◌∙◌, arith}
+use Rattle.std.proofs.Common.{subst, ◌≡◌, ℕ, suc, ◌+◌, ◌^◌, ◌≤◌, ◌<◌, Bool, true, false, List, [], ◌∷◌, ◌++◌, length}
+use Rattle.std.proofs.Common.{drop, length-append, refl, ap, sym, ◌∙◌, arith}
 use Rattle.std.specs.Prelude.{Ok, Result, ◌&&◌}
 use Rattle.proto_tokens.specs.Tokens.{literal_of, is_last, AreTokens, IsNext, IsHere, Stands, last, another, word, the_end, no_word, identifier, integer, number, string, mark}
 use Rattle.proto_tokens.specs.declared.token.Kind.{Kind}
@@ -8,7 +9,9 @@ use Rattle.proto_tokens.specs.declared.token.Token.{Token}
 use Rattle.proto_schema.specs.Lexemes.{Lexeme, lexeme, lexemes, meaning, says, equals}
 use Rattle.proto_schema.specs.Files.{Draft, nothing_said}
 use Rattle.proto_schema.specs.Reading.{Lies, Fails, is_mark, unexpected}
-use Rattle.proto_schema.specs.Running.{Begins, alone, with_others, Outcome, read, failed, Failed, run, behind, behind_step, is_over, statement_step, place_of, depth, behind_word, behind_equals, added, is_too_deep, is_begin, is_end, is_file}
+use Rattle.proto_schema.specs.Running.{Begins, alone, with_others, Outcome, read, failed, Failed, run, behind}
+use Rattle.proto_schema.specs.Running.{behind_step, is_over, statement_step, place_of, depth, behind_word}
+use Rattle.proto_schema.specs.Running.{behind_equals, added, is_too_deep, is_begin, is_end, is_file}
 use Rattle.proto_schema.specs.declared.fault.ProtoFault.{ProtoFault}
 use Rattle.proto_schema.specs.declared.fault.ProtoFault.TheVariants as fault
 use Rattle.proto_schema.proofs.Depths.{Within, statement_within}
@@ -117,7 +120,9 @@ goes_in d s x n = both_false (is_end x.means) (is_begin s && is_file (place_of d
 
 -- what comes of the tokens from the first place on comes of those from the other place on, behind what is read
 abbrev pub Goes : List ℕ → ℕ → ℕ → Draft → State → Type 0
-Goes text from place d s = (ts : List Token) → AreTokens text from ts → (us : List Token) × AreTokens text place us × (run true nothing_said states.Begin (lexemes text ts) ≡ run true d s (lexemes text us))
+Goes text from place d s = (ts : List Token) → AreTokens text from ts
+    → (us : List Token) × AreTokens text place us
+    × (run true nothing_said states.Begin (lexemes text ts) ≡ run true d s (lexemes text us))
 
 pub goes_on : (text : List ℕ) (from place : ℕ) (t : Token) (d e : Draft) (s u : State)
     → ((ts : List Token) → AreTokens text place ts → Begins text t ts) → is_last t.kind ≡ false

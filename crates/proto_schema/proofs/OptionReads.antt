@@ -1,11 +1,19 @@
 -- An option is read: each of its tokens goes on with what was read, and the token behind it ends it.
-use Rattle.std.proofs.Common.{subst, ◌≡◌, ◌≢◌, ◌⊎◌, inl, inr, ℕ, suc, ◌-◌, ◌==◌, nat_le, Bool, true, false, List, [], ◌∷◌, ◌++◌, codes, refl, ap, sym, ◌∙◌, arith, add-one}
+use Rattle.std.proofs.Common.{subst, ◌≡◌, ◌≢◌, ◌⊎◌, inl, inr, ℕ, suc, ◌-◌, ◌==◌, nat_le, Bool, true, false, List, []}
+use Rattle.std.proofs.Common.{◌∷◌, ◌++◌, codes, refl, ap, sym, ◌∙◌, arith, add-one}
 use Rattle.std.specs.Prelude.{Ok, Option, None, ◌&&◌}
 use Rattle.std.proofs.lemmas.Bool.{ne_eqb, lt-leb, and_right}
 use Rattle.std.proofs.lemmas.List.{append_assoc}
 use Rattle.proto_file.specs.Dot.{dot}
-use Rattle.proto_schema.specs.Lexemes.{Meaning, identifier, integer, number, string, mark, the_end, none, Lexeme, comma, semicolon, equals, minus, plus, opening_brace, closing_brace, opening_paren, closing_paren, opening_bracket, closing_bracket, IsWord, IsMark, says}
-use Rattle.proto_schema.specs.Grammar.{FullName, one, more, TypeName, relative, absolute, Closes, last_brace, closing, opening, other, Strings, one_string, strings, AnyNumber, an_integer, a_number, truth, Value, a_name, unsigned, signed, texts, block, OptionPart, plain_part, custom_part, OptionName, one_part, parts, is_packed, OptionOf, option, latest, OptionList, one_option, options, FieldOptions, no_options, bracketed}
+use Rattle.proto_schema.specs.Lexemes.{Meaning, identifier, integer, number, string, mark, the_end, none, Lexeme}
+use Rattle.proto_schema.specs.Lexemes.{comma, semicolon, equals, minus, plus, opening_brace, closing_brace}
+use Rattle.proto_schema.specs.Lexemes.{opening_paren, closing_paren, opening_bracket, closing_bracket, IsWord, IsMark}
+use Rattle.proto_schema.specs.Lexemes.{says}
+use Rattle.proto_schema.specs.Grammar.{FullName, one, more, TypeName, relative, absolute, Closes, last_brace, closing}
+use Rattle.proto_schema.specs.Grammar.{opening, other, Strings, one_string, strings, AnyNumber, an_integer, a_number}
+use Rattle.proto_schema.specs.Grammar.{truth, Value, a_name, unsigned, signed, texts, block, OptionPart, plain_part}
+use Rattle.proto_schema.specs.Grammar.{custom_part, OptionName, one_part, parts, is_packed, OptionOf, option, latest}
+use Rattle.proto_schema.specs.Grammar.{OptionList, one_option, options, FieldOptions, no_options, bracketed}
 use Rattle.proto_schema.specs.Reading.{is_mark, truth_of, brace_step, option_step, next_option, tail_step, of_option}
 use Rattle.proto_schema.proofs.NameLemmas.{Walks, stay, go, walks_on, walks_in, word_no_mark, is_name}
 use Rattle.proto_schema.proofs.OptionRest.{said_if, untrue, truth_none}
@@ -85,7 +93,8 @@ part_reads : (first : Bool) {ys : List Lexeme} → OptionPart ys
 part_reads first (plain_part x n h) = go x [] refl (plain_goes first x n h) (stay refl refl)
 part_reads first (custom_part x z {ys = ys} {all = all} p t c e) =
     subst (λ (l : List Lexeme). Walks OptionGoes (states.Name first) l (states.Part (first && is_packed l))) (sym e)
-    (subst (λ (b : Bool). Walks OptionGoes (states.Name first) (x ∷ ys ++ z ∷ []) (states.Part b)) (sym (and_right first (is_packed (x ∷ ys ++ z ∷ [])) (mark_packed x (ys ++ z ∷ []) opening_paren p)))
+    (subst (λ (b : Bool). Walks OptionGoes (states.Name first) (x ∷ ys ++ z ∷ []) (states.Part b))
+    (sym (and_right first (is_packed (x ∷ ys ++ z ∷ [])) (mark_packed x (ys ++ z ∷ []) opening_paren p)))
     (go x (ys ++ z ∷ []) refl (opens first x p) (walks_on OptionGoes (type_open t) (go z [] refl (closes z c) (stay refl refl)))))
 
 -- a name of several parts isn't `packed`
@@ -223,19 +232,47 @@ said_name true x n h = rw h refl
 said_name false x n h = refl
 
 value_reads : (packed : Bool) {zs : List Lexeme} → Value zs → OptionReads (states.Equals packed) zs (said_if packed zs)
-value_reads packed (a_name (one x n h)) =
-    (states.Value (truth_of packed (identifier n)), go x [] refl (value_goes packed x n h) (stay refl refl), subst (λ (b : Option Bool). Ready (states.Value (truth_of packed (identifier n))) b) (said_name packed x n h) (ready_value (truth_of packed (identifier n))))
-value_reads packed (a_name (more x y n zs w h d f)) =
-    (states.Value None, go x (y ∷ zs) refl (value_goes packed x n h) (go y zs refl (value_dot (truth_of packed (identifier n)) y d) (full_value f)), subst (λ (b : Option Bool). Ready (states.Value None) b) (sym (untrue packed (x ∷ y ∷ zs) refl)) (ready_value None))
-value_reads packed (unsigned x n) = (states.End, go x [] refl (number_goes packed x n) (stay refl refl), subst (λ (b : Option Bool). Ready states.End b) (sym (untrue packed (x ∷ []) (number_untrue x n))) ready_end)
-value_reads packed (signed x y h n) =
-    (states.End, go x (y ∷ []) refl (sign_goes packed x h) (go y [] refl (signed_goes y n) (stay refl refl)), subst (λ (b : Option Bool). Ready states.End b) (sym (untrue packed (x ∷ y ∷ []) refl)) ready_end)
-value_reads packed (texts (one_string x v h)) =
-    (states.Text, go x [] refl (text_goes packed x v h) (stay refl refl), subst (λ (b : Option Bool). Ready states.Text b) (sym (untrue packed (x ∷ []) (truth_none x [] (rw h refl) (rw h refl)))) ready_text)
-value_reads packed (texts (strings x v {ys = ys} h s)) =
-    (states.Text, go x ys refl (text_goes packed x v h) (strings_more s), subst (λ (b : Option Bool). Ready states.Text b) (sym (untrue packed (x ∷ ys) (truth_none x ys (rw h refl) (rw h refl)))) ready_text)
-value_reads packed (block x {ys = ys} h c) =
-    (states.End, go x ys refl (block_goes packed x h) (closes_reads c), subst (λ (b : Option Bool). Ready states.End b) (sym (untrue packed (x ∷ ys) (truth_none x ys (rw h refl) (rw h refl)))) ready_end)
+value_reads packed (a_name (one x n h)) = (
+  states.Value (truth_of packed (identifier n)),
+  go x [] refl (value_goes packed x n h) (stay refl refl),
+  subst (λ (b : Option Bool). Ready (states.Value (truth_of packed (identifier n))) b) (said_name packed x n h)
+      (ready_value (truth_of packed (identifier n))),
+)
+value_reads packed (a_name (more x y n zs w h d f)) = (
+  states.Value None,
+  go x (y ∷ zs) refl (value_goes packed x n h) (go y zs refl (value_dot (truth_of packed (identifier n)) y d)
+      (full_value f)),
+  subst (λ (b : Option Bool). Ready (states.Value None) b)
+      (sym (untrue packed (x ∷ y ∷ zs) refl)) (ready_value None),
+)
+value_reads packed (unsigned x n) = (
+  states.End,
+  go x [] refl (number_goes packed x n) (stay refl refl),
+  subst (λ (b : Option Bool). Ready states.End b) (sym (untrue packed (x ∷ []) (number_untrue x n))) ready_end,
+)
+value_reads packed (signed x y h n) = (
+  states.End,
+  go x (y ∷ []) refl (sign_goes packed x h) (go y [] refl (signed_goes y n) (stay refl refl)),
+  subst (λ (b : Option Bool). Ready states.End b) (sym (untrue packed (x ∷ y ∷ []) refl)) ready_end,
+)
+value_reads packed (texts (one_string x v h)) = (
+  states.Text,
+  go x [] refl (text_goes packed x v h) (stay refl refl),
+  subst (λ (b : Option Bool). Ready states.Text b)
+      (sym (untrue packed (x ∷ []) (truth_none x [] (rw h refl) (rw h refl)))) ready_text,
+)
+value_reads packed (texts (strings x v {ys = ys} h s)) = (
+  states.Text,
+  go x ys refl (text_goes packed x v h) (strings_more s),
+  subst (λ (b : Option Bool). Ready states.Text b)
+      (sym (untrue packed (x ∷ ys) (truth_none x ys (rw h refl) (rw h refl)))) ready_text,
+)
+value_reads packed (block x {ys = ys} h c) = (
+  states.End,
+  go x ys refl (block_goes packed x h) (closes_reads c),
+  subst (λ (b : Option Bool). Ready states.End b)
+      (sym (untrue packed (x ∷ ys) (truth_none x ys (rw h refl) (rw h refl)))) ready_end,
+)
 
 pub option_reads : {all : List Lexeme} {b : Option Bool} → OptionOf all b → OptionReads next_option all b
 option_reads (option x {ys = ys} {zs = zs} {all = all} {says_packed = b} n q v e s) =
@@ -279,7 +316,8 @@ list_reads p {all = all} {b = b} z (one_option o) h =
 list_reads p z (options x {ys = ys} {zs = zs} {b = b} {d = d} o c l e) h =
     let r : OptionReads next_option ys b = option_reads o in
     let w : Walks TailGoes (tails.Options p next_option) (ys ++ x ∷ (zs ++ z ∷ [])) (tails.Closed (latest (latest p b) d)) =
-    walks_on TailGoes (walks_in OptionGoes TailGoes (λ s. tails.Options p s) (in_options p) r.1) (go x (zs ++ z ∷ []) refl (options_comma p b r.0 x c r.2) (list_reads (latest p b) z l h)) in
+    walks_on TailGoes (walks_in OptionGoes TailGoes (λ s. tails.Options p s) (in_options p) r.1)
+    (go x (zs ++ z ∷ []) refl (options_comma p b r.0 x c r.2) (list_reads (latest p b) z l h)) in
     let f : ys ++ x ∷ (zs ++ z ∷ []) ≡ (ys ++ x ∷ zs) ++ z ∷ [] = sym (append_assoc ys (x ∷ zs) (z ∷ [])) in
     subst (λ (l : List Lexeme). Walks TailGoes (tails.Options p next_option) l (tails.Closed (latest p (latest b d)))) (f ∙ ap (λ (l : List Lexeme). l ++ z ∷ []) (sym e))
     (subst (λ (q : Option Bool). Walks TailGoes (tails.Options p next_option) (ys ++ x ∷ (zs ++ z ∷ [])) (tails.Closed q)) (latest_assoc p b d) w)
@@ -299,6 +337,9 @@ pub tail_reads : {os : List Lexeme} {b : Option Bool} (z : Lexeme) → FieldOpti
 tail_reads z no_options h = (tails.Start, stay refl refl, start_done z h)
 tail_reads z (bracketed x y {ys = ys} {all = all} {b = b} o l c e) h = (
   tails.Closed b,
-  subst (λ (q : List Lexeme). Walks TailGoes tails.Start q (tails.Closed b)) (sym e) (go x (ys ++ y ∷ []) refl (options_open x o) (subst (λ (d : Option Bool). Walks TailGoes (tails.Options None next_option) (ys ++ y ∷ []) (tails.Closed d)) (latest_none b) (list_reads None y l c))),
+  subst (λ (q : List Lexeme). Walks TailGoes tails.Start q (tails.Closed b)) (sym e)
+      (go x (ys ++ y ∷ []) refl (options_open x o)
+      (subst (λ (d : Option Bool). Walks TailGoes (tails.Options None next_option) (ys ++ y ∷ []) (tails.Closed d))
+      (latest_none b) (list_reads None y l c))),
   closed_done b z h,
 )

@@ -1,11 +1,17 @@
 -- What completes an option, by how far it is read: what is read is an option.
-use Rattle.std.proofs.Common.{subst, ◌≡◌, ◌≢◌, ◌⊎◌, inl, inr, ℕ, suc, ◌+◌, ◌-◌, ◌<◌, ◌≤◌, ◌==◌, nat_le, Bool, true, false, List, [], ◌∷◌, ◌++◌, codes, refl, ap, sym, ◌∙◌, arith, add-one}
+use Rattle.std.proofs.Common.{subst, ◌≡◌, ◌≢◌, ◌⊎◌, inl, inr, ℕ, suc, ◌+◌, ◌-◌, ◌<◌, ◌≤◌, ◌==◌, nat_le, Bool, true}
+use Rattle.std.proofs.Common.{false, List, [], ◌∷◌, ◌++◌, codes, refl, ap, sym, ◌∙◌, arith, add-one}
 use Rattle.std.specs.Prelude.{Ok, Err, Result, Option, None, if◌then◌else◌, ◌&&◌, ◌||◌}
 use Rattle.std.proofs.lemmas.Bool.{eqb-true, eqb-false, leb-true, leb-false}
 use Rattle.std.proofs.lemmas.List.{append_assoc}
 use Rattle.proto_file.specs.Dot.{dot}
-use Rattle.proto_schema.specs.Lexemes.{Meaning, identifier, integer, number, string, mark, the_end, none, Lexeme, equals, minus, plus, opening_brace, closing_brace, opening_paren, closing_paren, IsWord, IsMark, says}
-use Rattle.proto_schema.specs.Grammar.{FullName, one, more, TypeName, relative, absolute, Closes, last_brace, closing, opening, other, Strings, one_string, strings, AnyNumber, an_integer, a_number, truth, Value, a_name, unsigned, signed, texts, block, plain_part, custom_part, OptionName, one_part, parts, is_packed}
+use Rattle.proto_schema.specs.Lexemes.{Meaning, identifier, integer, number, string, mark, the_end, none, Lexeme}
+use Rattle.proto_schema.specs.Lexemes.{equals, minus, plus, opening_brace, closing_brace, opening_paren}
+use Rattle.proto_schema.specs.Lexemes.{closing_paren, IsWord, IsMark, says}
+use Rattle.proto_schema.specs.Grammar.{FullName, one, more, TypeName, relative, absolute, Closes, last_brace, closing}
+use Rattle.proto_schema.specs.Grammar.{opening, other, Strings, one_string, strings, AnyNumber, an_integer, a_number}
+use Rattle.proto_schema.specs.Grammar.{truth, Value, a_name, unsigned, signed, texts, block, plain_part, custom_part}
+use Rattle.proto_schema.specs.Grammar.{OptionName, one_part, parts, is_packed}
 use Rattle.proto_schema.specs.Reading.{wrong, is_mark, is_string, is_number, if_name, more_option, truth_of, value_start, brace_step, option_step}
 use Rattle.proto_schema.proofs.Choices.{either_is, named_is, string_meant, number_meant}
 use Rattle.proto_schema.proofs.NameLemmas.{mark_is}
@@ -108,7 +114,10 @@ custom_start first x h ys b (custom z {ys = ts} {rest = rest} {w = w} t c a e) =
         (no_truth first (is_packed (x ∷ ts ++ z ∷ [])) zs (packed_mark x (ts ++ z ∷ []) opening_paren h) ∙ s)
     by rest b (parts_behind d y {ys = us} {zs = zs} k n q v l s) e =
         from_name y (parts d (custom_part x z h t c refl) k n refl) q v
-        (ap (λ (l : List Lexeme). x ∷ l) (e ∙ (ap (λ (r : List Lexeme). ts ++ z ∷ r) l ∙ (sym (append_assoc ts (z ∷ []) ((d ∷ us) ++ y ∷ zs)) ∙ sym (append_assoc (ts ++ z ∷ []) (d ∷ us) (y ∷ zs))))))
+        (ap (λ (l : List Lexeme). x ∷ l)
+        (e ∙ (ap (λ (r : List Lexeme). ts ++ z ∷ r) l
+        ∙ (sym (append_assoc ts (z ∷ []) ((d ∷ us) ++ y ∷ zs))
+        ∙ sym (append_assoc (ts ++ z ∷ []) (d ∷ us) (y ∷ zs))))))
         (no_truth first (is_packed ((x ∷ ts ++ z ∷ []) ++ d ∷ us)) zs (packed_mark x ((ts ++ z ∷ []) ++ d ∷ us) opening_paren h) ∙ s)
 
 plain_start : (first : Bool) (x : Lexeme) (n : List ℕ) → IsWord x n → (ys : List Lexeme) (b : Option Bool)
@@ -186,7 +195,8 @@ value_back packed x (string v) e = text_value packed x v e
 value_back packed x (mark c) e =
     either_is (OptionBack (states.Equals packed) x) (c == plus || c == minus) (more_option states.Sign) (if c == opening_brace then more_option (states.Braces 1) else wrong x)
     (λ h. sign_value packed x (sign_of x c e h))
-    (λ h. either_is (OptionBack (states.Equals packed) x) (c == opening_brace) (more_option (states.Braces 1)) (wrong x) (λ k. block_value packed x (e ∙ ap mark (eqb-true c opening_brace k))) (λ k. tt))
+    (λ h. either_is (OptionBack (states.Equals packed) x) (c == opening_brace) (more_option (states.Braces 1))
+    (wrong x) (λ k. block_value packed x (e ∙ ap mark (eqb-true c opening_brace k))) (λ k. tt))
 value_back packed x the_end e = tt
 value_back packed x none e = tt
 
@@ -219,19 +229,29 @@ other_mark : (x : Lexeme) (c d : ℕ) → x.means ≡ mark c → (c == d) ≡ fa
 other_mark x c d e h q = eqb-false c d h (let t : mark c ≡ mark d = sym e ∙ q in cc)
 
 brace_back : (d : ℕ) (x : Lexeme) (m : Meaning) → x.means ≡ m → OptionBack (states.Braces d) x (brace_step d x m)
-brace_back d x (identifier n) e = keeps_open d x (λ q. let t : identifier n ≡ mark closing_brace = sym e ∙ q in cc) (λ q. let t : identifier n ≡ mark opening_brace = sym e ∙ q in cc) (λ q. let t : identifier n ≡ the_end = sym e ∙ q in cc) (λ q. let t : identifier n ≡ none = sym e ∙ q in cc)
-brace_back d x (integer n) e = keeps_open d x (λ q. let t : integer n ≡ mark closing_brace = sym e ∙ q in cc) (λ q. let t : integer n ≡ mark opening_brace = sym e ∙ q in cc) (λ q. let t : integer n ≡ the_end = sym e ∙ q in cc) (λ q. let t : integer n ≡ none = sym e ∙ q in cc)
-brace_back d x number e = keeps_open d x (λ q. let t : number ≡ mark closing_brace = sym e ∙ q in cc) (λ q. let t : number ≡ mark opening_brace = sym e ∙ q in cc) (λ q. let t : number ≡ the_end = sym e ∙ q in cc) (λ q. let t : number ≡ none = sym e ∙ q in cc)
-brace_back d x (string n) e = keeps_open d x (λ q. let t : string n ≡ mark closing_brace = sym e ∙ q in cc) (λ q. let t : string n ≡ mark opening_brace = sym e ∙ q in cc) (λ q. let t : string n ≡ the_end = sym e ∙ q in cc) (λ q. let t : string n ≡ none = sym e ∙ q in cc)
+brace_back d x (identifier n) e = keeps_open d x (λ q. let t : identifier n ≡ mark closing_brace = sym e ∙ q in
+    cc) (λ q. let t : identifier n ≡ mark opening_brace = sym e ∙ q in cc) (λ q. let t : identifier n ≡ the_end =
+    sym e ∙ q in cc) (λ q. let t : identifier n ≡ none = sym e ∙ q in cc)
+brace_back d x (integer n) e = keeps_open d x (λ q. let t : integer n ≡ mark closing_brace = sym e ∙ q in
+    cc) (λ q. let t : integer n ≡ mark opening_brace = sym e ∙ q in cc) (λ q. let t : integer n ≡ the_end =
+    sym e ∙ q in cc) (λ q. let t : integer n ≡ none = sym e ∙ q in cc)
+brace_back d x number e = keeps_open d x (λ q. let t : number ≡ mark closing_brace = sym e ∙ q in
+    cc) (λ q. let t : number ≡ mark opening_brace = sym e ∙ q in cc) (λ q. let t : number ≡ the_end = sym e ∙ q in
+    cc) (λ q. let t : number ≡ none = sym e ∙ q in cc)
+brace_back d x (string n) e = keeps_open d x (λ q. let t : string n ≡ mark closing_brace = sym e ∙ q in
+    cc) (λ q. let t : string n ≡ mark opening_brace = sym e ∙ q in cc) (λ q. let t : string n ≡ the_end = sym e ∙ q in
+    cc) (λ q. let t : string n ≡ none = sym e ∙ q in cc)
 brace_back d x (mark c) e =
     either_is (OptionBack (states.Braces d) x) (c == opening_brace) (more_option (states.Braces (d + 1)))
     (if c == closing_brace then if nat_le d 1 then more_option states.End else more_option (states.Braces (d - 1)) else more_option (states.Braces d))
     (λ h. opens_one d x (e ∙ ap mark (eqb-true c opening_brace h)))
-    (λ h. either_is (OptionBack (states.Braces d) x) (c == closing_brace) (if nat_le d 1 then more_option states.End else more_option (states.Braces (d - 1))) (more_option (states.Braces d))
+    (λ h. either_is (OptionBack (states.Braces d) x) (c == closing_brace) (if nat_le d 1 then more_option states.End
+    else more_option (states.Braces (d - 1))) (more_option (states.Braces d))
     (λ k. either_is (OptionBack (states.Braces d) x) (nat_le d 1) (more_option states.End) (more_option (states.Braces (d - 1)))
     (λ l. closes_last d x (e ∙ ap mark (eqb-true c closing_brace k)) (leb-true d 1 l))
     (λ l. closes_one d x (e ∙ ap mark (eqb-true c closing_brace k)) (leb-false d 1 l)))
-    (λ k. keeps_open d x (other_mark x c closing_brace e k) (other_mark x c opening_brace e h) (λ q. let t : mark c ≡ the_end = sym e ∙ q in cc) (λ q. let t : mark c ≡ none = sym e ∙ q in cc)))
+    (λ k. keeps_open d x (other_mark x c closing_brace e k) (other_mark x c opening_brace e h)
+    (λ q. let t : mark c ≡ the_end = sym e ∙ q in cc) (λ q. let t : mark c ≡ none = sym e ∙ q in cc)))
 brace_back d x the_end e = tt
 brace_back d x none e = tt
 
@@ -240,7 +260,8 @@ brace_back d x none e = tt
 pub option_back : (s : OptionState) (x : Lexeme) → OptionBack s x (option_step s x)
 unfolding option_step
 option_back (states.Name first) x =
-    either_is (OptionBack (states.Name first) x) (is_mark x.means opening_paren) (more_option states.Open) (if_name x (λ n. steps.More (states.Part (first && says x.means (codes "packed")))))
+    either_is (OptionBack (states.Name first) x) (is_mark x.means opening_paren) (more_option states.Open)
+    (if_name x (λ n. steps.More (states.Part (first && says x.means (codes "packed")))))
     (λ h. custom_start first x (mark_is x.means opening_paren h))
     (λ h. named_is (OptionBack (states.Name first) x) x (λ n. steps.More (states.Part (first && says x.means (codes "packed")))) (λ n k. plain_start first x n k) tt)
 option_back states.Open x =
@@ -250,18 +271,21 @@ option_back states.OpenName x = named_is (OptionBack states.OpenName x) x (λ n.
 option_back states.Inner x =
     either_is (OptionBack states.Inner x) (is_mark x.means dot) (more_option states.OpenName) (if is_mark x.means closing_paren then more_option (states.Part false) else wrong x)
     (λ h. λ ys b r. inner_goes_on x (mark_is x.means dot h) r)
-    (λ h. either_is (OptionBack states.Inner x) (is_mark x.means closing_paren) (more_option (states.Part false)) (wrong x) (λ k. λ ys b r. inner_ends x (mark_is x.means closing_paren k) r) (λ k. tt))
+    (λ h. either_is (OptionBack states.Inner x) (is_mark x.means closing_paren) (more_option (states.Part false))
+    (wrong x) (λ k. λ ys b r. inner_ends x (mark_is x.means closing_paren k) r) (λ k. tt))
 option_back (states.Part packed) x =
     either_is (OptionBack (states.Part packed) x) (is_mark x.means dot) (more_option (states.Name false)) (if is_mark x.means equals then more_option (states.Equals packed) else wrong x)
     (λ h. dot_part packed x (mark_is x.means dot h))
-    (λ h. either_is (OptionBack (states.Part packed) x) (is_mark x.means equals) (more_option (states.Equals packed)) (wrong x) (λ k. λ ys b r. equals_behind x (mark_is x.means equals k) r.0 r.1) (λ k. tt))
+    (λ h. either_is (OptionBack (states.Part packed) x) (is_mark x.means equals) (more_option (states.Equals packed))
+    (wrong x) (λ k. λ ys b r. equals_behind x (mark_is x.means equals k) r.0 r.1) (λ k. tt))
 option_back (states.Equals packed) x = value_back packed x x.means refl
 option_back states.Sign x = either_is (OptionBack states.Sign x) (is_number x.means) (more_option states.End) (wrong x) (λ h. by (number_meant x h)) (λ h. tt)
   where
     by : AnyNumber x → (ys : List Lexeme) (b : Option Bool) → Over ys b → SignRest (x ∷ ys) b
     by n ys b over = sign_rest x n
 option_back (states.Value says_packed) x =
-    either_is (OptionBack (states.Value says_packed) x) (is_mark x.means dot) (more_option states.ValueDot) (Ok (steps.Whole says_packed)) (λ h. by (mark_is x.means dot h)) (λ h. name_ends)
+    either_is (OptionBack (states.Value says_packed) x) (is_mark x.means dot) (more_option states.ValueDot)
+    (Ok (steps.Whole says_packed)) (λ h. by (mark_is x.means dot h)) (λ h. name_ends)
   where
     by : IsMark x dot → (ys : List Lexeme) (b : Option Bool) → (w : Word) × FullName ys w × (None ≡ b)
         → NameGoes says_packed (x ∷ ys) b

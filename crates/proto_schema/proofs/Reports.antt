@@ -1,5 +1,6 @@
 -- What a fault of the reading says of the tokens, in the words of the grammar.
-use Rattle.std.proofs.Common.{subst, ◌≡◌, ◌⊎◌, inl, inr, ℕ, ◌+◌, ◌<◌, ◌≤◌, length, length-append, take, Bool, true, false, List, [], ◌∷◌, ◌++◌, codes, refl, ap, sym, ◌∙◌, arith}
+use Rattle.std.proofs.Common.{subst, ◌≡◌, ◌⊎◌, inl, inr, ℕ, ◌+◌, ◌<◌, ◌≤◌, length, length-append, take, Bool, true}
+use Rattle.std.proofs.Common.{false, List, [], ◌∷◌, ◌++◌, codes, refl, ap, sym, ◌∙◌, arith}
 use Rattle.std.specs.Prelude.{Ok, Err, Result, Some, if◌then◌else◌, slice_get}
 use Rattle.std.specs.Str.{bytes_eq}
 use Rattle.std.proofs.lemmas.Bool.{leb-true, leb-false}
@@ -11,7 +12,8 @@ use Rattle.proto_schema.specs.declared.limits.TheConstants.{MAX_OPEN}
 use Rattle.proto_schema.specs.Faults
 use Rattle.proto_schema.specs.Faults.{is_no_token, CanGoOn, BreaksAt, IsNamed}
 use Rattle.proto_schema.specs.Reading.{fault_at, unexpected, is_mark}
-use Rattle.proto_schema.specs.Running.{place_of, added, statement_step, cut_off, read, failed, is_over, is_too_deep, behind, run, reading, behind_word, behind_equals, behind_value, behind_syntax}
+use Rattle.proto_schema.specs.Running.{place_of, added, statement_step, cut_off, read, failed, is_over, is_too_deep}
+use Rattle.proto_schema.specs.Running.{behind, run, reading, behind_word, behind_equals, behind_value, behind_syntax}
 use Rattle.proto_schema.proofs.Choices.{word_is, same_bytes, bytes_same}
 use Rattle.proto_schema.proofs.NameLemmas.{mark_is}
 use Rattle.proto_schema.proofs.Next.{run_step, run_over}
@@ -21,7 +23,8 @@ use Rattle.proto_schema.proofs.RunRest.{begin_or, not_deep}
 use Rattle.proto_schema.proofs.RunReads.{syntax_read}
 use Rattle.proto_schema.proofs.Shallow.{get_behind, take_behind, added_less, opens_named}
 use Rattle.proto_schema.proofs.Breaks.{at_fault, cut_goes_on}
-use Rattle.proto_schema.proofs.SoFar.{Fault, unlike, extends, imports, groups, streams, SoFar, StepOn, later_on, begin_on}
+use Rattle.proto_schema.proofs.SoFarWords.{Fault, unlike, extends, imports, groups, streams}
+use Rattle.proto_schema.proofs.SoFar.{SoFar, StepOn, later_on, begin_on}
 use Rattle.proto_schema.specs.declared.fault.ProtoReason.{ProtoReason}
 use Rattle.proto_schema.specs.declared.fault.ProtoReason.TheVariants as reasons
 use Rattle.proto_schema.specs.declared.fault.ProtoFault.{ProtoFault}
@@ -159,7 +162,8 @@ fault_told us front ys xs d s x a k c f (extends n b w) =
 fault_told us front ys xs d s x a k c f (imports i n b w m p) =
     let q : us ≡ front ++ i ∷ [] = a ∙ ap (λ (l : List Lexeme). front ++ l) n in
     let r : (front ++ i ∷ []) ++ x ∷ xs ≡ front ++ i ∷ x ∷ xs = append_assoc front (i ∷ []) (x ∷ xs) in
-    let g : slice_get ((front ++ i ∷ []) ++ x ∷ xs) (length front) ≡ Some i = subst (λ (l : List Lexeme). slice_get l (length front) ≡ Some i) (sym r) (get_behind front (x ∷ xs) i) in
+    let g : slice_get ((front ++ i ∷ []) ++ x ∷ xs) (length front) ≡ Some i =
+    subst (λ (l : List Lexeme). slice_get l (length front) ≡ Some i) (sym r) (get_behind front (x ∷ xs) i) in
     let t : take (length front) ((front ++ i ∷ []) ++ x ∷ xs) ≡ front = ap (take (length front)) r ∙ take_front front (i ∷ x ∷ xs) in
     told_at (ap (λ (l : List Lexeme). l ++ x ∷ xs) (sym q))
     (told (length (front ++ i ∷ [])) x reasons.Import (get_behind (front ++ i ∷ []) xs x) refl
@@ -169,7 +173,9 @@ fault_told us front ys xs d s x a k c f (groups b w) =
     (told (length (front ++ ys)) x reasons.Group (get_behind (front ++ ys) xs x) refl (has_name (Faults.group front ys xs x d refl refl k b w)))
 fault_told us front ys xs d s x a k c f (streams zs z n b w t) =
     let q : us ++ x ∷ xs ≡ (front ++ zs) ++ z ∷ x ∷ xs =
-    ap (λ (l : List Lexeme). l ++ x ∷ xs) (a ∙ (ap (λ (l : List Lexeme). front ++ l) n ∙ sym (append_assoc front zs (z ∷ [])))) ∙ append_assoc (front ++ zs) (z ∷ []) (x ∷ xs) in
+    ap (λ (l : List Lexeme). l ++ x ∷ xs)
+    (a ∙ (ap (λ (l : List Lexeme). front ++ l) n ∙ sym (append_assoc front zs (z ∷ []))))
+    ∙ append_assoc (front ++ zs) (z ∷ []) (x ∷ xs) in
     told_at (sym q)
     (told (length (front ++ zs)) z reasons.Stream (get_behind (front ++ zs) (x ∷ xs) z) refl (has_name (Faults.stream front zs xs z x d refl refl k b w t)))
 
@@ -199,7 +205,9 @@ step_told us front ys xs d s x e a k l g o tells (Ok (steps.More t)) h n f =
     complete zs v w = subst (λ (l : List Lexeme). Statement d l (added d v)) (sym (append_assoc ys (x ∷ []) zs)) (n.1 zs v w)
 
     goes : (zs : List Lexeme) → reading false ((us ++ x ∷ []) ++ zs) ≡ run false d t zs
-    goes zs = ap (reading false) (append_assoc us (x ∷ []) zs) ∙ (g (x ∷ zs) ∙ (run_step false d s x zs o ∙ ap (λ (r : Result Step ProtoFault). behind (λ c t. run false c t zs) false d x r) h))
+    goes zs = ap (reading false) (append_assoc us (x ∷ []) zs)
+        ∙ (g (x ∷ zs) ∙ (run_step false d s x zs o
+        ∙ ap (λ (r : Result Step ProtoFault). behind (λ c t. run false c t zs) false d x r) h))
 step_told us front ys xs d s x e a k l g o tells (Ok (steps.Done v)) h n f = by (is_too_deep true d v) refl f
   where
     said_here : Says (us ++ x ∷ []) (added d v)
@@ -270,7 +278,9 @@ reading_told (w ∷ xs) e h = by (says w.means (codes "syntax")) refl h
         → (if b then run true nothing_said states.Begin zs else failed (unexpected z)) ≡ failed e
         → Told (w ∷ x ∷ y ∷ z ∷ zs) e
     semicolon_here x y z zs s a v p q true m h =
-        let k : Files.Syntax (w ∷ x ∷ y ∷ z ∷ []) = Files.proto3 w x y z (word_is w.means (codes "syntax") s) (mark_is x.means equals a) (p ∙ ap string (same_bytes v (codes "proto3") q)) (mark_is z.means semicolon m) in
+        let k : Files.Syntax (w ∷ x ∷ y ∷ z ∷ []) = Files.proto3 w x y z (word_is w.means (codes "syntax") s)
+        (mark_is x.means equals a) (p ∙ ap string (same_bytes v (codes "proto3") q)) (mark_is z.means semicolon m)
+        in
         run_told zs e (w ∷ x ∷ y ∷ z ∷ []) nothing_said states.Begin
         (progress (w ∷ x ∷ y ∷ z ∷ []) [] refl (Files.start k) refl (λ zs v k. absurd k) (omega arith) (λ zs. syntax_read false zs k)) h
     semicolon_here x y z zs s a v p q false m h = first_unlike (w ∷ x ∷ y ∷ []) zs z e (rw s (rw a (rw p (rw q refl)))) (rw s (rw a (rw p (rw q (rw m refl))))) h

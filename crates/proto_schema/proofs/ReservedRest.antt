@@ -5,7 +5,9 @@ use Rattle.std.proofs.lemmas.List.{append_assoc, append-nil}
 use Rattle.mrpc_table.specs.declared.words.Decimal.{Decimal}
 use Rattle.proto_schema.specs.Lexemes.{integer, string, Lexeme, comma, semicolon, minus, span_to, word_at, number_at, IsWord, IsMark, says}
 use Rattle.proto_schema.specs.Grammar.{NumberOf, whole, negative, RangeOf, single, between, up_from, RangesOf, one_range, ranges as more_ranges, NamesOf, one_name, names as more_names}
-use Rattle.proto_schema.specs.Reading.{wrong, is_mark, is_string, if_number, range_step, a_range, whole_range, more_reserved, of_range, behind_range, ranges_step, reserved_name, reserved_part_step}
+use Rattle.proto_schema.specs.Reading.{wrong, is_mark, is_string, if_number, range_step, a_range, whole_range}
+use Rattle.proto_schema.specs.Reading.{more_reserved, of_range, behind_range, ranges_step, reserved_name}
+use Rattle.proto_schema.specs.Reading.{reserved_part_step}
 use Rattle.proto_schema.proofs.Choices.{either_is, numbered_is, string_is, word_is, and_both}
 use Rattle.proto_schema.proofs.NameLemmas.{mark_is}
 use Rattle.proto_file.specs.declared.file.Span.{Span}
@@ -60,7 +62,9 @@ RangeBack signed s x (Err e) = Unit {0}
 from_first : (signed : Bool) (ns : List Lexeme) (n : Number) (rest : List Lexeme) (r : Range) → NumberOf signed ns n
     → FirstRest signed n rest r → RangeOf signed (ns ++ rest) r
 from_first signed ns n rest r h (first_ends e q) =
-    subst (λ (r : Range). RangeOf signed (ns ++ rest) r) q (subst (λ (l : List Lexeme). RangeOf signed l (a_range n (Some n))) (sym (append-nil ns) ∙ ap (λ (l : List Lexeme). ns ++ l) (sym e)) (single h))
+    subst (λ (r : Range). RangeOf signed (ns ++ rest) r) q
+    (subst (λ (l : List Lexeme). RangeOf signed l (a_range n (Some n)))
+    (sym (append-nil ns) ∙ ap (λ (l : List Lexeme). ns ++ l) (sym e)) (single h))
 from_first signed ns n rest r h (first_goes_on x w (to_number k q) e) =
     subst (λ (r : Range). RangeOf signed (ns ++ rest) r) q (between x h w k (ap (λ (l : List Lexeme). ns ++ l) e))
 from_first signed ns n rest r h (first_goes_on x w (to_max y m a q) e) =
@@ -95,16 +99,20 @@ unfolding range_step
 range_back signed ranges.Start x =
     either_is (RangeBack signed ranges.Start x) (signed && is_mark x.means minus) (Ok (ranges.Minus x.span)) (if_number x (λ v. ranges.First (number_at false v x.span)))
     (λ h. let b : (signed ≡ true) × (is_mark x.means minus ≡ true) = and_both signed (is_mark x.means minus) h in minus_first signed x b.0 (mark_is x.means minus b.1))
-    (λ h. numbered_is (RangeBack signed ranges.Start x) x (λ v. ranges.First (number_at false v x.span)) (λ v e. λ ys r k. from_first signed (x ∷ []) (number_at false v x.span) ys r (whole x v e) k) tt)
+    (λ h. numbered_is (RangeBack signed ranges.Start x) x (λ v. ranges.First (number_at false v x.span))
+    (λ v e. λ ys r k. from_first signed (x ∷ []) (number_at false v x.span) ys r (whole x v e) k) tt)
 range_back signed (ranges.Minus s) x =
     numbered_is (RangeBack signed (ranges.Minus s) x) x (λ v. ranges.First (number_at true v (span_to s x.span))) (λ v e. λ ys r k. minus_rest x v e k refl) tt
 range_back signed (ranges.First n) x =
-    either_is (RangeBack signed (ranges.First n) x) (says x.means (codes "to")) (Ok (ranges.To n)) (wrong x) (λ h. λ ys r k. first_goes_on x (word_is x.means (codes "to") h) k refl) (λ h. tt)
+    either_is (RangeBack signed (ranges.First n) x) (says x.means (codes "to")) (Ok (ranges.To n)) (wrong x)
+    (λ h. λ ys r k. first_goes_on x (word_is x.means (codes "to") h) k refl) (λ h. tt)
 range_back signed (ranges.To n) x =
     either_is (RangeBack signed (ranges.To n) x) (signed && is_mark x.means minus) (Ok (ranges.ToMinus n x.span))
     (if says x.means (codes "max") then Ok (ranges.Whole (a_range n None)) else if_number x (λ v. ranges.Whole (a_range n (Some (number_at false v x.span)))))
     (λ h. let b : (signed ≡ true) × (is_mark x.means minus ≡ true) = and_both signed (is_mark x.means minus) h in minus_to signed n x b.0 (mark_is x.means minus b.1))
-    (λ h. either_is (RangeBack signed (ranges.To n) x) (says x.means (codes "max")) (Ok (ranges.Whole (a_range n None))) (if_number x (λ v. ranges.Whole (a_range n (Some (number_at false v x.span)))))
+    (λ h. either_is (RangeBack signed (ranges.To n) x) (says x.means (codes "max"))
+    (Ok (ranges.Whole (a_range n None)))
+    (if_number x (λ v. ranges.Whole (a_range n (Some (number_at false v x.span)))))
     (λ k. max_to signed n x (word_is x.means (codes "max") k))
     (λ k. numbered_is (RangeBack signed (ranges.To n) x) x (λ v. ranges.Whole (a_range n (Some (number_at false v x.span)))) (λ v e. whole_to signed n x v e) tt))
 range_back signed (ranges.ToMinus n s) x =
@@ -201,7 +209,8 @@ next_name : (ws : List Word) (x : Lexeme) (v : List ℕ) → x.means ≡ string 
     → NameRest (ws ++ word_at v x.span ∷ []) ys out → NameList ws (x ∷ ys) out
 next_name ws x v e ys out (names_end z s a q) = name_list z (one_name x v e) s (ap (λ (l : List Lexeme). x ∷ l) a) q
 next_name ws x v e ys out (name_comma y c (name_list z {more = more} m s a q) b) =
-    name_list z (more_names x y v e c m) s (ap (λ (l : List Lexeme). x ∷ l) (b ∙ ap (λ (l : List Lexeme). y ∷ l) a)) (ap (λ (l : List Word). inr l) (sym (append_assoc ws (word_at v x.span ∷ []) more)) ∙ q)
+    name_list z (more_names x y v e c m) s (ap (λ (l : List Lexeme). x ∷ l) (b ∙ ap (λ (l : List Lexeme). y ∷ l) a))
+    (ap (λ (l : List Word). inr l) (sym (append_assoc ws (word_at v x.span ∷ []) more)) ∙ q)
 
 start_ranges : (signed : Bool) (x : Lexeme) (r : Result RangeState ProtoFault) → RangeBack signed ranges.Start x r
     → ReservedBack signed parts.Start x (of_range signed [] r)
@@ -216,12 +225,18 @@ pub part_back : (signed : Bool) (p : ReservedPart) (x : Lexeme)
     → ReservedBack signed p x (reserved_part_step signed p x)
 part_back signed parts.Start x =
     either_is (ReservedBack signed parts.Start x) (is_string x.means) (reserved_name signed [] x) (ranges_step signed [] ranges.Start x)
-    (λ h. string_is (ReservedBack signed parts.Start x) x (λ v. steps.More (record { signed = signed; part = parts.Name ([] ++ word_at v x.span ∷ []) })) (λ v e. λ ys out k. some_names (next_name [] x v e ys out k)) tt)
+    (λ h. string_is (ReservedBack signed parts.Start x) x
+    (λ v. steps.More (record { signed = signed; part = parts.Name ([] ++ word_at v x.span ∷ []) }))
+    (λ v e. λ ys out k. some_names (next_name [] x v e ys out k)) tt)
     (λ h. start_ranges signed x (range_step signed ranges.Start x) (range_back signed ranges.Start x))
 part_back signed (parts.Ranges rs s) x = behind_back signed rs s x (whole_range s) refl
 part_back signed (parts.Name ws) x =
     either_is (ReservedBack signed (parts.Name ws) x) (is_mark x.means semicolon) (Ok (steps.Names ws)) (if is_mark x.means comma then more_reserved signed (parts.NextName ws) else wrong x)
     (λ h. names_end x (mark_is x.means semicolon h) refl refl)
-    (λ h. either_is (ReservedBack signed (parts.Name ws) x) (is_mark x.means comma) (more_reserved signed (parts.NextName ws)) (wrong x) (λ k. λ ys out r. name_comma x (mark_is x.means comma k) r refl) (λ k. tt))
+    (λ h. either_is (ReservedBack signed (parts.Name ws) x) (is_mark x.means comma)
+    (more_reserved signed (parts.NextName ws)) (wrong x)
+    (λ k. λ ys out r. name_comma x (mark_is x.means comma k) r refl) (λ k. tt))
 part_back signed (parts.NextName ws) x =
-    string_is (ReservedBack signed (parts.NextName ws) x) x (λ v. steps.More (record { signed = signed; part = parts.Name (ws ++ word_at v x.span ∷ []) })) (λ v e. λ ys out k. next_name ws x v e ys out k) tt
+    string_is (ReservedBack signed (parts.NextName ws) x) x
+    (λ v. steps.More (record { signed = signed; part = parts.Name (ws ++ word_at v x.span ∷ []) }))
+    (λ v e. λ ys out k. next_name ws x v e ys out k) tt

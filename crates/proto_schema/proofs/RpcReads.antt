@@ -68,10 +68,14 @@ says_name x n w h e = rw h at e
 
 pub rpc_type_reads : {ys : List Lexeme} {w : Word} → RpcType ys w → Walks RpcTypeGoes names.Start ys (names.Part w)
 rpc_type_reads (stream_type x h) = go x [] refl (quiet names.Start (names.Part (word_at (codes "stream") x.span)) x refl (first_goes x (codes "stream") h (rw h refl))) (stay refl refl)
-rpc_type_reads (other_type (relative (one x n h)) g) = go x [] refl (quiet names.Start (names.Part (word_at n x.span)) x refl (first_goes x n h (no_group x [] (words_apart x [] g).1))) (stay refl refl)
+rpc_type_reads (other_type (relative (one x n h)) g) =
+    go x [] refl (quiet names.Start (names.Part (word_at n x.span)) x refl
+    (first_goes x n h (no_group x [] (words_apart x [] g).1))) (stay refl refl)
 rpc_type_reads (other_type (relative (more x y n zs w h d f)) g) =
     go x (y ∷ zs) refl (quiet names.Start (names.Part (word_at n x.span)) x refl (first_goes x n h (no_group x (y ∷ zs) (words_apart x (y ∷ zs) g).1)))
-    (go y zs refl (quiet (names.Part (word_at n x.span)) (names.Dot (word_at n x.span)) y (quiet_part (word_at n x.span) y (says_name x n (codes "stream") h (words_apart x (y ∷ zs) g).0)) (dot_goes y (word_at n x.span) d)) (behind (word_at n x.span) f))
+    (go y zs refl (quiet (names.Part (word_at n x.span)) (names.Dot (word_at n x.span)) y
+    (quiet_part (word_at n x.span) y (says_name x n (codes "stream") h (words_apart x (y ∷ zs) g).0))
+    (dot_goes y (word_at n x.span) d)) (behind (word_at n x.span) f))
 rpc_type_reads (other_type (absolute x {ys = ys} h f) g) = go x ys refl (quiet names.Start (names.Rooted x.span) x refl (root_goes x h)) (behind_root x.span f)
 
 type_ends : (w : Word) (x : Lexeme) → IsMark x closing_paren → rpc_type_step (names.Part w) x ≡ Ok (name_steps.Whole w)
@@ -126,7 +130,8 @@ pub in_output : (name input : Word) (s t : NameState) (x : Lexeme) → RpcTypeGo
 unfolding rpc_step
 in_output name input s t x h = ap (of_output name input) h
 
-pub output_ends : (name input w : Word) (x : Lexeme) → IsMark x closing_paren → RpcGoes (rpcs.Output name input (names.Part w)) x (rpcs.End (record { name = name; input = input; output = w }))
+pub output_ends : (name input w : Word) (x : Lexeme) → IsMark x closing_paren
+    → RpcGoes (rpcs.Output name input (names.Part w)) x (rpcs.End (record { name = name; input = input; output = w }))
 unfolding rpc_step
 output_ends name input w x h = ap (of_output name input) (type_ends w x h)
 
@@ -150,6 +155,8 @@ head_reads (rpc_head a b c d e f g n {is = is} {os = os} {input = i} {output = o
     walks_on RpcGoes (walks_in RpcTypeGoes RpcGoes (λ s. rpcs.Output name i s) (in_output name i) (rpc_type_reads to)) (go g [] refl (output_ends name i o g hg) (stay refl refl)) in
     let middle : Walks RpcGoes (rpcs.Input name names.Start) (is ++ d ∷ e ∷ f ∷ (os ++ g ∷ [])) (rpcs.End (record { name = name; input = i; output = o })) =
     walks_on RpcGoes (walks_in RpcTypeGoes RpcGoes (λ s. rpcs.Input name s) (in_input name) (rpc_type_reads ti))
-    (go d (e ∷ f ∷ (os ++ g ∷ [])) refl (input_ends name i d hd) (go e (f ∷ (os ++ g ∷ [])) refl (returns_goes name i e he) (go f (os ++ g ∷ []) refl (open_goes name i f hf) ends))) in
+    (go d (e ∷ f ∷ (os ++ g ∷ [])) refl (input_ends name i d hd)
+    (go e (f ∷ (os ++ g ∷ [])) refl (returns_goes name i e he)
+    (go f (os ++ g ∷ []) refl (open_goes name i f hf) ends))) in
     rpc_reads a ha (go b (c ∷ (is ++ d ∷ e ∷ f ∷ (os ++ g ∷ []))) refl (start_goes b n hb) (go c (is ++ d ∷ e ∷ f ∷ (os ++ g ∷ [])) refl (named_goes name c hc) middle))
     (q ∙ ap (λ (l : List Lexeme). a ∷ b ∷ c ∷ l) (append_assoc is (d ∷ e ∷ f ∷ os) (g ∷ [])))

@@ -8,7 +8,9 @@ use Rattle.proto_schema.specs.Lexemes.{identifier, Lexeme, semicolon, opening_br
 use Rattle.proto_schema.specs.Grammar.{relative, RpcType, stream_type, other_type}
 use Rattle.proto_schema.specs.Files.{RpcHead, rpc_head}
 use Rattle.proto_schema.specs.Faults.{is_type_part}
-use Rattle.proto_schema.specs.Reading.{wrong, is_mark, part, fault_at, full_step, type_step, typed_step, rpc_type_step, behind_type, is_streaming, part_span, rpc_step, more_rpc, of_input, of_output}
+use Rattle.proto_schema.specs.Reading.{wrong, is_mark, part, fault_at, full_step, type_step, typed_step}
+use Rattle.proto_schema.specs.Reading.{rpc_type_step, behind_type, is_streaming, part_span, rpc_step, more_rpc}
+use Rattle.proto_schema.specs.Reading.{of_input, of_output}
 use Rattle.proto_schema.proofs.Choices.{either_is, named_is, same_bytes, word_is}
 use Rattle.proto_schema.proofs.NameLemmas.{mark_is}
 use Rattle.proto_schema.proofs.NameRest.{PartRest, ends, goes_on, TypedRest, from_start, from_root, from_dot, from_part, from_top}
@@ -111,7 +113,9 @@ pub data EndRest (r : RpcDecl) (all : List Lexeme) (q : RpcDecl) (block : Bool) 
   end_rest : (z : Lexeme) → EndMark block z → all ≡ z ∷ [] → r ≡ q → EndRest r all q block
 
 pub data OutputRest (name input : Word) (s : NameState) (all : List Lexeme) (q : RpcDecl) (block : Bool) : Type 0 where
-  output_rest : (g : Lexeme) (os : List Lexeme) {rest : List Lexeme} (w : Word) → RpcTypeRest s os w → IsMark g closing_paren → EndRest (record { name = name; input = input; output = w }) rest q block → all ≡ os ++ g ∷ rest → OutputRest name input s all q block
+  output_rest : (g : Lexeme) (os : List Lexeme) {rest : List Lexeme} (w : Word) → RpcTypeRest s os w
+      → IsMark g closing_paren → EndRest (record { name = name; input = input; output = w }) rest q block
+      → all ≡ os ++ g ∷ rest → OutputRest name input s all q block
 
 pub data OpenRest (name input : Word) (all : List Lexeme) (q : RpcDecl) (block : Bool) : Type 0 where
   open_rest : (f : Lexeme) {rest : List Lexeme} → IsMark f opening_paren
@@ -171,12 +175,16 @@ pub rpc_back : (s : RpcState) (x : Lexeme) → RpcBack s x (rpc_step s x)
 unfolding rpc_step
 rpc_back rpcs.Start x = named_is (RpcBack rpcs.Start x) x (λ n. steps.More (rpcs.Named (word_at n x.span))) (λ n h. λ ys q block k. start_rest x n h k refl) tt
 rpc_back (rpcs.Named name) x =
-    either_is (RpcBack (rpcs.Named name) x) (is_mark x.means opening_paren) (more_rpc (rpcs.Input name names.Start)) (wrong x) (λ h. λ ys q block k. named_rest x (mark_is x.means opening_paren h) k refl) (λ h. tt)
+    either_is (RpcBack (rpcs.Named name) x) (is_mark x.means opening_paren) (more_rpc (rpcs.Input name names.Start))
+    (wrong x) (λ h. λ ys q block k. named_rest x (mark_is x.means opening_paren h) k refl) (λ h. tt)
 rpc_back (rpcs.Input name s) x = of_input_back name s x (rpc_type_step s x) (type_in_back s x)
 rpc_back (rpcs.Returns name input) x =
-    either_is (RpcBack (rpcs.Returns name input) x) (says x.means (codes "returns")) (more_rpc (rpcs.Open name input)) (wrong x) (λ h. λ ys q block k. returns_rest x (word_is x.means (codes "returns") h) k refl) (λ h. tt)
+    either_is (RpcBack (rpcs.Returns name input) x) (says x.means (codes "returns")) (more_rpc (rpcs.Open name input))
+    (wrong x) (λ h. λ ys q block k. returns_rest x (word_is x.means (codes "returns") h) k refl) (λ h. tt)
 rpc_back (rpcs.Open name input) x =
-    either_is (RpcBack (rpcs.Open name input) x) (is_mark x.means opening_paren) (more_rpc (rpcs.Output name input names.Start)) (wrong x) (λ h. λ ys q block k. open_rest x (mark_is x.means opening_paren h) k refl) (λ h. tt)
+    either_is (RpcBack (rpcs.Open name input) x) (is_mark x.means opening_paren)
+    (more_rpc (rpcs.Output name input names.Start)) (wrong x)
+    (λ h. λ ys q block k. open_rest x (mark_is x.means opening_paren h) k refl) (λ h. tt)
 rpc_back (rpcs.Output name input s) x = of_output_back name input s x (rpc_type_step s x) (type_in_back s x)
 rpc_back (rpcs.End r) x =
     either_is (RpcBack (rpcs.End r) x) (is_mark x.means semicolon) (Ok (steps.Done r false)) (if is_mark x.means opening_brace then Ok (steps.Done r true) else wrong x)
@@ -195,5 +203,7 @@ rpc_from a ys q block h
     (start_rest b n bn (named_rest c co (input_rest d is i ti dc (returns_rest e er (open_rest f fo (output_rest g os o to gc (end_rest z m r7 r8) r6) r5) r4) r3) r2) r1) =
     rpc_whole z (subst (λ (r : RpcDecl). RpcHead (a ∷ b ∷ c ∷ is ++ d ∷ e ∷ f ∷ os ++ g ∷ []) r) r8 (rpc_head a b c d e f g n h bn co ti dc er fo to gc refl)) m
     (ap (λ (l : List Lexeme). a ∷ l) (r1 ∙ ap (λ (l : List Lexeme). b ∷ l) (r2 ∙ ap (λ (l : List Lexeme). c ∷ l)
-    (r3 ∙ (ap (λ (l : List Lexeme). is ++ d ∷ l) (r4 ∙ ap (λ (l : List Lexeme). e ∷ l) (r5 ∙ ap (λ (l : List Lexeme). f ∷ l) (r6 ∙ ap (λ (l : List Lexeme). os ++ g ∷ l) r7)))
+    (r3 ∙ (ap (λ (l : List Lexeme). is ++ d ∷ l)
+    (r4 ∙ ap (λ (l : List Lexeme). e ∷ l)
+    (r5 ∙ ap (λ (l : List Lexeme). f ∷ l) (r6 ∙ ap (λ (l : List Lexeme). os ++ g ∷ l) r7)))
     ∙ (sym (append_assoc is (d ∷ e ∷ f ∷ os) (g ∷ z ∷ [])) ∙ sym (append_assoc (is ++ d ∷ e ∷ f ∷ os) (g ∷ []) (z ∷ []))))))))

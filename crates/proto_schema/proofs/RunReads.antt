@@ -24,10 +24,14 @@ use Rattle.std.proofs.lemmas.Bool.{or_parts}
 use Rattle.proto_file.specs.Dot.{dot}
 use Rattle.proto_schema.specs.Lexemes.{opening_brace, closing_brace, word_at}
 use Rattle.proto_schema.specs.Lexemes.{says_one_of}
-use Rattle.proto_schema.specs.Grammar.{NumberOf, FieldOptions, one, more as further, FieldTypeOf, named, a_map, map_of_maps, MapKey, map_key, relative, absolute, begins_with, group_word, member_words, statement_words}
+use Rattle.proto_schema.specs.Grammar.{NumberOf, FieldOptions, one, more as further, FieldTypeOf, named, a_map}
+use Rattle.proto_schema.specs.Grammar.{map_of_maps, MapKey, map_key, relative, absolute, begins_with, group_word}
+use Rattle.proto_schema.specs.Grammar.{member_words, statement_words}
 use Rattle.proto_schema.specs.Files.{LabelOf, plain, optional, repeated, FieldEnd, field, ClosesTo}
 use Rattle.proto_schema.specs.Reading.{full_step, option_step, next_option}
-use Rattle.proto_schema.specs.Running.{of_field, field_begins, begins, of_package, imported, of_options, of_reserved, of_value, of_rpc, in_oneof, filled_with, is_enum, without_first, closed_with, is_body, closes_in}
+use Rattle.proto_schema.specs.Running.{of_field, field_begins, begins, of_package, imported, of_options, of_reserved}
+use Rattle.proto_schema.specs.Running.{of_value, of_rpc, in_oneof, filled_with, is_enum, without_first, closed_with}
+use Rattle.proto_schema.specs.Running.{is_body, closes_in}
 use Rattle.proto_schema.proofs.NameLemmas.{walks_in, FullGoes, full_reads, is_name}
 use Rattle.proto_schema.proofs.OptionReads.{OptionGoes, OptionReads, option_reads}
 use Rattle.proto_schema.proofs.Takes.{Takes, last, next, walk_takes, takes_in}
@@ -178,7 +182,8 @@ reserved_word : (x : Lexeme) → IsWord x (codes "reserved") → StepGoes places
 unfolding statement_step
 reserved_word x h = rw h refl
 
-reserved_in_enum : (filled : Bool) (x : Lexeme) → IsWord x (codes "reserved") → StepGoes (places.Enum filled) states.Begin x (states.Reserved (record { signed = true; part = parts.Start }))
+reserved_in_enum : (filled : Bool) (x : Lexeme) → IsWord x (codes "reserved")
+    → StepGoes (places.Enum filled) states.Begin x (states.Reserved (record { signed = true; part = parts.Start }))
 unfolding statement_step
 reserved_in_enum filled x h = rw h refl
 
@@ -360,9 +365,13 @@ any_of n (w ∷ ws) = bytes_eq n w || any_of n ws
 
 no_statement : (n : List ℕ) → any_of n statement_words ≡ false → NoStatement n
 no_statement n h0 =
-    let h1 : any_of n (codes "enum" ∷ codes "oneof" ∷ codes "reserved" ∷ codes "extend" ∷ codes "extensions" ∷ codes "optional" ∷ codes "repeated" ∷ member_words) ≡ false = rest_false (bytes_eq n (codes "message")) _ h0 in
-    let h2 : any_of n (codes "oneof" ∷ codes "reserved" ∷ codes "extend" ∷ codes "extensions" ∷ codes "optional" ∷ codes "repeated" ∷ member_words) ≡ false = rest_false (bytes_eq n (codes "enum")) _ h1 in
-    let h3 : any_of n (codes "reserved" ∷ codes "extend" ∷ codes "extensions" ∷ codes "optional" ∷ codes "repeated" ∷ member_words) ≡ false = rest_false (bytes_eq n (codes "oneof")) _ h2 in
+    let h1 : any_of n (codes "enum" ∷ codes "oneof" ∷ codes "reserved" ∷ codes "extend" ∷ codes "extensions"
+    ∷ codes "optional" ∷ codes "repeated" ∷ member_words) ≡ false =
+    rest_false (bytes_eq n (codes "message")) _ h0 in
+    let h2 : any_of n (codes "oneof" ∷ codes "reserved" ∷ codes "extend" ∷ codes "extensions" ∷ codes "optional"
+    ∷ codes "repeated" ∷ member_words) ≡ false = rest_false (bytes_eq n (codes "enum")) _ h1 in
+    let h3 : any_of n (codes "reserved" ∷ codes "extend" ∷ codes "extensions" ∷ codes "optional" ∷ codes "repeated"
+    ∷ member_words) ≡ false = rest_false (bytes_eq n (codes "oneof")) _ h2 in
     let h4 : any_of n (codes "extend" ∷ codes "extensions" ∷ codes "optional" ∷ codes "repeated" ∷ member_words) ≡ false = rest_false (bytes_eq n (codes "reserved")) _ h3 in
     let h5 : any_of n (codes "extensions" ∷ codes "optional" ∷ codes "repeated" ∷ member_words) ≡ false = rest_false (bytes_eq n (codes "extend")) _ h4 in
     let h6 : any_of n (codes "optional" ∷ codes "repeated" ∷ member_words) ≡ false = rest_false (bytes_eq n (codes "extensions")) _ h5 in
@@ -382,8 +391,12 @@ no_statement n h0 =
 
 statement_group : (x : Lexeme) → says_one_of x statement_words ≡ false → says_one_of x group_word ≡ false
 statement_group x h =
-    member_group x (rest_false (says x.means (codes "repeated")) _ (rest_false (says x.means (codes "optional")) _ (rest_false (says x.means (codes "extensions")) _ (rest_false (says x.means (codes "extend")) _
-    (rest_false (says x.means (codes "reserved")) _ (rest_false (says x.means (codes "oneof")) _ (rest_false (says x.means (codes "enum")) _ (rest_false (says x.means (codes "message")) _ h))))))))
+    member_group x (rest_false (says x.means (codes "repeated")) _
+    (rest_false (says x.means (codes "optional")) _
+    (rest_false (says x.means (codes "extensions")) _ (rest_false (says x.means (codes "extend")) _
+    (rest_false (says x.means (codes "reserved")) _
+    (rest_false (says x.means (codes "oneof")) _
+    (rest_false (says x.means (codes "enum")) _ (rest_false (says x.means (codes "message")) _ h))))))))
 
 message_field : (x : Lexeme) (n : List ℕ) → NoStatement n → begins places.Message x (identifier n) ≡ field_begins x
 message_field x n h =
@@ -433,9 +446,14 @@ close_reads : {d e : Draft} (x : Lexeme) → IsMark x closing_brace → ClosesTo
 close_reads {d = d} x h (Files.message_ends i is e f) =
     at_place d places.Message said.Close tt (in_message d (e, λ q. let t : ◌≡◌ {A = List ℕ} (i ∷ is) [] = sym f ∙ q in cc)) (last x (closing places.Message x h refl))
     (ap (λ (b : Block). closed_with d b) e ∙ ap (λ (l : List ℕ). record { file = d.file; messages = without_first l; block = no_block }) f)
-close_reads {d = d} x h (Files.oneof_ends i e) = at_place d (places.Oneof true) said.Close tt (in_block d (a_oneof i true) e) (last x (closing (places.Oneof true) x h refl)) (ap (λ (b : Block). closed_with d b) e)
-close_reads {d = d} x h (Files.enum_ends e) = at_place d (places.Enum true) said.Close tt (in_block d (an_enum true) e) (last x (closing (places.Enum true) x h refl)) (ap (λ (b : Block). closed_with d b) e)
-close_reads {d = d} x h (Files.service_ends e) = at_place d places.Service said.Close tt (in_block d a_service e) (last x (closing places.Service x h refl)) (ap (λ (b : Block). closed_with d b) e)
+close_reads {d = d} x h (Files.oneof_ends i e) =
+    at_place d (places.Oneof true) said.Close tt (in_block d (a_oneof i true) e)
+    (last x (closing (places.Oneof true) x h refl)) (ap (λ (b : Block). closed_with d b) e)
+close_reads {d = d} x h (Files.enum_ends e) =
+    at_place d (places.Enum true) said.Close tt (in_block d (an_enum true) e)
+    (last x (closing (places.Enum true) x h refl)) (ap (λ (b : Block). closed_with d b) e)
+close_reads {d = d} x h (Files.service_ends e) = at_place d places.Service said.Close tt (in_block d a_service e)
+    (last x (closing places.Service x h refl)) (ap (λ (b : Block). closed_with d b) e)
 close_reads {d = d} x h (Files.rpc_ends e) = at_place d places.Rpc said.Close tt (in_block d an_rpc e) (last x (closing places.Rpc x h refl)) (ap (λ (b : Block). closed_with d b) e)
 
 empty_ends : (p : Place) (x : Lexeme) → IsMark x semicolon → is_body p ≡ true → StepEnds p states.Begin x said.Nothing
@@ -446,25 +464,35 @@ reserved_takes : (p : Place) (s : ReservedState) (out : Kept) {ys : List Lexeme}
     → StepTakes p (states.Reserved s) ys (said_of out)
 reserved_takes p s out t = takes_in ReservedGoes ReservedEnds (StepGoes p) (StepEnds p) (λ s. states.Reserved s) said_of (in_reserved p) (reserved_ends p) t
 
-field_in_message : (d : Draft) {ls ts es all : List Lexeme} {label : FieldLabel} {words : List (List ℕ)} {kind : FieldType} {name : Word} {number : Number} {packed : Option Bool} → Files.InMessage d → LabelOf ls label words → FieldTypeOf words ts kind → FieldEnd es name number packed
+field_in_message : (d : Draft) {ls ts es all : List Lexeme} {label : FieldLabel} {words : List
+    (List ℕ)} {kind : FieldType} {name : Word} {number : Number} {packed : Option Bool} → Files.InMessage d
+    → LabelOf ls label words → FieldTypeOf words ts kind → FieldEnd es name number packed
     → all ≡ ls ++ ts ++ es → StatementReads d all (Files.add_field d (field name number kind label None packed))
 field_in_message d {ts = ts} {es = es} {all = all} {kind = kind} {name = name} {number = num} {packed = packed} m plain k e a = by (first_of_type statement_words map_no_statement k)
   where
     by : FirstToken statement_words ts
         → StatementReads d all (Files.add_field d (field name num kind labels.Plain None packed))
     by (first_token x l s q) =
-        let t : FieldTakes (fields.Type labels.Plain names.Start) (ts ++ es) (field name num kind labels.Plain None packed) = field_takes labels.Plain (narrow statement_words statement_group ts kind k) e in
+        let t : FieldTakes (fields.Type labels.Plain names.Start) (ts ++ es)
+        (field name num kind labels.Plain None packed) =
+        field_takes labels.Plain (narrow statement_words statement_group ts kind k) e in
         let r : ts ++ es ≡ x ∷ l ++ es = ap (λ (z : List Lexeme). z ++ es) q in
         let u : FieldTakes (fields.Type labels.Plain names.Start) (x ∷ l ++ es) (field name num kind labels.Plain None packed) = rw r at t in
-        rw (a ∙ r) (at_place d places.Message (said.Field (field name num kind labels.Plain None packed)) tt (in_message d m) (field_first places.Message x (l ++ es) (field name num kind labels.Plain None packed) (message_leads x s) u) (no_block_field d (field name num kind labels.Plain None packed) m.0))
+        rw (a ∙ r) (at_place d places.Message (said.Field (field name num kind labels.Plain None packed)) tt
+        (in_message d m) (field_first places.Message x (l ++ es) (field name num kind labels.Plain None packed)
+        (message_leads x s) u) (no_block_field d (field name num kind labels.Plain None packed) m.0))
 field_in_message d {ts = ts} {es = es} {kind = kind} {name = name} {number = num} {packed = packed} m (optional x h) k e a =
     let f : FieldDecl = field name num kind labels.Optional None packed in
     rw a (at_place d places.Message (said.Field f) tt (in_message d m)
-    (next x (optional_word x h) (takes_in FieldGoes FieldEnds (StepGoes places.Message) (StepEnds places.Message) (λ s. states.Field s) (λ f. said.Field f) (in_field places.Message) (field_ends places.Message) (field_takes labels.Optional k e))) (no_block_field d f m.0))
+    (next x (optional_word x h) (takes_in FieldGoes FieldEnds (StepGoes places.Message) (StepEnds places.Message)
+    (λ s. states.Field s) (λ f. said.Field f) (in_field places.Message) (field_ends places.Message)
+    (field_takes labels.Optional k e))) (no_block_field d f m.0))
 field_in_message d {ts = ts} {es = es} {kind = kind} {name = name} {number = num} {packed = packed} m (repeated x h) k e a =
     let f : FieldDecl = field name num kind labels.Repeated None packed in
     rw a (at_place d places.Message (said.Field f) tt (in_message d m)
-    (next x (repeated_word x h) (takes_in FieldGoes FieldEnds (StepGoes places.Message) (StepEnds places.Message) (λ s. states.Field s) (λ f. said.Field f) (in_field places.Message) (field_ends places.Message) (field_takes labels.Repeated k e))) (no_block_field d f m.0))
+    (next x (repeated_word x h) (takes_in FieldGoes FieldEnds (StepGoes places.Message) (StepEnds places.Message)
+    (λ s. states.Field s) (λ f. said.Field f) (in_field places.Message) (field_ends places.Message)
+    (field_takes labels.Repeated k e))) (no_block_field d f m.0))
 
 member_reads : (d : Draft) (i : ℕ)
     (filled : Bool) {ts es all : List Lexeme} {kind : FieldType} {name : Word} {number : Number} {packed : Option Bool}
@@ -474,17 +502,28 @@ member_reads d i filled {ts = ts} {es = es} {all = all} {kind = kind} {name = na
   where
     by : FirstToken member_words ts → StatementReads d all (Files.with_block (Files.add_field d (field name num kind labels.Plain (Some i) packed)) (a_oneof i true))
     by (first_token x l s q) =
-        let t : FieldTakes (fields.Type labels.Plain names.Start) (ts ++ es) (field name num kind labels.Plain None packed) = field_takes labels.Plain (narrow member_words member_group ts kind k) e in
+        let t : FieldTakes (fields.Type labels.Plain names.Start) (ts ++ es)
+        (field name num kind labels.Plain None packed) =
+        field_takes labels.Plain (narrow member_words member_group ts kind k) e in
         let r : ts ++ es ≡ x ∷ l ++ es = ap (λ (z : List Lexeme). z ++ es) q in
         let u : FieldTakes (fields.Type labels.Plain names.Start) (x ∷ l ++ es) (field name num kind labels.Plain None packed) = rw r at t in
-        rw (a ∙ r) (at_place d (places.Oneof filled) (said.Field (field name num kind labels.Plain None packed)) tt (in_block d (a_oneof i filled) m) (field_first (places.Oneof filled) x (l ++ es) (field name num kind labels.Plain None packed) (oneof_leads filled x s) u)
+        rw (a ∙ r) (at_place d (places.Oneof filled) (said.Field (field name num kind labels.Plain None packed)) tt
+        (in_block d (a_oneof i filled) m)
+        (field_first (places.Oneof filled) x (l ++ es) (field name num kind labels.Plain None packed)
+        (oneof_leads filled x s) u)
         (ap (λ (b : Block). Files.with_block (Files.add_field d (in_oneof b (field name num kind labels.Plain None packed))) (filled_with b)) m))
 
 value_reads : (d : Draft) (x y z : Lexeme) (n : List ℕ)
     (filled : Bool) {ns os all : List Lexeme} {number : Number} {packed : Option Bool} → d.block ≡ an_enum filled
     → IsWord x n → begins_with (codes "option" ∷ codes "reserved" ∷ []) all ≡ false → IsMark y equals
     → NumberOf true ns number → FieldOptions os packed
-    → IsMark z semicolon → all ≡ x ∷ y ∷ ns ++ os ++ z ∷ [] → StatementReads d all (Files.with_block (Files.in_enum d (λ e. record e { values = e.values ++ record { name = word_at n x.span; number = number } ∷ [] })) (an_enum true))
+    → IsMark z semicolon → all ≡ x ∷ y ∷ ns ++ os ++ z ∷ []
+    → StatementReads d all
+    (Files.with_block
+    (Files.in_enum d (λ e. record e {
+      values = e.values ++ record { name = word_at n x.span; number = number }
+          ∷ [];
+    })) (an_enum true))
 value_reads d x y z n filled {ns = ns} {os = os} {number = num} m h b e k o s a =
     let g : any_of n (codes "option" ∷ codes "reserved" ∷ []) ≡ false = rw h at (rw a at b) in
     let p : Place = places.Enum filled in
@@ -495,38 +534,62 @@ value_reads d x y z n filled {ns = ns} {os = os} {number = num} m h b e k o s a 
 rpc_takes : (z : Lexeme) {ys : List Lexeme} {r : RpcDecl} (block : Bool) → RpcReads ys r
     → RpcEnds (rpcs.End r) z (r, block) → StepTakes places.Service states.Begin (ys ++ z ∷ []) (said.Rpc r block)
 rpc_takes z {r = r} block (rpc_reads x {ys = us} h w e) k =
-    rw e (next x (rpc_word x h) (walk_takes (StepGoes places.Service) (StepEnds places.Service) (z ∷ []) (walks_in RpcGoes (StepGoes places.Service) (λ s. states.Rpc s) (in_rpc places.Service) w)
+    rw e (next x (rpc_word x h) (walk_takes (StepGoes places.Service) (StepEnds places.Service) (z ∷ [])
+    (walks_in RpcGoes (StepGoes places.Service) (λ s. states.Rpc s) (in_rpc places.Service) w)
     (last z (rpc_ends places.Service (rpcs.End r) r block z k))))
 
 in_enum_ranges : (d : Draft) (filled : Bool) (rs : List Range) → d.block ≡ an_enum filled → added d (said.Ranges rs) ≡ Files.in_enum d (λ e. record e { ranges = e.ranges ++ rs })
-in_enum_ranges d filled rs m = ap (λ (b : Block). if is_enum b then Files.in_enum d (λ e. record e { ranges = e.ranges ++ rs }) else Files.in_message d (λ m. record m { ranges = m.ranges ++ rs })) m
+in_enum_ranges d filled rs m =
+    ap (λ (b : Block). if is_enum b then Files.in_enum d (λ e. record e { ranges = e.ranges ++ rs })
+    else Files.in_message d (λ m. record m { ranges = m.ranges ++ rs })) m
 
 in_enum_names : (d : Draft) (filled : Bool) (ws : List Word) → d.block ≡ an_enum filled → added d (said.Names ws) ≡ Files.in_enum d (λ e. record e { names = e.names ++ ws })
-in_enum_names d filled ws m = ap (λ (b : Block). if is_enum b then Files.in_enum d (λ e. record e { names = e.names ++ ws }) else Files.in_message d (λ m. record m { names = m.names ++ ws })) m
+in_enum_names d filled ws m =
+    ap (λ (b : Block). if is_enum b then Files.in_enum d (λ e. record e { names = e.names ++ ws })
+    else Files.in_message d (λ m. record m { names = m.names ++ ws })) m
 
 in_message_ranges : (d : Draft) (rs : List Range) → d.block ≡ no_block → added d (said.Ranges rs) ≡ Files.in_message d (λ m. record m { ranges = m.ranges ++ rs })
-in_message_ranges d rs m = ap (λ (b : Block). if is_enum b then Files.in_enum d (λ e. record e { ranges = e.ranges ++ rs }) else Files.in_message d (λ m. record m { ranges = m.ranges ++ rs })) m
+in_message_ranges d rs m =
+    ap (λ (b : Block). if is_enum b then Files.in_enum d (λ e. record e { ranges = e.ranges ++ rs })
+    else Files.in_message d (λ m. record m { ranges = m.ranges ++ rs })) m
 
 in_message_names : (d : Draft) (ws : List Word) → d.block ≡ no_block → added d (said.Names ws) ≡ Files.in_message d (λ m. record m { names = m.names ++ ws })
-in_message_names d ws m = ap (λ (b : Block). if is_enum b then Files.in_enum d (λ e. record e { names = e.names ++ ws }) else Files.in_message d (λ m. record m { names = m.names ++ ws })) m
+in_message_names d ws m =
+    ap (λ (b : Block). if is_enum b then Files.in_enum d (λ e. record e { names = e.names ++ ws })
+    else Files.in_message d (λ m. record m { names = m.names ++ ws })) m
 
 pub statement_is_read : {d e : Draft} {all : List Lexeme} → Statement d all e → StatementReads d all e
 statement_is_read {d = d} (Files.package_name x z {ys = ys} {w = w} i k h f m a) =
     rw a (at_place d (places.File false) (said.Package w) tt (in_file d i ∙ ap (λ (o : Option Word). places.File (is_some o)) k)
-    (next x (package_word x h) (walk_takes (StepGoes (places.File false)) (StepEnds (places.File false)) (z ∷ []) (walks_in FullGoes (StepGoes (places.File false)) (λ s. states.Package s) (in_package (places.File false)) (full_reads f)) (last z (package_ends (places.File false) w z m)))) refl)
+    (next x (package_word x h) (walk_takes (StepGoes (places.File false)) (StepEnds (places.File false)) (z ∷ [])
+    (walks_in FullGoes (StepGoes (places.File false)) (λ s. states.Package s) (in_package (places.File false))
+    (full_reads f)) (last z (package_ends (places.File false) w z m)))) refl)
 statement_is_read {d = d} (Files.import x y z path i h k m a) =
     let p : Place = places.File (is_some d.file.package) in
-    rw a (at_place d p (said.Import (imported false path y.span)) tt (in_file d i) (next x (import_word (is_some d.file.package) x h) (next y (import_path p false y path k) (last z (import_ends p (imported false path y.span) z m)))) refl)
+    rw a (at_place d p (said.Import (imported false path y.span)) tt (in_file d i)
+    (next x (import_word (is_some d.file.package) x h)
+    (next y (import_path p false y path k) (last z (import_ends p (imported false path y.span) z m)))) refl)
 statement_is_read {d = d} (Files.public_import x q y z path i h g k m a) =
     let p : Place = places.File (is_some d.file.package) in
-    rw a (at_place d p (said.Import (imported true path y.span)) tt (in_file d i) (next x (import_word (is_some d.file.package) x h) (next q (import_public p q g) (next y (import_path p true y path k) (last z (import_ends p (imported true path y.span) z m))))) refl)
+    rw a (at_place d p (said.Import (imported true path y.span)) tt (in_file d i)
+    (next x (import_word (is_some d.file.package) x h)
+    (next q (import_public p q g)
+    (next y (import_path p true y path k) (last z (import_ends p (imported true path y.span) z m))))) refl)
 statement_is_read {d = d} (Files.option x z {ys = ys} {b = b} h o m a) =
     let r : OptionReads next_option ys b = option_reads o in
     let p : Place = place_of d in
-    rw a (statement_reads said.Nothing (is_shallow tt) (next x (option_word p x h) (walk_takes (StepGoes p) (StepEnds p) (z ∷ []) (walks_in OptionGoes (StepGoes p) (λ s. states.Option s) (in_option p) r.1) (last z (option_ends p r.0 b z (r.2 z semicolon m (omega arith)) m)))) refl)
+    rw a (statement_reads said.Nothing (is_shallow tt)
+    (next x (option_word p x h)
+    (walk_takes (StepGoes p) (StepEnds p) (z ∷ []) (walks_in OptionGoes (StepGoes p) (λ s. states.Option s)
+    (in_option p) r.1) (last z (option_ends p r.0 b z (r.2 z semicolon m (omega arith)) m)))) refl)
 statement_is_read {d = d} (Files.empty x i h a) = rw a (statement_reads said.Nothing (is_shallow tt) (last x (empty_ends (place_of d) x h (body_place d i))) refl)
-statement_is_read {d = d} (Files.message x y z n i h k m a) = rw a (statement_reads (said.Open openings.Message (word_at n y.span)) (opens_message (x ∷ y ∷ []) z (word_at n y.span) refl m refl) (open_takes (place_of d) openings.Message x y z n (message_word d x i h) k m) refl)
-statement_is_read {d = d} (Files.enum x y z n i h k m a) = rw a (statement_reads (said.Open openings.Enum (word_at n y.span)) (is_shallow tt) (open_takes (place_of d) openings.Enum x y z n (enum_word d x i h) k m) refl)
+statement_is_read {d = d} (Files.message x y z n i h k m a) =
+    rw a (statement_reads (said.Open openings.Message (word_at n y.span))
+    (opens_message (x ∷ y ∷ []) z (word_at n y.span) refl m refl)
+    (open_takes (place_of d) openings.Message x y z n (message_word d x i h) k m) refl)
+statement_is_read {d = d} (Files.enum x y z n i h k m a) =
+    rw a (statement_reads (said.Open openings.Enum (word_at n y.span)) (is_shallow tt)
+    (open_takes (place_of d) openings.Enum x y z n (enum_word d x i h) k m) refl)
 statement_is_read {d = d} (Files.service x y z n i h k m a) =
     let p : Place = places.File (is_some d.file.package) in
     rw a (at_place d p (said.Open openings.Service (word_at n y.span)) tt (in_file d i) (open_takes p openings.Service x y z n (service_word (is_some d.file.package) x h) k m) refl)
@@ -535,16 +598,30 @@ statement_is_read {d = d} (Files.oneof x y z n i h k m a) =
 statement_is_read {d = d} (Files.a_field m l k e a) = field_in_message d m l k e a
 statement_is_read {d = d} (Files.member i filled m k e a) = member_reads d i filled m k e a
 statement_is_read {d = d} (Files.reserved_numbers x z {rs = rs} i h r m a) =
-    rw a (at_place d places.Message (said.Ranges rs) tt (in_message d i) (next x (reserved_word x h) (reserved_takes places.Message (record { signed = false; part = parts.Start }) (inl rs) (start_ranges false z r m))) (in_message_ranges d rs i.0))
+    rw a (at_place d places.Message (said.Ranges rs) tt (in_message d i)
+    (next x (reserved_word x h) (reserved_takes places.Message (record { signed = false; part = parts.Start })
+    (inl rs) (start_ranges false z r m))) (in_message_ranges d rs i.0))
 statement_is_read {d = d} (Files.reserved_names x z {ws = ws} i h r m a) =
-    rw a (at_place d places.Message (said.Names ws) tt (in_message d i) (next x (reserved_word x h) (reserved_takes places.Message (record { signed = false; part = parts.Start }) (inr ws) (start_names false z r m))) (in_message_names d ws i.0))
+    rw a (at_place d places.Message (said.Names ws) tt (in_message d i)
+    (next x (reserved_word x h) (reserved_takes places.Message (record { signed = false; part = parts.Start })
+    (inr ws) (start_names false z r m))) (in_message_names d ws i.0))
 statement_is_read {d = d} (Files.reserved_values x z filled {rs = rs} b h r m a) =
-    rw a (at_place d (places.Enum filled) (said.Ranges rs) tt (in_block d (an_enum filled) b) (next x (reserved_in_enum filled x h) (reserved_takes (places.Enum filled) (record { signed = true; part = parts.Start }) (inl rs) (start_ranges true z r m))) (in_enum_ranges d filled rs b))
+    rw a (at_place d (places.Enum filled) (said.Ranges rs) tt (in_block d (an_enum filled) b)
+    (next x (reserved_in_enum filled x h)
+    (reserved_takes (places.Enum filled) (record { signed = true; part = parts.Start }) (inl rs)
+    (start_ranges true z r m))) (in_enum_ranges d filled rs b))
 statement_is_read {d = d} (Files.reserved_value_names x z filled {ws = ws} b h r m a) =
-    rw a (at_place d (places.Enum filled) (said.Names ws) tt (in_block d (an_enum filled) b) (next x (reserved_in_enum filled x h) (reserved_takes (places.Enum filled) (record { signed = true; part = parts.Start }) (inr ws) (start_names true z r m))) (in_enum_names d filled ws b))
+    rw a (at_place d (places.Enum filled) (said.Names ws) tt (in_block d (an_enum filled) b)
+    (next x (reserved_in_enum filled x h)
+    (reserved_takes (places.Enum filled) (record { signed = true; part = parts.Start }) (inr ws)
+    (start_names true z r m))) (in_enum_names d filled ws b))
 statement_is_read {d = d} (Files.value x y z n filled b h w e k o m a) = value_reads d x y z n filled b h w e k o m a
-statement_is_read {d = d} (Files.rpc z {r = r} b h m a) = rw a (at_place d places.Service (said.Rpc r false) tt (in_block d a_service b) (rpc_takes z false (head_reads h) (semicolon_ends r z m)) refl)
-statement_is_read {d = d} (Files.rpc_with_options z {r = r} b h m a) = rw a (at_place d places.Service (said.Rpc r true) tt (in_block d a_service b) (rpc_takes z true (head_reads h) (brace_ends r z m)) refl)
+statement_is_read {d = d} (Files.rpc z {r = r} b h m a) =
+    rw a (at_place d places.Service (said.Rpc r false) tt (in_block d a_service b)
+    (rpc_takes z false (head_reads h) (semicolon_ends r z m)) refl)
+statement_is_read {d = d} (Files.rpc_with_options z {r = r} b h m a) =
+    rw a (at_place d places.Service (said.Rpc r true) tt (in_block d a_service b)
+    (rpc_takes z true (head_reads h) (brace_ends r z m)) refl)
 statement_is_read {d = d} (Files.close x h a c) = rw a (close_reads x h c)
 
 -- ---- the tokens of statements
@@ -615,4 +692,5 @@ whole_is_over d x w h = rw (h, in_file d w) refl
 pub forms_read : {front : List Lexeme} {file : File} (rest : List Lexeme) → Forms front file
     → reading false (front ++ rest) ≡ read file
 forms_read rest (Files.whole x {xs = front} {all = all} {d = d} s w h e) =
-    ap (λ (l : List Lexeme). reading false (l ++ rest)) e ∙ (ap (reading false) (append_assoc front (x ∷ []) rest) ∙ (says_read (x ∷ rest) s ∙ run_over false d states.Begin x rest (whole_is_over d x w h)))
+    ap (λ (l : List Lexeme). reading false (l ++ rest)) e ∙ (ap (reading false) (append_assoc front (x ∷ []) rest)
+    ∙ (says_read (x ∷ rest) s ∙ run_over false d states.Begin x rest (whole_is_over d x w h)))

@@ -8,7 +8,9 @@ use Rattle.proto_schema.specs.Files
 use Rattle.proto_schema.specs.Files.{Draft, Block, no_block, a_oneof, an_enum, a_service, an_rpc, IsWhole, Statement, Says, Forms, nothing_said}
 use Rattle.proto_schema.specs.Faults.{is_no_token}
 use Rattle.proto_schema.specs.Reading.{fault_at, unexpected, is_mark}
-use Rattle.proto_schema.specs.Running.{place_of, place_with, added, statement_step, cut_off, read, failed, is_begin, is_file, is_end, is_over, is_too_deep, behind, run, reading, behind_word, behind_equals, behind_value, behind_syntax}
+use Rattle.proto_schema.specs.Running.{place_of, place_with, added, statement_step, cut_off, read, failed, is_begin}
+use Rattle.proto_schema.specs.Running.{is_file, is_end, is_over, is_too_deep, behind, run, reading, behind_word}
+use Rattle.proto_schema.specs.Running.{behind_equals, behind_value, behind_syntax}
 use Rattle.proto_schema.proofs.Choices.{and_both, word_is, same_bytes}
 use Rattle.proto_schema.proofs.NameLemmas.{mark_is}
 use Rattle.proto_schema.proofs.Next.{run_step, run_over}
@@ -188,7 +190,9 @@ step_goes d s x xs file g r = by (is_over d s x) refl
     at_begin : s ≡ states.Begin → is_over d s x ≡ false → Reached s d (x ∷ xs) file
     at_begin e o =
         let q : behind (λ c t. run false c t xs) false d x (statement_step (place_of d) s x) ≡ read file = sym (run_step false d s x xs o) ∙ r in
-        let q2 : behind (λ c t. run false c t xs) false d x (statement_step (place_of d) states.Begin x) ≡ read file = subst (λ (u : State). behind (λ c t. run false c t xs) false d x (statement_step (place_of d) u x) ≡ read file) e q in
+        let q2 : behind (λ c t. run false c t xs) false d x (statement_step (place_of d) states.Begin x) ≡ read file =
+        subst (λ (u : State). behind (λ c t. run false c t xs) false d x (statement_step (place_of d) u x)
+        ≡ read file) e q in
         subst (λ (u : State). Reached u d (x ∷ xs) file) (sym e) (begin_goes d x xs file (statement_step (place_of d) states.Begin x) (begin_back d x) g q2)
 
     later : NotBegin s → is_over d s x ≡ false → Reached s d (x ∷ xs) file
@@ -284,7 +288,9 @@ reading_reads (w ∷ xs) file h = by (says w.means (codes "syntax")) refl h
     word_here [] s h = absurd (let t : cut_off nothing_said states.Begin ≡ read file = h in cc)
     word_here (x ∷ ys) s h = mark_here x ys s (is_mark x.means equals) refl h
 
-    by : (b : Bool) → says w.means (codes "syntax") ≡ b → (if b then behind_word false w xs else if is_no_token w.means then failed (unexpected w) else failed (fault_at reasons.Syntax2 w.span)) ≡ read file → Begun (w ∷ xs) file
+    by : (b : Bool) → says w.means (codes "syntax") ≡ b
+        → (if b then behind_word false w xs else if is_no_token w.means then failed (unexpected w)
+        else failed (fault_at reasons.Syntax2 w.span)) ≡ read file → Begun (w ∷ xs) file
     by true s h = word_here xs s h
     by false s h = other (is_no_token w.means) h
       where

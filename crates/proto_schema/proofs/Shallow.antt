@@ -1,6 +1,7 @@
 -- The limit on messages in one another changes nothing where no `{` opens the 33rd. So what a text reads as is what is
 -- read of it.
-use Rattle.std.proofs.Common.{subst, ◌≡◌, ℕ, zero, suc, ◌+◌, ◌<◌, ◌≤◌, nat_le, length, take, Bool, true, false, List, [], ◌∷◌, ◌++◌, codes, refl, ap, sym, ◌∙◌, arith, length-append}
+use Rattle.std.proofs.Common.{subst, ◌≡◌, ℕ, zero, suc, ◌+◌, ◌<◌, ◌≤◌, nat_le, length, take, Bool, true, false, List}
+use Rattle.std.proofs.Common.{[], ◌∷◌, ◌++◌, codes, refl, ap, sym, ◌∙◌, arith, length-append}
 use Rattle.std.specs.Prelude.{Ok, Err, Result, Some, if◌then◌else◌}
 use Rattle.std.specs.Str.{bytes_eq}
 use Rattle.std.proofs.lemmas.List.{append_assoc}
@@ -9,7 +10,8 @@ use Rattle.proto_schema.specs.Files
 use Rattle.proto_schema.specs.Files.{Draft, Block, no_block, a_oneof, an_enum, a_service, an_rpc, Says, Forms, nothing_said}
 use Rattle.proto_schema.specs.Faults.{is_no_token}
 use Rattle.proto_schema.specs.Reading.{fault_at, unexpected, is_mark}
-use Rattle.proto_schema.specs.Running.{place_of, added, statement_step, read, failed, is_over, is_too_deep, behind, run, reading, behind_word, behind_equals, behind_value, behind_syntax, Outcome}
+use Rattle.proto_schema.specs.Running.{place_of, added, statement_step, read, failed, is_over, is_too_deep, behind}
+use Rattle.proto_schema.specs.Running.{run, reading, behind_word, behind_equals, behind_value, behind_syntax, Outcome}
 use Rattle.proto_schema.proofs.Choices.{either_is}
 use Rattle.proto_schema.proofs.Next.{run_step, run_over}
 use Rattle.proto_file.specs.declared.file.Word.{Word}
@@ -39,7 +41,9 @@ use Rattle.proto_schema.specs.Running.{is_enum, without_first, closed_with}
 use Rattle.proto_schema.specs.declared.fault.ProtoReason.TheVariants.{Nesting}
 use Rattle.proto_schema.proofs.Takes.{last, next}
 use Rattle.proto_schema.proofs.RunRest.{not_deep, Begun, begun, reading_reads}
-use Rattle.proto_schema.proofs.RunReads.{StepTakes, StatementReads, statement_reads, Shallow, is_shallow, opens_message, statement_is_read, run_goes, run_takes, not_over, syntax_read, whole_is_over}
+use Rattle.proto_schema.proofs.RunReads.{StepTakes, StatementReads, statement_reads, Shallow, is_shallow}
+use Rattle.proto_schema.proofs.RunReads.{opens_message, statement_is_read, run_goes, run_takes, not_over, syntax_read}
+use Rattle.proto_schema.proofs.RunReads.{whole_is_over}
 
 -- ---- how many messages are open
 
@@ -64,9 +68,13 @@ added_less d (said.Open openings.Service w) h = omega arith
 added_less d (said.Open openings.Oneof w) h = omega arith
 added_less d (said.Field f) h = omega arith
 added_less d (said.Ranges rs) h =
-    either_is (λ (e : Draft). length e.messages ≤ length d.messages) (is_enum d.block) (in_enum d (λ e. record e { ranges = e.ranges ++ rs })) (in_message d (λ m. record m { ranges = m.ranges ++ rs })) (λ t. omega arith) (λ t. omega arith)
+    either_is (λ (e : Draft). length e.messages ≤ length d.messages) (is_enum d.block)
+    (in_enum d (λ e. record e { ranges = e.ranges ++ rs }))
+    (in_message d (λ m. record m { ranges = m.ranges ++ rs })) (λ t. omega arith) (λ t. omega arith)
 added_less d (said.Names ws) h =
-    either_is (λ (e : Draft). length e.messages ≤ length d.messages) (is_enum d.block) (in_enum d (λ e. record e { names = e.names ++ ws })) (in_message d (λ m. record m { names = m.names ++ ws })) (λ t. omega arith) (λ t. omega arith)
+    either_is (λ (e : Draft). length e.messages ≤ length d.messages) (is_enum d.block)
+    (in_enum d (λ e. record e { names = e.names ++ ws })) (in_message d (λ m. record m { names = m.names ++ ws }))
+    (λ t. omega arith) (λ t. omega arith)
 added_less d (said.Value v) h = omega arith
 added_less d (said.Rpc r true) h = omega arith
 added_less d (said.Rpc r false) h = omega arith
@@ -147,7 +155,8 @@ one_statement : (front ys rest : List Lexeme) (c d : Draft) → Says (front ++ y
     → reading true (front ++ (ys ++ rest)) ≡ run true c states.Begin (ys ++ rest) → length c.messages ≤ MAX_OPEN
     → StatementReads c ys d → SaysWell (front ++ ys) d rest
 one_statement front ys rest c d s r l (statement_reads v (is_shallow h) t q) =
-    let e : reading true ((front ++ ys) ++ rest) ≡ run true (added c v) states.Begin rest = ap (reading true) (append_assoc front ys rest) ∙ (r ∙ run_takes true c rest t (shallow_flat true c v h)) in
+    let e : reading true ((front ++ ys) ++ rest) ≡ run true (added c v) states.Begin rest =
+    ap (reading true) (append_assoc front ys rest) ∙ (r ∙ run_takes true c rest t (shallow_flat true c v h)) in
     let m : length (added c v).messages ≤ MAX_OPEN = (let a : length (added c v).messages ≤ length c.messages = added_less c v h in omega arith) in
     says_well (e ∙ ap (λ (c : Draft). run true c states.Begin rest) q) (subst (λ (c : Draft). length c.messages ≤ MAX_OPEN) q m)
 one_statement front ys rest c d s r l (statement_reads v (opens_message us z w ev m a) t q) = by (nat_le MAX_OPEN (length c.messages)) refl
@@ -160,11 +169,16 @@ one_statement front ys rest c d s r l (statement_reads v (opens_message us z w e
         let g : MAX_OPEN ≤ length c.messages = leb-true MAX_OPEN (length c.messages) b in
         let n : length c.messages ≡ MAX_OPEN = omega arith in
         let p : front ++ ys ≡ (front ++ us) ++ z ∷ [] = ap (λ (l : List Lexeme). front ++ l) a ∙ sym (append_assoc front us (z ∷ [])) in
-        let k : Says ((front ++ us) ++ z ∷ []) (open_message c w) = subst (λ (l : List Lexeme). Says l (open_message c w)) p (subst (λ (x : Draft). Says (front ++ ys) x) (sym opened) s) in
+        let k : Says ((front ++ us) ++ z ∷ []) (open_message c w) =
+        subst (λ (l : List Lexeme). Says l (open_message c w)) p
+        (subst (λ (x : Draft). Says (front ++ ys) x) (sym opened) s) in
         let o : (front ++ us) ++ z ∷ rest ≡ (front ++ ys) ++ rest = sym (append_assoc (front ++ us) (z ∷ []) rest) ∙ ap (λ (l : List Lexeme). l ++ rest) (sym p) in
         let f : run true c states.Begin (ys ++ rest) ≡ failed (fault_at reasons.Nesting z.span) = deep_run c rest us z t (ap (is_too_deep true c) ev ∙ b) a in
-        let h : reading true ((front ++ us) ++ z ∷ rest) ≡ failed (fault_at reasons.Nesting z.span) = ap (reading true) o ∙ (ap (reading true) (append_assoc front ys rest) ∙ (r ∙ f)) in
-        let i : length (front ++ us) < length (front ++ ys) = (let u : length ((front ++ us) ++ z ∷ []) ≡ length (front ++ us) + 1 = length-append (front ++ us) (z ∷ []) in omega (arith, ap length p)) in
+        let h : reading true ((front ++ us) ++ z ∷ rest) ≡ failed (fault_at reasons.Nesting z.span) =
+        ap (reading true) o ∙ (ap (reading true) (append_assoc front ys rest) ∙ (r ∙ f)) in
+        let i : length (front ++ us) < length (front ++ ys) =
+        (let u : length ((front ++ us) ++ z ∷ []) ≡ length (front ++ us) + 1 =
+        length-append (front ++ us) (z ∷ []) in omega (arith, ap length p)) in
         says_deep (deep_before o (omega arith) (deep (length (front ++ us)) z (opens_named c w (front ++ us) rest z k m n) i (get_behind (front ++ us) rest z) h))
     by false b =
         let g : length c.messages < MAX_OPEN = leb-false MAX_OPEN (length c.messages) b in

@@ -49,7 +49,14 @@ small_says = record {
     name = word_at (codes "M") (here 5);
     file = 0;
     parent = None;
-    fields = record { name = word_at (codes "a") (here 8); number = number_at false (Small 1) (here 10); kind = Named (word_at (codes "uint64") (here 7)); label = Plain; oneof = None; packed = None } ∷ [];
+    fields = record {
+      name = word_at (codes "a") (here 8);
+      number = number_at false (Small 1) (here 10);
+      kind = Named (word_at (codes "uint64") (here 7));
+      label = Plain;
+      oneof = None;
+      packed = None;
+    } ∷ [];
     oneofs = [];
     ranges = [];
     names = [];
@@ -63,9 +70,12 @@ small_file =
     Files.whole (at 13 the_end)
     (Files.another
     (Files.another
-    (Files.another (Files.start (Files.proto3 _ _ _ _ refl refl refl refl)) (Files.message (at 4 (identifier (codes "message"))) (at 5 (identifier (codes "M"))) (at 6 (mark 123)) (codes "M") refl refl refl refl refl) refl)
+    (Files.another (Files.start (Files.proto3 _ _ _ _ refl refl refl refl))
+    (Files.message (at 4 (identifier (codes "message"))) (at 5 (identifier (codes "M"))) (at 6 (mark 123))
+    (codes "M") refl refl refl refl refl) refl)
     (Files.a_field (refl, λ e. absurd cc) Files.plain (Grammar.named (Grammar.relative (Grammar.one (at 7 (identifier (codes "uint64"))) (codes "uint64") refl)) refl)
-    (Files.field_end (at 8 (identifier (codes "a"))) (at 9 (mark 61)) (at 11 (mark 59)) (codes "a") refl refl (Grammar.whole (at 10 (integer (Small 1))) (Small 1) refl) Grammar.no_options refl refl) refl) refl)
+    (Files.field_end (at 8 (identifier (codes "a"))) (at 9 (mark 61)) (at 11 (mark 59)) (codes "a") refl refl
+    (Grammar.whole (at 10 (integer (Small 1))) (Small 1) refl) Grammar.no_options refl refl) refl) refl)
     (Files.close (at 12 (mark 125)) refl refl (Files.message_ends 0 [] refl refl)) refl)
     (refl, refl) refl refl
 
@@ -91,12 +101,20 @@ of_messages ms = record { «package» = None; imports = []; messages = ms; enums
 
 small_disorder : IsOrdered (of_messages (message_at 5 ∷ message_at 4 ∷ [])) → ⊥
 small_disorder h =
-    let l : 5 < 4 = h.ascend (message_decl 0) (message_decl 1) its_name its_name (here 5) (here 4) (Order.messages 0 1 (omega arith)) (Order.message 0 _ refl refl) (Order.message 1 _ refl refl) in
+    let l : 5 < 4 = h.ascend (message_decl 0) (message_decl 1) its_name its_name (here 5) (here 4)
+    (Order.messages 0 1 (omega arith)) (Order.message 0 _ refl refl) (Order.message 1 _ refl refl) in
     omega arith
 
 -- no field is one of a oneof that its message hasn't
 abbrev member : FieldDecl
-member = record { name = word_at (codes "a") (here 8); number = number_at false (Small 1) (here 10); kind = Named (word_at (codes "uint64") (here 7)); label = Plain; oneof = Some 0; packed = None }
+member = record {
+  name = word_at (codes "a") (here 8);
+  number = number_at false (Small 1) (here 10);
+  kind = Named (word_at (codes "uint64") (here 7));
+  label = Plain;
+  oneof = Some 0;
+  packed = None;
+}
 
 small_stray : IsFormed (of_messages (record (message_at 5) { fields = member ∷ [] } ∷ [])) → ⊥
 small_stray h = let l : 0 < 0 = ((h.messages 0 (message_at 0) (omega arith)).fields 0 member (omega arith)).oneof in omega arith
@@ -126,10 +144,14 @@ two_files w ms = record { heads = head None ∷ head w ∷ []; messages = ms; en
 
 small_files_mixed : Together.IsOrdered (two_files None (message_of 1 4 ∷ message_of 0 5 ∷ [])) → ⊥
 small_files_mixed h =
-    let l : 5 < 4 = h.files 0 1 (Together.message_decl 1) (Together.message_decl 0) its_name its_name (here 5) (here 4) (omega arith) (Together.in_message_of 1 _ refl refl) (Together.in_message_of 0 _ refl refl) (Together.message 1 _ refl refl) (Together.message 0 _ refl refl) in
+    let l : 5 < 4 = h.files 0 1 (Together.message_decl 1) (Together.message_decl 0) its_name its_name (here 5)
+    (here 4) (omega arith) (Together.in_message_of 1 _ refl refl) (Together.in_message_of 0 _ refl refl)
+    (Together.message 1 _ refl refl) (Together.message 0 _ refl refl) in
     omega arith
 
 small_late_package : Together.IsOrdered (two_files (Some (word_at (codes "p") (here 4))) (message_of 0 5 ∷ [])) → ⊥
 small_late_package h =
-    let l : 5 < 4 = h.files 0 1 (Together.message_decl 0) (Together.package_decl 1) its_name its_name (here 5) (here 4) (omega arith) (Together.in_message_of 0 _ refl refl) Together.its_package (Together.message 0 _ refl refl) (Together.package_name 1 _ _ refl refl refl) in
+    let l : 5 < 4 = h.files 0 1 (Together.message_decl 0) (Together.package_decl 1) its_name its_name (here 5)
+    (here 4) (omega arith) (Together.in_message_of 0 _ refl refl) Together.its_package
+    (Together.message 0 _ refl refl) (Together.package_name 1 _ _ refl refl refl) in
     omega arith

@@ -111,10 +111,14 @@ package_back s x (Ok (name_steps.Whole w)) b =
 package_back s x (Err e) b = tt
 
 import_other : (public : Bool) (x : Lexeme) (m : Meaning) → x.means ≡ m
-    → Back (states.Import public) x (if not public && says m (codes "public") then more (states.Import true) else if is_no_token m || public then wrong x else Err (fault_at reasons.Import x.span))
+    → Back (states.Import public) x (if not public && says m (codes "public") then more (states.Import true)
+    else if is_no_token m || public then wrong x else Err (fault_at reasons.Import x.span))
 import_other public x m e =
-    either_is (Back (states.Import public) x) (not public && says m (codes "public")) (more (states.Import true)) (if is_no_token m || public then wrong x else Err (fault_at reasons.Import x.span))
-    (λ h. let b : (not public ≡ true) × (says m (codes "public") ≡ true) = and_both (not public) (says m (codes "public")) h in (tt, λ ys v k. by (is_plain public b.0) (e ∙ word_is m (codes "public") b.1) ys v k))
+    either_is (Back (states.Import public) x) (not public && says m (codes "public")) (more (states.Import true))
+    (if is_no_token m || public then wrong x else Err (fault_at reasons.Import x.span))
+    (λ h. let b : (not public ≡ true) × (says m (codes "public") ≡ true) =
+    and_both (not public) (says m (codes "public")) h in
+    (tt, λ ys v k. by (is_plain public b.0) (e ∙ word_is m (codes "public") b.1) ys v k))
     (λ h. either_is (Back (states.Import public) x) (is_no_token m || public) (wrong x) (Err (fault_at reasons.Import x.span)) (λ k. tt) (λ k. tt))
   where
     is_plain : (p : Bool) → not p ≡ true → p ≡ false

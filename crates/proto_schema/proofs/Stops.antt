@@ -7,7 +7,11 @@ use Rattle.proto_tokens.specs.declared.token.Kind.{Kind}
 use Rattle.proto_tokens.specs.declared.token.Kind.TheVariants as kinds
 use Rattle.proto_tokens.specs.declared.token.Token.{Token}
 use Rattle.proto_schema.specs.Lexemes.{Meaning, identifier, integer, number, string, mark, the_end, none, Lexeme, meaning, lexeme, span_of}
-use Rattle.proto_schema.specs.Reading.{full_step, typed_step, behind_key, option_step, tail_step, of_option, field_step, map_step, of_key, of_inner_key, of_value, of_inner_value, of_type, of_map, of_tail, value_step, of_value_tail, rpc_step, behind_type, is_streaming, of_input, of_output, reserved_step, reserved_part_step, range_step, whole_range, behind_range, of_range}
+use Rattle.proto_schema.specs.Reading.{full_step, typed_step, behind_key, option_step, tail_step, of_option}
+use Rattle.proto_schema.specs.Reading.{field_step, map_step, of_key, of_inner_key, of_value, of_inner_value, of_type}
+use Rattle.proto_schema.specs.Reading.{of_map, of_tail, value_step, of_value_tail, rpc_step, behind_type}
+use Rattle.proto_schema.specs.Reading.{is_streaming, of_input, of_output, reserved_step, reserved_part_step}
+use Rattle.proto_schema.specs.Reading.{range_step, whole_range, behind_range, of_range}
 use Rattle.proto_schema.specs.Running.{statement_step, depth, of_package, of_options, of_reserved, of_rpc}
 use Rattle.proto_schema.specs.Running
 use Rattle.proto_file.specs.declared.file.Span.{Span}

@@ -66,14 +66,20 @@ list_from : (p : Option Bool) (all : List Lexeme) (b : Option Bool) → InOption
 list_from p all b (in_option ys d r (closed x z h k e s) a) =
     list_end x z (one_option (option_of ys d r)) h k (a ∙ ap (λ (l : List Lexeme). ys ++ l) e) s
 list_from p all b (in_option ys d r (comma_behind x y z {ys = zs} {d = c} h o k l e s) a) =
-    list_end y z (options x (option_of ys d r) h o refl) k l (a ∙ (ap (λ (l : List Lexeme). ys ++ l) e ∙ sym (append_assoc ys (x ∷ zs) (y ∷ z ∷ [])))) (sym (latest_assoc p d c) ∙ s)
+    list_end y z (options x (option_of ys d r) h o refl) k l
+    (a ∙ (ap (λ (l : List Lexeme). ys ++ l) e ∙ sym (append_assoc ys (x ∷ zs) (y ∷ z ∷ []))))
+    (sym (latest_assoc p d c) ∙ s)
 
 behind_back : (p d : Option Bool) (s : OptionState) (x : Lexeme) → OptionRest s [] d
     → TailBack (tails.Options p s) x (behind_option (latest p d) x)
 behind_back p d s x r =
-    either_is (TailBack (tails.Options p s) x) (is_mark x.means comma) (Ok (steps.More (tails.Options (latest p d) next_option))) (if is_mark x.means closing_bracket then Ok (steps.More (tails.Closed (latest p d))) else wrong x)
+    either_is (TailBack (tails.Options p s) x) (is_mark x.means comma)
+    (Ok (steps.More (tails.Options (latest p d) next_option)))
+    (if is_mark x.means closing_bracket then Ok (steps.More (tails.Closed (latest p d))) else wrong x)
     (λ h. goes (mark_is x.means comma h))
-    (λ h. either_is (TailBack (tails.Options p s) x) (is_mark x.means closing_bracket) (Ok (steps.More (tails.Closed (latest p d)))) (wrong x) (λ k. stops (mark_is x.means closing_bracket k)) (λ k. tt))
+    (λ h. either_is (TailBack (tails.Options p s) x) (is_mark x.means closing_bracket)
+    (Ok (steps.More (tails.Closed (latest p d)))) (wrong x) (λ k. stops (mark_is x.means closing_bracket k))
+    (λ k. tt))
   where
     goes : IsMark x comma → (ys : List Lexeme) (b : Option Bool) → InOption (latest p d) next_option ys b
         → InOption p s (x ∷ ys) b
@@ -107,8 +113,11 @@ bracket_back x h ys b i = by (list_from None ys b i)
 pub tail_back : (s : TailState) (x : Lexeme) → TailBack s x (tail_step s x)
 unfolding tail_step
 tail_back tails.Start x =
-    either_is (TailBack tails.Start x) (is_mark x.means opening_bracket) (Ok (steps.More (tails.Options None next_option))) (if is_mark x.means semicolon then Ok (steps.Done None) else wrong x)
+    either_is (TailBack tails.Start x) (is_mark x.means opening_bracket)
+    (Ok (steps.More (tails.Options None next_option))) (if is_mark x.means semicolon then Ok (steps.Done None)
+    else wrong x)
     (λ h. bracket_back x (mark_is x.means opening_bracket h))
     (λ h. either_is (TailBack tails.Start x) (is_mark x.means semicolon) (Ok (steps.Done None)) (wrong x) (λ k. options_end x no_options (mark_is x.means semicolon k) refl) (λ k. tt))
 tail_back (tails.Options p s) x = in_option_back p s x (option_step s x) (option_back s x)
-tail_back (tails.Closed p) x = either_is (TailBack (tails.Closed p) x) (is_mark x.means semicolon) (Ok (steps.Done p)) (wrong x) (λ h. closed_rest x (mark_is x.means semicolon h)) (λ h. tt)
+tail_back (tails.Closed p) x = either_is (TailBack (tails.Closed p) x) (is_mark x.means semicolon) (Ok (steps.Done p))
+    (wrong x) (λ h. closed_rest x (mark_is x.means semicolon h)) (λ h. tt)

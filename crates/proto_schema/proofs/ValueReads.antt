@@ -5,7 +5,9 @@ use Rattle.std.proofs.lemmas.Bool.{and_right}
 use Rattle.std.proofs.lemmas.List.{append_assoc}
 use Rattle.mrpc_table.specs.declared.words.Decimal.{Decimal}
 use Rattle.proto_schema.specs.Lexemes.{integer, string, mark, Lexeme, comma, semicolon, equals, minus, span_to, word_at, number_at, IsWord, IsMark, says}
-use Rattle.proto_schema.specs.Grammar.{NumberOf, whole, negative, FieldOptions, RangeOf, single, between, up_from, RangesOf, one_range, ranges as more_ranges, NamesOf, one_name, names as more_names}
+use Rattle.proto_schema.specs.Grammar.{NumberOf, whole, negative, FieldOptions, RangeOf, single, between, up_from}
+use Rattle.proto_schema.specs.Grammar.{RangesOf, one_range, ranges as more_ranges, NamesOf, one_name}
+use Rattle.proto_schema.specs.Grammar.{names as more_names}
 use Rattle.proto_schema.specs.Reading.{wrong, is_mark, is_string, by_number, tail_step, value_step, of_value_tail, range_step, a_range, whole_range, of_range, behind_range, reserved_step}
 use Rattle.proto_schema.proofs.Choices.{string_meant}
 use Rattle.proto_schema.proofs.NameLemmas.{Walks, stay, go, walks_on, walks_in, mark_is}
@@ -80,7 +82,9 @@ pub value_takes : (name : Word) (y z : Lexeme) {ns os : List Lexeme} {n : Number
 value_takes name y z {ns = ns} {os = os} {n = n} {packed = packed} hy m o hz =
     let t : (t : TailState) × Walks TailGoes tails.Start os t × (tail_step t z ≡ Ok (tail_steps.Done packed)) = tail_reads z o hz in
     next y (equals_goes name y hy)
-    (walk_takes ValueGoes ValueEnds (z ∷ []) (walks_on ValueGoes (number_reads name m) (walks_in TailGoes ValueGoes (λ s. values.Tail name n s) (in_tail name n) t.1)) (last z (tail_ends name n t.0 z packed t.2)))
+    (walk_takes ValueGoes ValueEnds (z ∷ [])
+    (walks_on ValueGoes (number_reads name m) (walks_in TailGoes ValueGoes (λ s. values.Tail name n s)
+    (in_tail name n) t.1)) (last z (tail_ends name n t.0 z packed t.2)))
 
 -- ---- a range
 
@@ -120,7 +124,9 @@ last_number signed m (negative x y v s h k) = go x (y ∷ []) refl (by x h) (go 
     by : (x : Lexeme) → IsMark x minus → RangeGoes signed (ranges.To m) x (ranges.ToMinus m x.span)
     by x h = rw (s, h) refl
 
-    behind_minus : (p : Span) (y : Lexeme) (v : Decimal) → y.means ≡ integer v → RangeGoes signed (ranges.ToMinus m p) y (ranges.Whole (a_range m (Some (number_at true v (span_to p y.span)))))
+    behind_minus : (p : Span) (y : Lexeme) (v : Decimal) → y.means ≡ integer v
+        → RangeGoes signed (ranges.ToMinus m p) y
+        (ranges.Whole (a_range m (Some (number_at true v (span_to p y.span)))))
     behind_minus p y v k = ap (by_number y (λ v. ranges.Whole (a_range m (Some (number_at true v (span_to p y.span)))))) k
 
 to_goes : (signed : Bool) (n : Number) (x : Lexeme) → IsWord x (codes "to")
@@ -140,8 +146,12 @@ range_reads : (signed : Bool) {ys : List Lexeme} {r : Range} → RangeOf signed 
 range_reads signed (single {n = n} h) = (ranges.First n, first_number signed h, refl)
 range_reads signed (between x {zs = zs} {m = m} {n = n} h t k e) =
     (ranges.Whole (a_range m (Some n)), rw e (walks_on (RangeGoes signed) (first_number signed h) (go x zs refl (to_goes signed m x t) (last_number signed m k))), refl)
-range_reads signed (up_from x y {m = m} h t k e) =
-    (ranges.Whole (a_range m None), rw e (walks_on (RangeGoes signed) (first_number signed h) (go x (y ∷ []) refl (to_goes signed m x t) (go y [] refl (max_goes signed m y k) (stay refl refl)))), refl)
+range_reads signed (up_from x y {m = m} h t k e) = (
+  ranges.Whole (a_range m None),
+  rw e (walks_on (RangeGoes signed) (first_number signed h)
+      (go x (y ∷ []) refl (to_goes signed m x t) (go y [] refl (max_goes signed m y k) (stay refl refl)))),
+  refl,
+)
 
 -- ---- ranges and names
 
@@ -187,7 +197,9 @@ in_ranges signed rs (ranges.First n) t x h = by (is_mark x.means comma) (is_mark
 
 -- a whole range, and a comma or a semicolon behind it
 
-range_comma : (signed : Bool) (rs : List Range) (s : RangeState) (r : Range) (x : Lexeme) → whole_range s ≡ Some r → IsMark x comma → ReservedGoes (kept (parts.Ranges rs s) signed) x (kept (parts.Ranges (rs ++ r ∷ []) ranges.Start) signed)
+range_comma : (signed : Bool) (rs : List Range) (s : RangeState) (r : Range) (x : Lexeme) → whole_range s ≡ Some r
+    → IsMark x comma → ReservedGoes (kept (parts.Ranges rs s) signed) x
+    (kept (parts.Ranges (rs ++ r ∷ []) ranges.Start) signed)
 unfolding reserved_step
 range_comma signed rs s r x w h = ap (behind_range signed rs s x) w ∙ rw h refl
 
@@ -201,13 +213,17 @@ ranges_take : (signed : Bool) (rs : List Range) (z : Lexeme) {ys : List Lexeme} 
     → ReservedTakes (kept (parts.Ranges rs ranges.Start) signed) (ys ++ z ∷ []) (inl (rs ++ qs))
 ranges_take signed rs z {ys = ys} (one_range {r = r} o) h =
     let k : RangeReads signed ys r = range_reads signed o in
-    walk_takes ReservedGoes ReservedEnds (z ∷ []) (walks_in (RangeGoes signed) ReservedGoes (λ s. kept (parts.Ranges rs s) signed) (in_ranges signed rs) k.1) (last z (range_ends signed rs k.0 r z k.2 h))
+    walk_takes ReservedGoes ReservedEnds (z ∷ [])
+    (walks_in (RangeGoes signed) ReservedGoes (λ s. kept (parts.Ranges rs s) signed) (in_ranges signed rs) k.1)
+    (last z (range_ends signed rs k.0 r z k.2 h))
 ranges_take signed rs z (more_ranges x {ys = ys} {zs = zs} {r = r} {rs = qs} o c l e) h =
     let k : RangeReads signed ys r = range_reads signed o in
     let t : ReservedTakes (kept (parts.Ranges rs ranges.Start) signed) (ys ++ x ∷ (zs ++ z ∷ [])) (inl ((rs ++ r ∷ []) ++ qs)) =
     walk_takes ReservedGoes ReservedEnds (x ∷ (zs ++ z ∷ [])) (walks_in (RangeGoes signed) ReservedGoes (λ s. kept (parts.Ranges rs s) signed) (in_ranges signed rs) k.1)
     (next x (range_comma signed rs k.0 r x k.2 c) (ranges_take signed (rs ++ r ∷ []) z l h)) in
-    rw (e, append_assoc ys (x ∷ zs) (z ∷ [])) (subst (λ (l : List Range). ReservedTakes (kept (parts.Ranges rs ranges.Start) signed) (ys ++ x ∷ (zs ++ z ∷ [])) (inl l)) (append_assoc rs (r ∷ []) qs) t)
+    rw (e, append_assoc ys (x ∷ zs) (z ∷ []))
+    (subst (λ (l : List Range). ReservedTakes (kept (parts.Ranges rs ranges.Start) signed)
+    (ys ++ x ∷ (zs ++ z ∷ [])) (inl l)) (append_assoc rs (r ∷ []) qs) t)
 
 -- nothing is read yet: what a range begins with is no string
 start_same : (signed : Bool) (x : Lexeme) (r : ReservedStep)
@@ -222,7 +238,8 @@ start_same signed x r h = by (is_string x.means) refl
         let m : (v : List ℕ) × (x.means ≡ string v) = string_meant x.means e in
         let q : x.means ≡ string m.0 = m.1 in
         let n : (signed && is_mark x.means minus) ≡ false = no_minus signed x (rw q refl) in
-        let w : reserved_step (kept (parts.Ranges [] ranges.Start) signed) x ≡ wrong x = rw n (ap (of_range signed []) (ap (by_number x (λ v. ranges.First (number_at false v x.span))) q)) in
+        let w : reserved_step (kept (parts.Ranges [] ranges.Start) signed) x ≡ wrong x =
+        rw n (ap (of_range signed []) (ap (by_number x (λ v. ranges.First (number_at false v x.span))) q)) in
         let g : ◌≡◌ {A = Result ReservedStep ProtoFault} (wrong x) (Ok r) = sym w ∙ h in
         absurd (cc)
 
@@ -262,7 +279,9 @@ names_take : (signed : Bool) (ws : List Word) (z : Lexeme) {ys : List Lexeme} {q
 names_take signed ws z (one_name x v e) h = next x (name_goes signed ws x v e) (last z (names_end signed (ws ++ word_at v x.span ∷ []) z h))
 names_take signed ws z (more_names x y v {ys = ys} {ws = qs} e c l) h =
     next x (name_goes signed ws x v e) (next y (name_comma signed (ws ++ word_at v x.span ∷ []) y c)
-    (subst (λ (l : List Word). ReservedTakes (kept (parts.NextName (ws ++ word_at v x.span ∷ [])) signed) (ys ++ z ∷ []) (inr l)) (append_assoc ws (word_at v x.span ∷ []) qs) (names_take signed (ws ++ word_at v x.span ∷ []) z l h)))
+    (subst (λ (l : List Word). ReservedTakes (kept (parts.NextName (ws ++ word_at v x.span ∷ [])) signed)
+    (ys ++ z ∷ []) (inr l)) (append_assoc ws (word_at v x.span ∷ []) qs)
+    (names_take signed (ws ++ word_at v x.span ∷ []) z l h)))
 
 pub start_names : (signed : Bool) (z : Lexeme) {ys : List Lexeme} {qs : List Word} → NamesOf ys qs → IsMark z semicolon
     → ReservedTakes (kept parts.Start signed) (ys ++ z ∷ []) (inr qs)

@@ -74,9 +74,11 @@ of_value_tail_back name n s x (Err e) b = tt
 pub value_back : (s : ValueState) (x : Lexeme) → ValueBack s x (value_step s x)
 unfolding value_step
 value_back (values.Named name) x =
-    either_is (ValueBack (values.Named name) x) (is_mark x.means equals) (more_value (values.Equals name)) (wrong x) (λ h. λ ys v k. named_value x (mark_is x.means equals h) k refl) (λ h. tt)
+    either_is (ValueBack (values.Named name) x) (is_mark x.means equals) (more_value (values.Equals name)) (wrong x)
+    (λ h. λ ys v k. named_value x (mark_is x.means equals h) k refl) (λ h. tt)
 value_back (values.Equals name) x =
-    either_is (ValueBack (values.Equals name) x) (is_mark x.means minus) (more_value (values.Minus name x.span)) (if_number x (λ v. steps.More (values.Tail name (number_at false v x.span) tails.Start)))
+    either_is (ValueBack (values.Equals name) x) (is_mark x.means minus) (more_value (values.Minus name x.span))
+    (if_number x (λ v. steps.More (values.Tail name (number_at false v x.span) tails.Start)))
     (λ h. minus_back name x (mark_is x.means minus h))
     (λ h. numbered_is (ValueBack (values.Equals name) x) x (λ v. steps.More (values.Tail name (number_at false v x.span) tails.Start)) (λ v e. whole_back name x v e) tt)
 value_back (values.Minus name s) x =

@@ -1,4 +1,4 @@
--- A text is read token by token: what a token does to a part of a statement, by how far the part is read.
+-- The code's own: a text is read token by token: what a token does to a part of a statement, by how far the part is read.
 use Rattle.std.specs.Prelude.{◌≡◌, ℕ, ◌+◌, ◌-◌, ◌^◌, ◌<◌, ◌≤◌, length, ◌==◌, nat_le, Bool, true, false, ◌&&◌, ◌||◌}
 use Rattle.std.specs.Prelude.{if◌then◌else◌, List, [], ◌∷◌, ◌++◌, codes, Option, Some, None, Result, Ok, Err}
 use Rattle.std.specs.Str.{bytes_eq}

@@ -52,21 +52,28 @@ front_on quote c (d ∷ cs) n b e =
 
 -- ---- at a place, behind the bytes before it
 
-pub closes_quote : (quote : ℕ) (bytes : List ℕ) (i : ℕ) → closes quote bytes ≡ option_map (λ n. n + i) (closes quote (drop i bytes)) → i < length bytes → get_or bytes i 0 ≡ quote → closes quote bytes ≡ Some (i + 1)
+pub closes_quote : (quote : ℕ) (bytes : List ℕ) (i : ℕ)
+    → closes quote bytes ≡ option_map (λ n. n + i) (closes quote (drop i bytes)) → i < length bytes
+    → get_or bytes i 0 ≡ quote → closes quote bytes ≡ Some (i + 1)
 closes_quote quote bytes i before h e =
     let here = ap (closes quote) (drop_more bytes i 0 h) ∙ front_quote quote (get_or bytes i 0) (drop (i + 1) bytes) e in
     let n : 1 + i ≡ i + 1 = omega arith in
     before ∙ ap (option_map (λ n. n + i)) here ∙ ap Some n
 
-pub closes_escape : (quote : ℕ) (bytes : List ℕ) (i : ℕ) → closes quote bytes ≡ option_map (λ n. n + i) (closes quote (drop i bytes)) → i + 1 < length bytes → get_or bytes i 0 ≢ quote → get_or bytes i 0 ≡ 92
+pub closes_escape : (quote : ℕ) (bytes : List ℕ) (i : ℕ)
+    → closes quote bytes ≡ option_map (λ n. n + i) (closes quote (drop i bytes)) → i + 1 < length bytes
+    → get_or bytes i 0 ≢ quote → get_or bytes i 0 ≡ 92
     → is_escape (get_or bytes (i + 1) 0) (drop (i + 2) bytes) ≡ true → closes quote bytes ≡ option_map (λ n. n + (i + 2)) (closes quote (drop (i + 2) bytes))
 closes_escape quote bytes i before h n b e =
     let within : i < length bytes = omega arith in
     let two : i + 1 + 1 ≡ i + 2 = omega arith in
     let split : drop i bytes ≡ get_or bytes i 0 ∷ get_or bytes (i + 1) 0 ∷ drop (i + 2) bytes = rw (drop_more bytes i 0 within, drop_more bytes (i + 1) 0 h, two) refl in
-    before ∙ ap (option_map (λ n. n + i)) (ap (closes quote) split ∙ front_escape quote (get_or bytes i 0) (get_or bytes (i + 1) 0) (drop (i + 2) bytes) n b e) ∙ shifted (closes quote (drop (i + 2) bytes)) i 2
+    before ∙ ap (option_map (λ n. n + i)) (ap (closes quote) split ∙ front_escape quote (get_or bytes i 0)
+    (get_or bytes (i + 1) 0) (drop (i + 2) bytes) n b e) ∙ shifted (closes quote (drop (i + 2) bytes)) i 2
 
-pub closes_no_escape : (quote : ℕ) (bytes : List ℕ) (i : ℕ) → closes quote bytes ≡ option_map (λ n. n + i) (closes quote (drop i bytes)) → i + 1 < length bytes → get_or bytes i 0 ≢ quote → get_or bytes i 0 ≡ 92
+pub closes_no_escape : (quote : ℕ) (bytes : List ℕ) (i : ℕ)
+    → closes quote bytes ≡ option_map (λ n. n + i) (closes quote (drop i bytes)) → i + 1 < length bytes
+    → get_or bytes i 0 ≢ quote → get_or bytes i 0 ≡ 92
     → is_escape (get_or bytes (i + 1) 0) (drop (i + 2) bytes) ≡ false → closes quote bytes ≡ None
 closes_no_escape quote bytes i before h n b e =
     let within : i < length bytes = omega arith in
@@ -74,22 +81,32 @@ closes_no_escape quote bytes i before h n b e =
     let split : drop i bytes ≡ get_or bytes i 0 ∷ get_or bytes (i + 1) 0 ∷ drop (i + 2) bytes = rw (drop_more bytes i 0 within, drop_more bytes (i + 1) 0 h, two) refl in
     before ∙ ap (option_map (λ n. n + i)) (ap (closes quote) split ∙ front_no_escape quote (get_or bytes i 0) (get_or bytes (i + 1) 0) (drop (i + 2) bytes) n b e)
 
-pub closes_last : (quote : ℕ) (bytes : List ℕ) (i : ℕ) → closes quote bytes ≡ option_map (λ n. n + i) (closes quote (drop i bytes)) → i < length bytes → length bytes ≤ i + 1 → get_or bytes i 0 ≢ quote → closes quote bytes ≡ None
+pub closes_last : (quote : ℕ) (bytes : List ℕ) (i : ℕ)
+    → closes quote bytes ≡ option_map (λ n. n + i) (closes quote (drop i bytes)) → i < length bytes
+    → length bytes ≤ i + 1 → get_or bytes i 0 ≢ quote → closes quote bytes ≡ None
 closes_last quote bytes i before h last n =
     let split : drop i bytes ≡ get_or bytes i 0 ∷ [] = rw (drop_more bytes i 0 h, drop_all (i + 1) bytes last) refl in
     before ∙ ap (option_map (λ n. n + i)) (ap (closes quote) split ∙ front_last quote (get_or bytes i 0) n)
 
-pub closes_break : (quote : ℕ) (bytes : List ℕ) (i : ℕ) → closes quote bytes ≡ option_map (λ n. n + i) (closes quote (drop i bytes)) → i < length bytes → get_or bytes i 0 ≢ quote → get_or bytes i 0 ≢ 92
+pub closes_break : (quote : ℕ) (bytes : List ℕ) (i : ℕ)
+    → closes quote bytes ≡ option_map (λ n. n + i) (closes quote (drop i bytes)) → i < length bytes
+    → get_or bytes i 0 ≢ quote → get_or bytes i 0 ≢ 92
     → (get_or bytes i 0 == 10 || get_or bytes i 0 == 0) ≡ true → closes quote bytes ≡ None
 closes_break quote bytes i before h n b e =
     before ∙ ap (option_map (λ n. n + i)) (ap (closes quote) (drop_more bytes i 0 h) ∙ front_break quote (get_or bytes i 0) (drop (i + 1) bytes) n b e)
 
-pub closes_on : (quote : ℕ) (bytes : List ℕ) (i : ℕ) → closes quote bytes ≡ option_map (λ n. n + i) (closes quote (drop i bytes)) → i < length bytes → get_or bytes i 0 ≢ quote → get_or bytes i 0 ≢ 92
+pub closes_on : (quote : ℕ) (bytes : List ℕ) (i : ℕ)
+    → closes quote bytes ≡ option_map (λ n. n + i) (closes quote (drop i bytes)) → i < length bytes
+    → get_or bytes i 0 ≢ quote → get_or bytes i 0 ≢ 92
     → (get_or bytes i 0 == 10 || get_or bytes i 0 == 0) ≡ false → closes quote bytes ≡ option_map (λ n. n + (i + 1)) (closes quote (drop (i + 1) bytes))
 closes_on quote bytes i before h n b e =
-    before ∙ ap (option_map (λ n. n + i)) (ap (closes quote) (drop_more bytes i 0 h) ∙ front_on quote (get_or bytes i 0) (drop (i + 1) bytes) n b e) ∙ shifted (closes quote (drop (i + 1) bytes)) i 1
+    before ∙ ap (option_map (λ n. n + i)) (ap (closes quote) (drop_more bytes i 0 h)
+    ∙ front_on quote (get_or bytes i 0) (drop (i + 1) bytes) n b e)
+    ∙ shifted (closes quote (drop (i + 1) bytes)) i 1
 
-pub closes_none : (quote : ℕ) (bytes : List ℕ) (i : ℕ) → closes quote bytes ≡ option_map (λ n. n + i) (closes quote (drop i bytes)) → length bytes ≤ i → closes quote bytes ≡ None
+pub closes_none : (quote : ℕ) (bytes : List ℕ) (i : ℕ)
+    → closes quote bytes ≡ option_map (λ n. n + i) (closes quote (drop i bytes)) → length bytes ≤ i
+    → closes quote bytes ≡ None
 unfolding closes
 closes_none quote bytes i before h = before ∙ ap (λ (r : List ℕ). option_map (λ n. n + i) (closes quote r)) (drop_all i bytes h)
 

@@ -1,5 +1,6 @@
 -- What strings stand for, byte by byte.
-use Rattle.std.proofs.Common.{◌≡◌, ◌≢◌, ℕ, zero, suc, ◌+◌, ◌-◌, ◌%◌, ◌<◌, ◌≤◌, ◌==◌, true, false, ◌&&◌, inl, inr, List, [], ◌∷◌, ◌++◌, length, get_or, drop, refl, arith, ap, sym, ◌∙◌}
+use Rattle.std.proofs.Common.{◌≡◌, ◌≢◌, ℕ, zero, suc, ◌+◌, ◌-◌, ◌%◌, ◌<◌, ◌≤◌, ◌==◌, true, false, ◌&&◌, inl, inr}
+use Rattle.std.proofs.Common.{List, [], ◌∷◌, ◌++◌, length, get_or, drop, refl, arith, ap, sym, ◌∙◌}
 use Rattle.std.specs.Char.{is_digit}
 use Rattle.std.proofs.lemmas.List.{drop_more, drop_all, drop-drop, append_assoc, append-nil, length-drop}
 use Rattle.std.proofs.lemmas.List.Sums.{prefix_len-le-length}
@@ -18,12 +19,14 @@ unfolding escape_of
 escape_none [] h = refl
 escape_none (c ∷ cs) h = absurd (omega arith)
 
-pub escape_octal : (bytes : List ℕ) → 0 < length bytes → is_digit (get_or bytes 0 0) 8 ≡ true → escape_of bytes ≡ record { value = spelled 8 3 bytes % 256 ∷ []; len = few 8 3 bytes }
+pub escape_octal : (bytes : List ℕ) → 0 < length bytes → is_digit (get_or bytes 0 0) 8 ≡ true
+    → escape_of bytes ≡ record { value = spelled 8 3 bytes % 256 ∷ []; len = few 8 3 bytes }
 unfolding escape_of
 escape_octal [] h e = absurd (omega arith)
 escape_octal (c ∷ cs) h e = rw e refl
 
-pub escape_x : (bytes : List ℕ) → 0 < length bytes → get_or bytes 0 0 ≡ 120 → escape_of bytes ≡ record { value = spelled 16 2 (drop 1 bytes) % 256 ∷ []; len = few 16 2 (drop 1 bytes) + 1 }
+pub escape_x : (bytes : List ℕ) → 0 < length bytes → get_or bytes 0 0 ≡ 120
+    → escape_of bytes ≡ record { value = spelled 16 2 (drop 1 bytes) % 256 ∷ []; len = few 16 2 (drop 1 bytes) + 1 }
 unfolding escape_of
 escape_x [] h e = absurd (omega arith)
 escape_x (c ∷ cs) h e = let same : c ≡ 120 = e in rw same refl
@@ -38,7 +41,9 @@ unfolding escape_of
 escape_wide [] h e = absurd (omega arith)
 escape_wide (c ∷ cs) h e = let same : c ≡ 85 = e in rw same refl
 
-pub escape_simple : (bytes : List ℕ) → 0 < length bytes → is_digit (get_or bytes 0 0) 8 ≡ false → get_or bytes 0 0 ≢ 120 → get_or bytes 0 0 ≢ 117 → get_or bytes 0 0 ≢ 85 → escape_of bytes ≡ record { value = simple_value (get_or bytes 0 0) ∷ []; len = 1 }
+pub escape_simple : (bytes : List ℕ) → 0 < length bytes → is_digit (get_or bytes 0 0) 8 ≡ false
+    → get_or bytes 0 0 ≢ 120 → get_or bytes 0 0 ≢ 117 → get_or bytes 0 0 ≢ 85
+    → escape_of bytes ≡ record { value = simple_value (get_or bytes 0 0) ∷ []; len = 1 }
 unfolding escape_of
 escape_simple [] h d x u w = absurd (omega arith)
 escape_simple (c ∷ cs) h d x u w =
@@ -122,15 +127,25 @@ string_plain body out i h n so_far =
     so_far ∙ rw (s, drop_more body i 0 h) (ap (λ (r : List ℕ). out ++ r) (up_to_more _ _ _ n) ∙ sym (append_assoc out (get_or body i 0 ∷ []) _))
 
 pub string_escape : (body out : List ℕ) (i : ℕ) → i < length body → get_or body i 0 ≡ 92 → value_up_to (length body) body ≡ out ++ value_up_to (length body - i) (drop i body)
-    → value_up_to (length body) body ≡ (out ++ (escape_of (drop (i + 1) body)).value) ++ value_up_to (length body - (i + (1 + (escape_of (drop (i + 1) body)).len))) (drop (i + (1 + (escape_of (drop (i + 1) body)).len)) body)
+    → value_up_to (length body) body ≡ (out ++ (escape_of (drop (i + 1) body)).value)
+    ++ value_up_to (length body - (i + (1 + (escape_of (drop (i + 1) body)).len)))
+    (drop (i + (1 + (escape_of (drop (i + 1) body)).len)) body)
 string_escape body out i h n so_far =
     let s : length body - i ≡ suc (length body - (i + 1)) = omega arith in
     let rest = drop (i + 1) body in
     let len = (escape_of rest).len in
     let at : drop len rest ≡ drop (i + (1 + len)) body = drop-drop len (i + 1) body ∙ ap (λ (k : ℕ). drop k body) (let e : i + 1 + len ≡ i + (1 + len) = omega arith in e) in
     let long = length-drop (i + (1 + len)) body in
-    let fuel : value_up_to (length body - (i + 1)) (drop (i + (1 + len)) body) ≡ value_up_to (length body - (i + (1 + len))) (drop (i + (1 + len)) body) = enough _ _ _ (omega arith) (omega arith) in
-    so_far ∙ rw (s, drop_more body i 0 h) (ap (λ (r : List ℕ). out ++ r) (up_to_escape _ _ _ n) ∙ sym (append_assoc out (escape_of rest).value _) ∙ ap (λ (r : List ℕ). (out ++ (escape_of rest).value) ++ r) (ap (value_up_to (length body - (i + 1))) at ∙ fuel))
+    let fuel : value_up_to (length body - (i + 1)) (drop (i + (1 + len)) body)
+    ≡ value_up_to (length body - (i + (1 + len))) (drop (i + (1 + len)) body) =
+    enough _ _ _ (omega arith) (omega arith) in
+    so_far ∙ rw (s, drop_more body i 0 h) (ap (λ (r : List ℕ). out ++ r) (up_to_escape _ _ _ n)
+    ∙ sym (append_assoc out (escape_of rest).value _) ∙ ap (λ (r : List ℕ). (out ++ (escape_of rest).value) ++ r)
+    (ap (value_up_to (length body - (i + 1))) at ∙ fuel))
 
-pub string_done : (body out : List ℕ) (i : ℕ) → length body ≤ i → value_up_to (length body) body ≡ out ++ value_up_to (length body - i) (drop i body) → out ≡ value_up_to (length body) body
-string_done body out i h so_far = sym (so_far ∙ ap (λ (r : List ℕ). out ++ value_up_to (length body - i) r) (drop_all i body h) ∙ ap (λ (r : List ℕ). out ++ r) (up_to_none (length body - i)) ∙ append-nil out)
+pub string_done : (body out : List ℕ) (i : ℕ) → length body ≤ i
+    → value_up_to (length body) body ≡ out ++ value_up_to (length body - i) (drop i body)
+    → out ≡ value_up_to (length body) body
+string_done body out i h so_far =
+    sym (so_far ∙ ap (λ (r : List ℕ). out ++ value_up_to (length body - i) r) (drop_all i body h)
+    ∙ ap (λ (r : List ℕ). out ++ r) (up_to_none (length body - i)) ∙ append-nil out)

@@ -1,5 +1,6 @@
 -- Where a walk over blanks and comments ends, there they end.
-use Rattle.std.proofs.Common.{◌≡◌, ◌⊎◌, inl, inr, ℕ, ◌<◌, ◌≤◌, ◌==◌, Bool, true, false, not, cond, ◌&&◌, List, [], ◌∷◌, ◌++◌, length, refl, arith, sym, ◌∙◌, ap, length-append}
+use Rattle.std.proofs.Common.{◌≡◌, ◌⊎◌, inl, inr, ℕ, ◌<◌, ◌≤◌, ◌==◌, Bool, true, false, not, cond, ◌&&◌, List, []}
+use Rattle.std.proofs.Common.{◌∷◌, ◌++◌, length, refl, arith, sym, ◌∙◌, ap, length-append}
 use Rattle.std.proofs.lemmas.Bool.{eqb-true, cases_Bool, and_parts, or_parts, not-true}
 use Rattle.proto_tokens.specs.Gaps.{is_blank, begins, ends_line, has_no_line_feed, has_close, Gap, nothing, blank, line_comment, block_comment}
 use Rattle.proto_tokens.specs.Scanning.{Spot, between, slash, line, block, star, walk}
@@ -124,10 +125,12 @@ walked (block start) (c ∷ cs) = elim (cases_Bool (c == 42)) as (λ _. (walk (b
 walked (star start) [] = inl refl
 walked (star start) (c ∷ cs) = elim (cases_Bool (c == 47)) as (λ _. (walk (star start) (c ∷ cs) ≡ start) ⊎ InBlock (42 ∷ c ∷ cs) (walk (star start) (c ∷ cs))) [
   | inl e ↦ rw e (inr (record { body = []; more = cs; is = ap (λ (d : ℕ). 42 ∷ d ∷ cs) (eqb-true c 47 e); none = refl; gap = walked between cs }))
-  | inr e ↦ rw e (elim (cases_Bool (c == 42)) as (λ _. (cond (c == 42) (walk (star start) cs) (walk (block start) cs) ≡ start) ⊎ InBlock (42 ∷ c ∷ cs) (cond (c == 42) (walk (star start) cs) (walk (block start) cs))) [
-    | inl f ↦ rw f (or_map (star_more (c ∷ cs) (walk (star start) cs) e) (rw (eqb-true c 42 f) (walked (star start) cs)))
-    | inr f ↦ rw f (or_map (star_more (c ∷ cs) (walk (block start) cs) e) (or_map (block_more c cs (walk (block start) cs) f) (walked (block start) cs)))
-  ])
+  | inr e ↦ rw e (elim (cases_Bool (c == 42)) as
+      (λ _. (cond (c == 42) (walk (star start) cs) (walk (block start) cs) ≡ start)
+      ⊎ InBlock (42 ∷ c ∷ cs) (cond (c == 42) (walk (star start) cs) (walk (block start) cs))) [
+        | inl f ↦ rw f (or_map (star_more (c ∷ cs) (walk (star start) cs) e) (rw (eqb-true c 42 f) (walked (star start) cs)))
+        | inr f ↦ rw f (or_map (star_more (c ∷ cs) (walk (block start) cs) e) (or_map (block_more c cs (walk (block start) cs) f) (walked (block start) cs)))
+      ])
 ]
 
 pub walk_gap : (bytes : List ℕ) → Gap bytes (walk between bytes)

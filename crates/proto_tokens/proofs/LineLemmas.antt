@@ -1,5 +1,6 @@
 -- Line feeds: none stands in a token, and those before a place are counted piece by piece.
-use Rattle.std.proofs.Common.{◌≡◌, ◌≢◌, ◌⊎◌, inl, inr, ℕ, ◌+◌, ◌-◌, ◌≤◌, ◌==◌, Bool, true, false, not, cond, ◌&&◌, List, [], ◌∷◌, ◌++◌, codes, take, drop, refl, arith, sym, ◌∙◌, ap}
+use Rattle.std.proofs.Common.{◌≡◌, ◌≢◌, ◌⊎◌, inl, inr, ℕ, ◌+◌, ◌-◌, ◌≤◌, ◌==◌, Bool, true, false, not, cond, ◌&&◌}
+use Rattle.std.proofs.Common.{List, [], ◌∷◌, ◌++◌, codes, take, drop, refl, arith, sym, ◌∙◌, ap}
 use Rattle.std.specs.Prelude.{count_by}
 use Rattle.std.specs.List.{list_all}
 use Rattle.std.proofs.lemmas.List.{take-append-drop, take-take, drop-take}
@@ -8,7 +9,11 @@ use Rattle.std.proofs.lemmas.Bool.{ne_eqb, and_parts, and_from, not-true, not_fr
 use Rattle.std.proofs.lemmas.Bool.Decides.{nat_tests}
 use Rattle.mrpc_table.specs.Names.{is_name_start, is_name_byte, is_name_form}
 use Rattle.proto_tokens.specs.Gaps.{has_no_line_feed}
-use Rattle.proto_tokens.specs.Literals.{is_decimal_digit, is_octal_digit, is_hexadecimal_digit, IsInteger, decimal, octal, hexadecimal, is_exponent_letter, is_sign, IsExponent, unsigned, signed, IsNumber, point, fraction, exponent, is_quote, is_simple_escape, is_plain, IsBody, no_bytes, plain, simple_escape, octal_escape, hexadecimal_escape, unicode_escape, wide_escape, is_mark}
+use Rattle.proto_tokens.specs.Literals.{is_decimal_digit, is_octal_digit, is_hexadecimal_digit, IsInteger, decimal}
+use Rattle.proto_tokens.specs.Literals.{octal, hexadecimal, is_exponent_letter, is_sign, IsExponent, unsigned, signed}
+use Rattle.proto_tokens.specs.Literals.{IsNumber, point, fraction, exponent, is_quote, is_simple_escape, is_plain}
+use Rattle.proto_tokens.specs.Literals.{IsBody, no_bytes, plain, simple_escape, octal_escape, hexadecimal_escape}
+use Rattle.proto_tokens.specs.Literals.{unicode_escape, wide_escape, is_mark}
 use Rattle.proto_tokens.specs.Tokens.{Stands, identifier, integer, number, string, mark, line_at}
 use Rattle.proto_tokens.specs.declared.token.Kind.{Kind}
 use Rattle.proto_tokens.proofs.Runs.{list_all_weaker, list_all_append, one_of}
@@ -80,7 +85,9 @@ append_clean : (xs ys : List ℕ) → has_no_line_feed xs ≡ true → has_no_li
 append_clean xs ys a b = list_all_append (λ d. not (d == 10)) xs ys a b
 
 number_clean : {literal : List ℕ} → IsNumber literal → has_no_line_feed literal ≡ true
-number_clean (point whole part power is h all p) = rw is (append_clean whole (46 ∷ part ++ power) (digits_clean whole (decimal_digits whole h)) (append_clean part power (digits_clean part all) (power_clean p)))
+number_clean (point whole part power is h all p) =
+    rw is (append_clean whole (46 ∷ part ++ power) (digits_clean whole (decimal_digits whole h))
+    (append_clean part power (digits_clean part all) (power_clean p)))
 number_clean (fraction part power is some all p) = rw is (append_clean part power (digits_clean part all) (power_clean p))
 number_clean (exponent whole power is h p) = rw is (append_clean whole power (digits_clean whole (decimal_digits whole h)) (exponent_clean p))
 
@@ -118,9 +125,11 @@ clean_count (x ∷ xs) h =
 -- a front in two pieces
 front_pieces : (text : List ℕ) (n m : ℕ) → take (n + m) text ≡ take n text ++ take m (drop n text)
 front_pieces text n m =
-    sym (take-append-drop n (take (n + m) text)) ∙ ap (λ (x : List ℕ). x ++ drop n (take (n + m) text)) (take-take n (n + m) text (omega arith)) ∙ ap (λ (x : List ℕ). take n text ++ x) (drop-take n m text)
+    sym (take-append-drop n (take (n + m) text)) ∙ ap (λ (x : List ℕ). x ++ drop n (take (n + m) text))
+    (take-take n (n + m) text (omega arith)) ∙ ap (λ (x : List ℕ). take n text ++ x) (drop-take n m text)
 
-pub line_on : (text : List ℕ) (place start line : ℕ) → place ≤ start → line ≡ line_at text place → line + count_by is_feed (take (start - place) (drop place text)) ≡ line_at text start
+pub line_on : (text : List ℕ) (place start line : ℕ) → place ≤ start → line ≡ line_at text place
+    → line + count_by is_feed (take (start - place) (drop place text)) ≡ line_at text start
 line_on text place start line h e =
     let n : place + (start - place) ≡ start = omega arith in
     let split = front_pieces text place (start - place) in

@@ -1,11 +1,15 @@
 -- The next token of a text: there is one, and no other.
-use Rattle.std.proofs.Common.{subst, ◌≡◌, ◌≢◌, inl, inr, ℕ, zero, suc, ◌+◌, ◌-◌, ◌<◌, ◌≤◌, true, false, List, [], ◌∷◌, ◌++◌, length, take, drop, refl, arith, sym, ◌∙◌, ap, length-append, length-drop, length-take}
+use Rattle.std.proofs.Common.{subst, ◌≡◌, ◌≢◌, inl, inr, ℕ, zero, suc, ◌+◌, ◌-◌, ◌<◌, ◌≤◌, true, false, List, [], ◌∷◌}
+use Rattle.std.proofs.Common.{◌++◌, length, take, drop, refl, arith, sym, ◌∙◌, ap, length-append, length-drop}
+use Rattle.std.proofs.Common.{length-take}
 use Rattle.std.specs.Prelude.{Option, Some, None}
 use Rattle.std.proofs.lemmas.List.{append_assoc, take_at, drop_at, drop_all, drop-drop, take-append-drop}
 use Rattle.std.proofs.lemmas.Bool.{cases_eq, cases_Bool}
 use Rattle.proto_tokens.specs.Gaps.{Gap, nothing, blank, line_comment, block_comment}
 use Rattle.proto_tokens.specs.Scanning.{between, walk, word_at}
-use Rattle.proto_tokens.specs.Tokens.{Stands, identifier, integer, number, string, mark, IsStuck, IsHere, word, the_end, no_word, IsNext, literal_of, line_at, is_last, AreTokens, last, another}
+use Rattle.proto_tokens.specs.Tokens.{Stands, identifier, integer, number, string, mark, IsStuck, IsHere, word}
+use Rattle.proto_tokens.specs.Tokens.{the_end, no_word, IsNext, literal_of, line_at, is_last, AreTokens, last}
+use Rattle.proto_tokens.specs.Tokens.{another}
 use Rattle.proto_tokens.specs.declared.token.Kind.{Kind}
 use Rattle.proto_tokens.specs.declared.token.Kind.TheVariants.{End, Bad}
 use Rattle.proto_tokens.specs.declared.token.Token.{Token}
@@ -29,13 +33,16 @@ gap_to text place start e = subst (λ (r : List ℕ). Gap (drop place text) r) e
 still_at : (text : List ℕ) (place start : ℕ) → walk between (drop place text) ≡ drop start text → walk between (drop start text) ≡ drop start text
 still_at text place start e = ap (walk between) (sym e) ∙ walk_still (drop place text) ∙ e
 
-pub next_end : (text : List ℕ) (place start line : ℕ) → place ≤ start → start ≤ length text → walk between (drop place text) ≡ drop start text → line ≡ line_at text start → length (drop start text) ≡ 0
+pub next_end : (text : List ℕ) (place start line : ℕ) → place ≤ start → start ≤ length text
+    → walk between (drop place text) ≡ drop start text → line ≡ line_at text start → length (drop start text) ≡ 0
     → IsNext text place (record { kind = End; start = start; end = start; line = line })
 next_end text place start line behind within gap l none =
     let e : start ≡ length text = omega (arith, length-drop start text) in
     record { behind = behind; within = within; gap = gap_to text place start gap; line = l; here = the_end refl e e }
 
-pub next_bad : (text : List ℕ) (place start line : ℕ) → place ≤ start → walk between (drop place text) ≡ drop start text → line ≡ line_at text start → length (drop start text) ≢ 0 → word_at (drop start text) ≡ None
+pub next_bad : (text : List ℕ) (place start line : ℕ) → place ≤ start
+    → walk between (drop place text) ≡ drop start text → line ≡ line_at text start → length (drop start text) ≢ 0
+    → word_at (drop start text) ≡ None
     → IsNext text place (record { kind = Bad; start = start; end = start + 1; line = line })
 next_bad text place start line behind gap l some none =
     record {
@@ -46,7 +53,9 @@ next_bad text place start line behind gap l some none =
       here = no_word refl refl (stuck_at (drop start text) (still_at text place start gap) (λ e. some (ap length e)) none);
     }
 
-pub next_word : (text : List ℕ) (place start line : ℕ) (w : Word) → place ≤ start → start ≤ length text → walk between (drop place text) ≡ drop start text → line ≡ line_at text start → word_at (drop start text) ≡ Some w
+pub next_word : (text : List ℕ) (place start line : ℕ) (w : Word) → place ≤ start → start ≤ length text
+    → walk between (drop place text) ≡ drop start text → line ≡ line_at text start
+    → word_at (drop start text) ≡ Some w
     → IsNext text place (record { kind = w.kind; start = start; end = start + w.len; line = line })
 next_word text place start line w behind within gap l some =
     let f = word_stands (drop start text) w some in
@@ -85,7 +94,9 @@ same_start text place t u m n =
 literal_long : (text : List ℕ) (t : Token) → t.start ≤ t.end → t.end ≤ length text → length (literal_of text t) ≡ t.end - t.start
 literal_long text t le within = omega (arith, length-take (t.end - t.start) (drop t.start text), length-drop t.start text)
 
-here_word : (text : List ℕ) (t : Token) → t.start ≤ t.end → t.end ≤ length text → Stands t.kind (literal_of text t) (drop t.end text) → word_at (drop t.start text) ≡ Some (record { kind = t.kind; len = t.end - t.start })
+here_word : (text : List ℕ) (t : Token) → t.start ≤ t.end → t.end ≤ length text
+    → Stands t.kind (literal_of text t) (drop t.end text)
+    → word_at (drop t.start text) ≡ Some (record { kind = t.kind; len = t.end - t.start })
 here_word text t le within s = ap word_at (parts_of text t le) ∙ stands_word s ∙ ap (λ k. Some (record { kind = t.kind; len = k })) (literal_long text t le within)
 
 no_word_at_end : (bytes : List ℕ) (w : Word) → bytes ≡ [] → word_at bytes ≡ Some w → ⊥
@@ -97,7 +108,8 @@ some_word j k m n e =
     let r : ◌≡◌ {A = Word} (record { kind = j; len = m }) (record { kind = k; len = n }) = cc in
     (ap (λ (w : Word). w.kind) r, ap (λ (w : Word). w.len) r)
 
-same_here : (text : List ℕ) (t u : Token) → t.start ≡ u.start → t.end ≤ length text → u.end ≤ length text → IsHere text t → IsHere text u → (t.kind ≡ u.kind) × (t.end ≡ u.end)
+same_here : (text : List ℕ) (t u : Token) → t.start ≡ u.start → t.end ≤ length text → u.end ≤ length text
+    → IsHere text t → IsHere text u → (t.kind ≡ u.kind) × (t.end ≡ u.end)
 same_here text t u e a b (word le s) (word le' s') =
     let w = some_word _ _ _ _ (sym (here_word text t le a s) ∙ ap (λ k. word_at (drop k text)) e ∙ here_word text u le' b s') in
     (w.0, omega (arith, w.1))
@@ -113,9 +125,14 @@ same_here text t u e a b (no_word k x s) (no_word k' x' s') = (cc, omega arith)
 same_token : (t u : Token) → t.kind ≡ u.kind → t.start ≡ u.start → t.end ≡ u.end → t.line ≡ u.line → t ≡ u
 same_token t u k s e l =
     let a : t ≡ record { kind = u.kind; start = t.start; end = t.end; line = t.line } = ap (λ (x : Kind). record { kind = x; start = t.start; end = t.end; line = t.line }) k in
-    let b : ◌≡◌ {A = Token} (record { kind = u.kind; start = t.start; end = t.end; line = t.line }) (record { kind = u.kind; start = u.start; end = t.end; line = t.line }) = ap (λ (x : ℕ). record { kind = u.kind; start = x; end = t.end; line = t.line }) s in
-    let d : ◌≡◌ {A = Token} (record { kind = u.kind; start = u.start; end = t.end; line = t.line }) (record { kind = u.kind; start = u.start; end = u.end; line = t.line }) = ap (λ (x : ℕ). record { kind = u.kind; start = u.start; end = x; line = t.line }) e in
-    let f : ◌≡◌ {A = Token} (record { kind = u.kind; start = u.start; end = u.end; line = t.line }) u = ap (λ (x : ℕ). record { kind = u.kind; start = u.start; end = u.end; line = x }) l in
+    let b : ◌≡◌ {A = Token} (record { kind = u.kind; start = t.start; end = t.end; line = t.line })
+    (record { kind = u.kind; start = u.start; end = t.end; line = t.line }) =
+    ap (λ (x : ℕ). record { kind = u.kind; start = x; end = t.end; line = t.line }) s in
+    let d : ◌≡◌ {A = Token} (record { kind = u.kind; start = u.start; end = t.end; line = t.line })
+    (record { kind = u.kind; start = u.start; end = u.end; line = t.line }) =
+    ap (λ (x : ℕ). record { kind = u.kind; start = u.start; end = x; line = t.line }) e in
+    let f : ◌≡◌ {A = Token} (record { kind = u.kind; start = u.start; end = u.end; line = t.line }) u =
+    ap (λ (x : ℕ). record { kind = u.kind; start = u.start; end = u.end; line = x }) l in
     a ∙ b ∙ d ∙ f
 
 pub one_token : (text : List ℕ) (place : ℕ) (t u : Token) → IsNext text place t → IsNext text place u → t ≡ u
@@ -133,19 +150,27 @@ gap_front {rest = rest} (line_comment body more e clean ends g) =
     let f = gap_front g in
     (47 ∷ 47 ∷ body ++ f.0, e ∙ ap (λ (x : List ℕ). 47 ∷ 47 ∷ body ++ x) f.1 ∙ ap (λ (x : List ℕ). 47 ∷ 47 ∷ x) (sym (append_assoc body f.0 rest)))
 gap_front {rest = rest} (block_comment body more e none g) =
-    let f = gap_front g in
-    (47 ∷ 42 ∷ body ++ (42 ∷ 47 ∷ f.0), e ∙ ap (λ (x : List ℕ). 47 ∷ 42 ∷ body ++ 42 ∷ 47 ∷ x) f.1 ∙ ap (λ (x : List ℕ). 47 ∷ 42 ∷ x) (sym (append_assoc body (42 ∷ 47 ∷ f.0) rest)))
+    let f = gap_front g in (
+      47 ∷ 42 ∷ body ++ (42 ∷ 47 ∷ f.0),
+      e ∙ ap (λ (x : List ℕ). 47 ∷ 42 ∷ body ++ 42 ∷ 47 ∷ x) f.1
+          ∙ ap (λ (x : List ℕ). 47 ∷ 42 ∷ x) (sym (append_assoc body (42 ∷ 47 ∷ f.0) rest)),
+    )
 
 -- the place at which the walk ends
-gap_place : (text : List ℕ) (place : ℕ) → place ≤ length text → (start : ℕ) × (place ≤ start) × (start ≤ length text) × (walk between (drop place text) ≡ drop start text)
+gap_place : (text : List ℕ) (place : ℕ) → place ≤ length text → (start : ℕ) × (place ≤ start) × (start ≤ length text)
+    × (walk between (drop place text) ≡ drop start text)
 gap_place text place within =
     let f = gap_front (walk_gap (drop place text)) in
     let n = length-drop place text in
     let long : length (drop place text) ≡ length f.0 + length (walk between (drop place text)) = ap length f.1 ∙ length-append f.0 (walk between (drop place text)) in
-    let d : drop (place + length f.0) text ≡ walk between (drop place text) = sym (drop-drop (length f.0) place text) ∙ ap (λ (x : List ℕ). drop (length f.0) x) f.1 ∙ drop_at f.0 (walk between (drop place text)) (length f.0) refl in
+    let d : drop (place + length f.0) text ≡ walk between (drop place text) = sym (drop-drop (length f.0) place text)
+    ∙ ap (λ (x : List ℕ). drop (length f.0) x) f.1 ∙ drop_at f.0 (walk between (drop place text))
+    (length f.0) refl in
     (place + length f.0, omega arith, omega (arith, n, long), sym d)
 
-next_from : (text : List ℕ) (place start : ℕ) → place ≤ start → start ≤ length text → walk between (drop place text) ≡ drop start text → (o : Option Word) → word_at (drop start text) ≡ o → (t : Token) × IsNext text place t
+next_from : (text : List ℕ) (place start : ℕ) → place ≤ start → start ≤ length text
+    → walk between (drop place text) ≡ drop start text → (o : Option Word) → word_at (drop start text) ≡ o
+    → (t : Token) × IsNext text place t
 next_from text place start behind within gap o w = elim (cases_eq (length (drop start text)) 0) [
   | inl none ↦ (record { kind = End; start = start; end = start; line = line_at text start }, next_end text place start (line_at text start) behind within gap refl none)
   | inr some ↦ elim o as (λ o. word_at (drop start text) ≡ o → (t : Token) × IsNext text place t) [
@@ -187,8 +212,12 @@ keeps_line text place t n going =
 
 same_lists : {text : List ℕ} {place : ℕ} {ts us : List Token} → AreTokens text place ts → AreTokens text place us → ts ≡ us
 same_lists {text = text} {place = place} (last t e n l) (last u f m k) = e ∙ ap (λ (x : Token). x ∷ []) (one_token text place t u n m) ∙ sym f
-same_lists {text = text} {place = place} (last t e n l) (another u us f m k r) = absurd (let b : true ≡ false = sym l ∙ ap (λ (x : Token). is_last x.kind) (one_token text place t u n m) ∙ k in cc)
-same_lists {text = text} {place = place} (another t ts e n l q) (last u f m k) = absurd (let b : true ≡ false = sym k ∙ ap (λ (x : Token). is_last x.kind) (one_token text place u t m n) ∙ l in cc)
+same_lists {text = text} {place = place} (last t e n l) (another u us f m k r) =
+    absurd (let b : true ≡ false = sym l ∙ ap (λ (x : Token). is_last x.kind) (one_token text place t u n m) ∙ k in
+    cc)
+same_lists {text = text} {place = place} (another t ts e n l q) (last u f m k) =
+    absurd (let b : true ≡ false = sym k ∙ ap (λ (x : Token). is_last x.kind) (one_token text place u t m n) ∙ l in
+    cc)
 same_lists {text = text} {place = place} (another t ts e n l q) (another u us f m k r) =
     let same = one_token text place t u n m in
     let r' : AreTokens text t.end us = subst (λ (x : Token). AreTokens text x.end us) (sym same) r in

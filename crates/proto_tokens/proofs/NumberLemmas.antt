@@ -1,16 +1,22 @@
 -- Numbers: what stands at the front of bytes is a number exactly where one is read.
-use Rattle.std.proofs.Common.{subst, ◌≡◌, ◌⊎◌, inl, inr, ℕ, ◌+◌, ◌<◌, ◌≤◌, ◌==◌, Bool, true, false, not, ◌&&◌, ◌||◌, List, [], ◌∷◌, ◌++◌, length, take, drop, refl, arith, sym, ◌∙◌, ap, length-append}
+use Rattle.std.proofs.Common.{subst, ◌≡◌, ◌⊎◌, inl, inr, ℕ, ◌+◌, ◌<◌, ◌≤◌, ◌==◌, Bool, true, false, not, ◌&&◌, ◌||◌}
+use Rattle.std.proofs.Common.{List, [], ◌∷◌, ◌++◌, length, take, drop, refl, arith, sym, ◌∙◌, ap, length-append}
 use Rattle.std.specs.Prelude.{Option, Some, None}
 use Rattle.std.specs.List.{list_all, prefix_len}
 use Rattle.std.specs.Char.{is_ascii_digit}
 use Rattle.std.specs.Str.Parse.{digits_value}
 use Rattle.std.proofs.lemmas.List.{append_assoc, take_at, drop_at}
-use Rattle.std.proofs.lemmas.Bool.{eq-eqb, ne_eqb, eqb-true, cases_Bool, cases_eq, and_parts, and_from, and_left, and_right, or_cases, or_from, or_left, or_right, not-true, not_from_false, le-leb}
+use Rattle.std.proofs.lemmas.Bool.{eq-eqb, ne_eqb, eqb-true, cases_Bool, cases_eq, and_parts, and_from, and_left}
+use Rattle.std.proofs.lemmas.Bool.{and_right, or_cases, or_from, or_left, or_right, not-true, not_from_false, le-leb}
 use Rattle.std.proofs.lemmas.Bool.Decides.{nat_tests}
 use Rattle.mrpc_table.specs.Lines.{is_decimal, in_64_bits}
 use Rattle.proto_tokens.specs.Gaps.{begins}
-use Rattle.proto_tokens.specs.Literals.{is_decimal_digit, is_octal_digit, is_hexadecimal_digit, is_some, IsInteger, decimal, octal, hexadecimal, is_exponent_letter, is_sign, IsExponent, unsigned, signed, IsNumber, point, fraction, exponent, is_glue}
-use Rattle.proto_tokens.specs.Scanning.{integer_of, hexadecimal_behind, octal_behind, fraction_len, unless_none, exponent_len, decimal_of, decimal_at, is_hexadecimal, unsplit_number_at, if_split, number_at}
+use Rattle.proto_tokens.specs.Literals.{is_decimal_digit, is_octal_digit, is_hexadecimal_digit, is_some, IsInteger}
+use Rattle.proto_tokens.specs.Literals.{decimal, octal, hexadecimal, is_exponent_letter, is_sign, IsExponent}
+use Rattle.proto_tokens.specs.Literals.{unsigned, signed, IsNumber, point, fraction, exponent, is_glue}
+use Rattle.proto_tokens.specs.Scanning.{integer_of, hexadecimal_behind, octal_behind, fraction_len, unless_none}
+use Rattle.proto_tokens.specs.Scanning.{exponent_len, decimal_of, decimal_at, is_hexadecimal, unsplit_number_at}
+use Rattle.proto_tokens.specs.Scanning.{if_split, number_at}
 use Rattle.proto_tokens.specs.declared.token.Kind.{Kind}
 use Rattle.proto_tokens.specs.declared.token.Kind.TheVariants.{Integer, Number}
 use Rattle.proto_tokens.specs.declared.word.Word.{Word}
@@ -97,7 +103,9 @@ exponent_none [] h = refl
 exponent_none (c ∷ []) h = refl
 exponent_none (c ∷ d ∷ ds) h = rw h refl
 
-exponent_unsigned : (e : ℕ) (ds rest : List ℕ) → is_exponent_letter e ≡ true → is_some ds ≡ true → list_all is_decimal_digit ds ≡ true → begins is_decimal_digit rest ≡ false → exponent_len (e ∷ ds ++ rest) ≡ length (e ∷ ds)
+exponent_unsigned : (e : ℕ) (ds rest : List ℕ) → is_exponent_letter e ≡ true → is_some ds ≡ true
+    → list_all is_decimal_digit ds ≡ true → begins is_decimal_digit rest ≡ false
+    → exponent_len (e ∷ ds ++ rest) ≡ length (e ∷ ds)
 exponent_unsigned e [] rest h some all stops = absurd (let t : false ≡ true = some in cc)
 exponent_unsigned e (d ∷ ds) rest h some all stops =
     let first = (and_parts (is_decimal_digit d) (list_all is_decimal_digit ds) all).0 in
@@ -105,7 +113,9 @@ exponent_unsigned e (d ∷ ds) rest h some all stops =
     let n : length (d ∷ ds) + 1 ≡ length (e ∷ d ∷ ds) = omega arith in
     rw (h, digit_no_sign d first) (ap (unless_none 1) run ∙ unless_some 1 (length (d ∷ ds)) (omega arith) ∙ n)
 
-exponent_signed : (e s : ℕ) (ds rest : List ℕ) → is_exponent_letter e ≡ true → is_sign s ≡ true → is_some ds ≡ true → list_all is_decimal_digit ds ≡ true → begins is_decimal_digit rest ≡ false → exponent_len (e ∷ s ∷ ds ++ rest) ≡ length (e ∷ s ∷ ds)
+exponent_signed : (e s : ℕ) (ds rest : List ℕ) → is_exponent_letter e ≡ true → is_sign s ≡ true → is_some ds ≡ true
+    → list_all is_decimal_digit ds ≡ true → begins is_decimal_digit rest ≡ false
+    → exponent_len (e ∷ s ∷ ds ++ rest) ≡ length (e ∷ s ∷ ds)
 exponent_signed e s ds rest h sign some all stops =
     let run = run_len is_decimal_digit ds rest all stops in
     let n : length ds + 2 ≡ length (e ∷ s ∷ ds) = omega arith in
@@ -126,7 +136,8 @@ no_power rest stops = record {
   no_x = begins_weaker is_x is_glue x_glue rest stops;
 }
 
-power_unsigned : (e : ℕ) (ds rest : List ℕ) → is_exponent_letter e ≡ true → is_some ds ≡ true → list_all is_decimal_digit ds ≡ true → begins is_glue rest ≡ false → Power (e ∷ ds) rest
+power_unsigned : (e : ℕ) (ds rest : List ℕ) → is_exponent_letter e ≡ true → is_some ds ≡ true
+    → list_all is_decimal_digit ds ≡ true → begins is_glue rest ≡ false → Power (e ∷ ds) rest
 power_unsigned e ds rest h some all stops = record {
   long = exponent_unsigned e ds rest h some all (begins_weaker is_decimal_digit is_glue digit_glue rest stops);
   no_digit = letter_no_digit e h;
@@ -134,7 +145,8 @@ power_unsigned e ds rest h some all stops = record {
   no_x = letter_no_x e h;
 }
 
-power_signed : (e s : ℕ) (ds rest : List ℕ) → is_exponent_letter e ≡ true → is_sign s ≡ true → is_some ds ≡ true → list_all is_decimal_digit ds ≡ true → begins is_glue rest ≡ false → Power (e ∷ s ∷ ds) rest
+power_signed : (e s : ℕ) (ds rest : List ℕ) → is_exponent_letter e ≡ true → is_sign s ≡ true → is_some ds ≡ true
+    → list_all is_decimal_digit ds ≡ true → begins is_glue rest ≡ false → Power (e ∷ s ∷ ds) rest
 power_signed e s ds rest h sign some all stops = record {
   long = exponent_signed e s ds rest h sign some all (begins_weaker is_decimal_digit is_glue digit_glue rest stops);
   no_digit = letter_no_digit e h;
@@ -152,7 +164,9 @@ a_power rest (inr h) stops = some_power rest h stops
 
 -- ---- decimal numbers, by their parts
 
-decimal_at_parts : (whole part tail : List ℕ) (p : ℕ) → list_all is_decimal_digit whole ≡ true → begins is_decimal_digit (part ++ tail) ≡ false → fraction_len (part ++ tail) ≡ length part → exponent_len tail ≡ p
+decimal_at_parts : (whole part tail : List ℕ) (p : ℕ) → list_all is_decimal_digit whole ≡ true
+    → begins is_decimal_digit (part ++ tail) ≡ false → fraction_len (part ++ tail) ≡ length part
+    → exponent_len tail ≡ p
     → decimal_at (whole ++ (part ++ tail)) ≡ decimal_of (whole ++ (part ++ tail)) (length whole) (length part) p
 decimal_at_parts whole part tail p all stops f e =
     let run = run_len is_decimal_digit whole (part ++ tail) all stops in
@@ -169,7 +183,8 @@ decimal_long [] h = absurd (let t : false ≡ true = h in cc)
 decimal_long (c ∷ cs) h = omega arith
 
 -- a number that begins with decimal digits, without a leading zero, is read as a decimal one
-unsplit_decimal : (whole tail : List ℕ) → is_decimal whole ≡ true → begins is_decimal_digit tail ≡ false → begins is_x tail ≡ false → unsplit_number_at (whole ++ tail) ≡ Some (decimal_at (whole ++ tail))
+unsplit_decimal : (whole tail : List ℕ) → is_decimal whole ≡ true → begins is_decimal_digit tail ≡ false
+    → begins is_x tail ≡ false → unsplit_number_at (whole ++ tail) ≡ Some (decimal_at (whole ++ tail))
 unsplit_decimal [] tail h digit x = absurd (let t : false ≡ true = h in cc)
 unsplit_decimal (c ∷ []) [] h digit x = refl
 unsplit_decimal (c ∷ []) (t ∷ ts) h digit x =
@@ -187,7 +202,8 @@ unsplit_decimal (c ∷ d ∷ ds) tail h digit x =
     rw (a, b) refl
 
 -- a number is read where nothing is glued to it
-split_ok : (literal rest : List ℕ) (w : Word) → unsplit_number_at (literal ++ rest) ≡ Some w → w.len ≡ length literal → begins is_glue rest ≡ false → number_at (literal ++ rest) ≡ Some w
+split_ok : (literal rest : List ℕ) (w : Word) → unsplit_number_at (literal ++ rest) ≡ Some w → w.len ≡ length literal
+    → begins is_glue rest ≡ false → number_at (literal ++ rest) ≡ Some w
 unfolding number_at
 split_ok literal rest w e long stops =
     let d : drop w.len (literal ++ rest) ≡ rest = drop_at literal rest w.len (sym long) in
@@ -208,7 +224,11 @@ no_fraction (c ∷ cs) h = rw h refl
 
 -- ---- integers are read
 
-read_decimal : (literal rest : List ℕ) → is_decimal literal ≡ true → begins is_glue rest ≡ false → number_at (literal ++ rest) ≡ Some (record { kind = Integer (in_64_bits (digits_value 10 literal)); len = length literal })
+read_decimal : (literal rest : List ℕ) → is_decimal literal ≡ true → begins is_glue rest ≡ false
+    → number_at (literal ++ rest) ≡ Some (record {
+      kind = Integer (in_64_bits (digits_value 10 literal));
+      len = length literal;
+    })
 read_decimal literal rest h stops =
     let p = no_power rest stops in
     let f : fraction_len rest ≡ 0 = no_fraction rest p.no_point in
@@ -216,27 +236,45 @@ read_decimal literal rest h stops =
     let t : take (length literal) (literal ++ rest) ≡ literal = take_at literal rest (length literal) refl in
     split_ok literal rest _ (unsplit_decimal literal rest h p.no_digit p.no_x ∙ ap Some at ∙ rw t refl) refl stops
 
-integer_of_run : (base : ℕ) (ds rest : List ℕ) (before n : ℕ) → n ≡ length ds → is_some ds ≡ true → integer_of base (ds ++ rest) before n ≡ Some (record { kind = Integer (in_64_bits (digits_value base ds)); len = length ds + before })
+integer_of_run : (base : ℕ) (ds rest : List ℕ) (before n : ℕ) → n ≡ length ds → is_some ds ≡ true
+    → integer_of base (ds ++ rest) before n ≡ Some (record {
+      kind = Integer (in_64_bits (digits_value base ds));
+      len = length ds + before;
+    })
 integer_of_run base ds rest before n e some =
     let z : (length ds == 0) ≡ false = ne_eqb (length ds) 0 (λ q. let l = some_long ds some in omega arith) in
     let t : take (length ds) (ds ++ rest) ≡ ds = take_at ds rest (length ds) refl in
     rw (e, z, t) refl
 
-read_hexadecimal : (x : ℕ) (ds rest : List ℕ) → is_x x ≡ true → is_some ds ≡ true → list_all is_hexadecimal_digit ds ≡ true → begins is_glue rest ≡ false → number_at (48 ∷ x ∷ ds ++ rest) ≡ Some (record { kind = Integer (in_64_bits (digits_value 16 ds)); len = length (48 ∷ x ∷ ds) })
+read_hexadecimal : (x : ℕ) (ds rest : List ℕ) → is_x x ≡ true → is_some ds ≡ true
+    → list_all is_hexadecimal_digit ds ≡ true → begins is_glue rest ≡ false
+    → number_at (48 ∷ x ∷ ds ++ rest) ≡ Some (record {
+      kind = Integer (in_64_bits (digits_value 16 ds));
+      len = length (48 ∷ x ∷ ds);
+    })
 read_hexadecimal x ds rest h some all stops =
     let run = run_len is_hexadecimal_digit ds rest all (begins_weaker is_hexadecimal_digit is_glue hexadecimal_glue rest stops) in
     let n : length ds + 2 ≡ length (48 ∷ x ∷ ds) = omega arith in
     split_ok (48 ∷ x ∷ ds) rest _ (rw h (integer_of_run 16 ds rest 2 (prefix_len is_hexadecimal_digit (ds ++ rest)) run some ∙ word_is _ _ _ n)) refl stops
 
-read_octal : (ds rest : List ℕ) → is_some ds ≡ true → list_all is_octal_digit ds ≡ true → begins is_glue rest ≡ false → number_at (48 ∷ ds ++ rest) ≡ Some (record { kind = Integer (in_64_bits (digits_value 8 ds)); len = length (48 ∷ ds) })
+read_octal : (ds rest : List ℕ) → is_some ds ≡ true → list_all is_octal_digit ds ≡ true → begins is_glue rest ≡ false
+    → number_at (48 ∷ ds ++ rest) ≡ Some (record {
+      kind = Integer (in_64_bits (digits_value 8 ds));
+      len = length (48 ∷ ds);
+    })
 read_octal [] rest some all stops = absurd (let t : false ≡ true = some in cc)
 read_octal (d ∷ ds) rest some all stops =
     let digit = octal_digit d (and_parts (is_octal_digit d) (list_all is_octal_digit ds) all).0 in
     let run = run_len is_octal_digit (d ∷ ds) rest all (begins_weaker is_octal_digit is_glue octal_glue rest stops) in
     let n : length (d ∷ ds) + 1 ≡ length (48 ∷ d ∷ ds) = omega arith in
-    split_ok (48 ∷ d ∷ ds) rest _ (rw (digit_no_x d digit, digit) (integer_of_run 8 (d ∷ ds) rest 1 (prefix_len is_octal_digit (d ∷ ds ++ rest)) run some ∙ word_is _ _ _ n)) refl stops
+    split_ok (48 ∷ d ∷ ds) rest _
+    (rw (digit_no_x d digit, digit)
+    (integer_of_run 8 (d ∷ ds) rest 1 (prefix_len is_octal_digit (d ∷ ds ++ rest)) run some ∙ word_is _ _ _ n))
+    refl stops
 
-pub read_integer : {literal : List ℕ} {value : ℕ} (rest : List ℕ) → IsInteger literal value → begins is_glue rest ≡ false → number_at (literal ++ rest) ≡ Some (record { kind = Integer (in_64_bits value); len = length literal })
+pub read_integer : {literal : List ℕ} {value : ℕ} (rest : List ℕ) → IsInteger literal value
+    → begins is_glue rest ≡ false
+    → number_at (literal ++ rest) ≡ Some (record { kind = Integer (in_64_bits value); len = length literal })
 read_integer rest (decimal h v) stops = rw v (read_decimal _ rest h stops)
 read_integer rest (octal ds is some all v) stops = rw (is, v) (read_octal ds rest some all stops)
 read_integer rest (hexadecimal x ds is x_is some all v) stops =
@@ -257,8 +295,10 @@ point_len part tail all stops =
     let n : length part + 1 ≡ length (46 ∷ part) = omega arith in
     ap (λ k. k + 1) run ∙ n
 
-read_parts : (whole part power rest : List ℕ) → unsplit_number_at (whole ++ (part ++ (power ++ rest))) ≡ Some (decimal_at (whole ++ (part ++ (power ++ rest)))) → list_all is_decimal_digit whole ≡ true
-    → begins is_decimal_digit (part ++ (power ++ rest)) ≡ false → fraction_len (part ++ (power ++ rest)) ≡ length part → exponent_len (power ++ rest) ≡ length power → 0 < length part + length power → begins is_glue rest ≡ false
+read_parts : (whole part power rest : List ℕ) → unsplit_number_at (whole ++ (part ++ (power ++ rest)))
+    ≡ Some (decimal_at (whole ++ (part ++ (power ++ rest)))) → list_all is_decimal_digit whole ≡ true
+    → begins is_decimal_digit (part ++ (power ++ rest)) ≡ false → fraction_len (part ++ (power ++ rest)) ≡ length part
+    → exponent_len (power ++ rest) ≡ length power → 0 < length part + length power → begins is_glue rest ≡ false
     → number_at (whole ++ (part ++ power) ++ rest) ≡ Some (record { kind = Number; len = length (whole ++ (part ++ power)) })
 read_parts whole part power rest shape all stops f e some glue =
     let at = decimal_at_parts whole part (power ++ rest) (length power) all stops f e in
@@ -269,7 +309,8 @@ read_parts whole part power rest shape all stops f e some glue =
 read_point : (whole part power rest : List ℕ) → is_decimal whole ≡ true → list_all is_decimal_digit part ≡ true → Power power rest → begins is_glue rest ≡ false
     → number_at (whole ++ (46 ∷ part ++ power) ++ rest) ≡ Some (record { kind = Number; len = length (whole ++ (46 ∷ part ++ power)) })
 read_point whole part power rest h all p stops =
-    read_parts whole (46 ∷ part) power rest (unsplit_decimal whole (46 ∷ part ++ (power ++ rest)) h refl refl) (decimal_digits whole h) refl (point_len part (power ++ rest) all p.no_digit) p.long (omega arith) stops
+    read_parts whole (46 ∷ part) power rest (unsplit_decimal whole (46 ∷ part ++ (power ++ rest)) h refl refl)
+    (decimal_digits whole h) refl (point_len part (power ++ rest) all p.no_digit) p.long (omega arith) stops
 
 fraction_shape : (part tail : List ℕ) → is_some part ≡ true → unsplit_number_at (46 ∷ part ++ tail) ≡ Some (decimal_at (46 ∷ part ++ tail))
 fraction_shape [] tail some = absurd (let t : false ≡ true = some in cc)
@@ -283,13 +324,15 @@ read_fraction part power rest some all p stops =
 read_exponent : (whole power rest : List ℕ) → is_decimal whole ≡ true → 0 < length power → Power power rest → begins is_glue rest ≡ false
     → number_at (whole ++ power ++ rest) ≡ Some (record { kind = Number; len = length (whole ++ power) })
 read_exponent whole power rest h some p stops =
-    read_parts whole [] power rest (unsplit_decimal whole (power ++ rest) h p.no_digit p.no_x) (decimal_digits whole h) p.no_digit (no_fraction (power ++ rest) p.no_point) p.long (omega arith) stops
+    read_parts whole [] power rest (unsplit_decimal whole (power ++ rest) h p.no_digit p.no_x)
+    (decimal_digits whole h) p.no_digit (no_fraction (power ++ rest) p.no_point) p.long (omega arith) stops
 
 exponent_long : {power : List ℕ} → IsExponent power → 0 < length power
 exponent_long (unsigned e ds is h some all) = omega (arith, ap length is)
 exponent_long (signed e s ds is h sign some all) = omega (arith, ap length is)
 
-pub read_number : {literal : List ℕ} (rest : List ℕ) → IsNumber literal → begins is_glue rest ≡ false → number_at (literal ++ rest) ≡ Some (record { kind = Number; len = length literal })
+pub read_number : {literal : List ℕ} (rest : List ℕ) → IsNumber literal → begins is_glue rest ≡ false
+    → number_at (literal ++ rest) ≡ Some (record { kind = Number; len = length literal })
 read_number rest (point whole part power is h all p) stops = rw is (read_point whole part power rest h all (a_power rest p stops) stops)
 read_number rest (fraction part power is some all p) stops = rw is (read_fraction part power rest some all (a_power rest p stops) stops)
 read_number rest (exponent whole power is h p) stops = rw is (read_exponent whole power rest h (exponent_long p) (some_power rest p stops) stops)
@@ -308,7 +351,9 @@ none_some x o a b = cc
 
 -- digits of a base at the front, behind other bytes
 integer_front : (base : ℕ) (p : ℕ → Bool) (bytes : List ℕ) (before : ℕ) (w : Word) → integer_of base bytes before (prefix_len p bytes) ≡ Some w
-    → (digits rest : List ℕ) × (bytes ≡ digits ++ rest) × (w.len ≡ length digits + before) × (w.kind ≡ Integer (in_64_bits (digits_value base digits))) × (is_some digits ≡ true) × (list_all p digits ≡ true)
+    → (digits rest : List ℕ) × (bytes ≡ digits ++ rest) × (w.len ≡ length digits + before)
+    × (w.kind ≡ Integer (in_64_bits (digits_value base digits))) × (is_some digits ≡ true)
+    × (list_all p digits ≡ true)
 integer_front base p bytes before w e =
     let r = run_of p bytes in
     let t : take (length r.front) bytes ≡ r.front = ap (λ (x : List ℕ). take (length r.front) x) r.is ∙ take_at r.front r.rest (length r.front) refl in
@@ -316,7 +361,11 @@ integer_front base p bytes before w e =
       | inl z ↦ absurd (none_some w _ (let n : (prefix_len p bytes == 0) ≡ true = eq-eqb _ _ (sym r.long ∙ z) in rw n refl) e)
       | inr n ↦
           let b : (length r.front == 0) ≡ false = ne_eqb _ _ n in
-          let is : ◌≡◌ {A = Option Word} (Some (record { kind = Integer (in_64_bits (digits_value base r.front)); len = length r.front + before })) (Some w) = sym (rw (← r.long, b, t) refl) ∙ e in
+          let is : ◌≡◌ {A = Option Word}
+          (Some (record {
+            kind = Integer (in_64_bits (digits_value base r.front));
+            len = length r.front + before;
+          })) (Some w) = sym (rw (← r.long, b, t) refl) ∙ e in
           (r.front, r.rest, r.is, cc, cc, long_some r.front (omega arith), r.all)
     ]
 
@@ -379,7 +428,8 @@ record Fraction_front (bytes : List ℕ) : Type 0 where
   pub long : fraction_len bytes ≡ length part
   pub what : (part ≡ []) ⊎ ((digits : List ℕ) × (part ≡ 46 ∷ digits) × (list_all is_decimal_digit digits ≡ true))
   -- digits behind a point are some
-  pub some : (cs : List ℕ) → bytes ≡ 46 ∷ cs → begins is_decimal_digit cs ≡ true → (digits : List ℕ) × (part ≡ 46 ∷ digits) × (list_all is_decimal_digit digits ≡ true) × (is_some digits ≡ true)
+  pub some : (cs : List ℕ) → bytes ≡ 46 ∷ cs → begins is_decimal_digit cs ≡ true
+      → (digits : List ℕ) × (part ≡ 46 ∷ digits) × (list_all is_decimal_digit digits ≡ true) × (is_some digits ≡ true)
 
 run_some : (p : ℕ → Bool) (cs : List ℕ) → begins p cs ≡ true → (r : Run p cs) → is_some r.front ≡ true
 run_some p [] b r = absurd (let t : false ≡ true = b in cc)
@@ -423,11 +473,14 @@ fraction_front (c ∷ cs) = elim (cases_Bool (c == 46)) [
 abbrev pub Leads : ℕ → List ℕ → Type 0
 Leads c cs = ((is_decimal_digit c ≡ true) × (c ≡ 48 → begins is_decimal_digit cs ≡ false)) ⊎ ((c ≡ 46) × (begins is_decimal_digit cs ≡ true))
 
-whole_decimal : (c : ℕ) (ws tail : List ℕ) → list_all is_decimal_digit (c ∷ ws) ≡ true → (c ≡ 48 → begins is_decimal_digit (ws ++ tail) ≡ false) → is_decimal (c ∷ ws) ≡ true
+whole_decimal : (c : ℕ) (ws tail : List ℕ) → list_all is_decimal_digit (c ∷ ws) ≡ true
+    → (c ≡ 48 → begins is_decimal_digit (ws ++ tail) ≡ false) → is_decimal (c ∷ ws) ≡ true
 whole_decimal c [] tail all zero = and_from _ _ (list_all_weaker is_decimal_digit is_ascii_digit digit_ascii (c ∷ []) all) (or_right _ _ refl)
 whole_decimal c (d ∷ ds) tail all zero =
     let lead : (c == 48) ≡ false = elim (cases_eq c 48) [
-      | inl e ↦ absurd (let t : true ≡ false = sym (and_parts (is_decimal_digit d) (list_all is_decimal_digit ds) (and_parts (is_decimal_digit c) (list_all is_decimal_digit (d ∷ ds)) all).1).0 ∙ zero e in cc)
+      | inl e ↦ absurd (let t : true ≡ false =
+          sym (and_parts (is_decimal_digit d) (list_all is_decimal_digit ds)
+          (and_parts (is_decimal_digit c) (list_all is_decimal_digit (d ∷ ds)) all).1).0 ∙ zero e in cc)
       | inr n ↦ ne_eqb c 48 n
     ] in
     and_from _ _ (list_all_weaker is_decimal_digit is_ascii_digit digit_ascii (c ∷ d ∷ ds) all) (or_left _ _ (not_from_false _ lead))
@@ -442,13 +495,20 @@ record Parts (bytes : List ℕ) : Type 0 where
   pub at : decimal_at bytes ≡ decimal_of bytes (length whole) (length part) (length power)
   pub part_is : (part ≡ []) ⊎ ((digits : List ℕ) × (part ≡ 46 ∷ digits) × (list_all is_decimal_digit digits ≡ true))
   pub power_is : (power ≡ []) ⊎ IsExponent power
-  pub whole_is : (is_decimal whole ≡ true) ⊎ ((whole ≡ []) × ((digits : List ℕ) × (part ≡ 46 ∷ digits) × (list_all is_decimal_digit digits ≡ true) × (is_some digits ≡ true)))
+  pub whole_is : (is_decimal whole ≡ true)
+      ⊎ ((whole ≡ []) × ((digits : List ℕ) × (part ≡ 46 ∷ digits) × (list_all is_decimal_digit digits ≡ true)
+      × (is_some digits ≡ true)))
 
 whole_part : (c : ℕ) (cs : List ℕ) → Leads c cs → (r : Run is_decimal_digit (c ∷ cs)) (f : Fraction_front r.rest)
-    → (is_decimal r.front ≡ true) ⊎ ((r.front ≡ []) × ((digits : List ℕ) × (f.part ≡ 46 ∷ digits) × (list_all is_decimal_digit digits ≡ true) × (is_some digits ≡ true)))
+    → (is_decimal r.front ≡ true)
+    ⊎ ((r.front ≡ []) × ((digits : List ℕ) × (f.part ≡ 46 ∷ digits) × (list_all is_decimal_digit digits ≡ true)
+    × (is_some digits ≡ true)))
 whole_part c cs (inl (digit, zero)) r f =
     let n : prefix_len is_decimal_digit (c ∷ cs) ≡ 1 + prefix_len is_decimal_digit cs = rw digit refl in
-    elim r.front as (λ w. w ≡ r.front → (is_decimal w ≡ true) ⊎ ((w ≡ []) × ((digits : List ℕ) × (f.part ≡ 46 ∷ digits) × (list_all is_decimal_digit digits ≡ true) × (is_some digits ≡ true)))) [
+    elim r.front as (λ w. w ≡ r.front
+    → (is_decimal w ≡ true)
+    ⊎ ((w ≡ []) × ((digits : List ℕ) × (f.part ≡ 46 ∷ digits) × (list_all is_decimal_digit digits ≡ true)
+    × (is_some digits ≡ true)))) [
       | [] ↦ λ e. absurd (omega (arith, n, r.long, ap length e))
       | d ∷ ds ↦ λ e.
           let is : c ∷ cs ≡ d ∷ ds ++ r.rest = r.is ∙ ap (λ (x : List ℕ). x ++ r.rest) (sym e) in
@@ -458,7 +518,10 @@ whole_part c cs (inl (digit, zero)) r f =
     ] refl
 whole_part c cs (inr (point_is, some)) r f =
     let n : prefix_len is_decimal_digit (c ∷ cs) ≡ 0 = rw point_is refl in
-    elim r.front as (λ w. w ≡ r.front → (is_decimal w ≡ true) ⊎ ((w ≡ []) × ((digits : List ℕ) × (f.part ≡ 46 ∷ digits) × (list_all is_decimal_digit digits ≡ true) × (is_some digits ≡ true)))) [
+    elim r.front as (λ w. w ≡ r.front
+    → (is_decimal w ≡ true)
+    ⊎ ((w ≡ []) × ((digits : List ℕ) × (f.part ≡ 46 ∷ digits) × (list_all is_decimal_digit digits ≡ true)
+    × (is_some digits ≡ true)))) [
       | [] ↦ λ e. inr (refl, f.some cs (sym (r.is ∙ ap (λ (x : List ℕ). x ++ r.rest) (sym e)) ∙ ap (λ (d : ℕ). d ∷ cs) point_is) some)
       | d ∷ ds ↦ λ e. absurd (omega (arith, n, r.long, ap length e))
     ] refl
@@ -479,7 +542,8 @@ parts_of c cs leads =
       power = p.power;
       rest = p.rest;
       is = is;
-      at = ap decimal_at is ∙ decimal_at_parts r.front f.part (p.power ++ p.rest) (length p.power) r.all stops len up ∙ sym (ap (λ (x : List ℕ). decimal_of x (length r.front) (length f.part) (length p.power)) is);
+      at = ap decimal_at is ∙ decimal_at_parts r.front f.part (p.power ++ p.rest) (length p.power) r.all stops len up
+          ∙ sym (ap (λ (x : List ℕ). decimal_of x (length r.front) (length f.part) (length p.power)) is);
       part_is = f.what;
       power_is = p.what;
       whole_is = whole_part c cs leads r f;
@@ -487,7 +551,9 @@ parts_of c cs leads =
 
 -- ---- the front of a decimal number
 
-number_parts : (whole part power : List ℕ) → (part ≡ []) ⊎ ((digits : List ℕ) × (part ≡ 46 ∷ digits) × (list_all is_decimal_digit digits ≡ true)) → (power ≡ []) ⊎ IsExponent power
+number_parts : (whole part power : List ℕ)
+    → (part ≡ []) ⊎ ((digits : List ℕ) × (part ≡ 46 ∷ digits) × (list_all is_decimal_digit digits ≡ true))
+    → (power ≡ []) ⊎ IsExponent power
     → (is_decimal whole ≡ true) ⊎ ((whole ≡ []) × ((digits : List ℕ) × (part ≡ 46 ∷ digits) × (list_all is_decimal_digit digits ≡ true) × (is_some digits ≡ true)))
     → ((part ≡ []) × (power ≡ []) × (is_decimal whole ≡ true)) ⊎ ((0 < length part + length power) × IsNumber (whole ++ (part ++ power)))
 number_parts whole part power f p (inr (none, (digits, is, all, some))) =
@@ -512,7 +578,11 @@ decimal_front c cs leads =
             what = inl (digits_value 10 p.whole, ap (λ (u : Word). u.kind) at ∙ ap (λ (x : List ℕ). Integer (in_64_bits (digits_value 10 x))) t, decimal w refl);
           }
       | inr (some, n) ↦
-          let at : decimal_at (c ∷ cs) ≡ record { kind = Number; len = (length p.whole + length p.part) + length p.power } = p.at ∙ number_of_parts (c ∷ cs) (length p.whole) (length p.part) (length p.power) some in
+          let at : decimal_at (c ∷ cs) ≡ record {
+            kind = Number;
+            len = (length p.whole + length p.part) + length p.power;
+          } =
+          p.at ∙ number_of_parts (c ∷ cs) (length p.whole) (length p.part) (length p.power) some in
           record {
             literal = p.whole ++ (p.part ++ p.power);
             rest = p.rest;

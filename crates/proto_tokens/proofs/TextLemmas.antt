@@ -1,9 +1,14 @@
 -- Strings: what stands up to the closing quote is the body of a string.
-use Rattle.std.proofs.Common.{◌≡◌, ◌≢◌, ◌⊎◌, inl, inr, ℕ, ◌+◌, ◌≤◌, ◌==◌, Bool, true, false, not, ◌&&◌, ◌||◌, List, [], ◌∷◌, ◌++◌, length, refl, arith, sym, ◌∙◌, ap, nat_le}
+use Rattle.std.proofs.Common.{◌≡◌, ◌≢◌, ◌⊎◌, inl, inr, ℕ, ◌+◌, ◌≤◌, ◌==◌, Bool, true, false, not, ◌&&◌, ◌||◌, List}
+use Rattle.std.proofs.Common.{[], ◌∷◌, ◌++◌, length, refl, arith, sym, ◌∙◌, ap, nat_le}
 use Rattle.std.specs.Prelude.{Option, Some, None, option_map}
 use Rattle.std.specs.List.{prefix_len}
-use Rattle.std.proofs.lemmas.Bool.{eq-eqb, ne_eqb, eqb-true, eqb-false, cases_eq, cases_Bool, and_parts, and_from, or_parts, or_cases, or_from, or_left, or_right, not-true, not_from_false, leb-true, le-leb}
-use Rattle.proto_tokens.specs.Literals.{is_quote, is_plain, is_simple_escape, is_octal_digit, is_hexadecimal_digit, has_digits, is_wide, IsBody, no_bytes, plain, simple_escape, octal_escape, hexadecimal_escape, unicode_escape, wide_escape}
+use Rattle.std.proofs.lemmas.Bool.{eq-eqb, ne_eqb, eqb-true, eqb-false, cases_eq, cases_Bool, and_parts, and_from}
+use Rattle.std.proofs.lemmas.Bool.{or_parts, or_cases, or_from, or_left, or_right, not-true, not_from_false, leb-true}
+use Rattle.std.proofs.lemmas.Bool.{le-leb}
+use Rattle.proto_tokens.specs.Literals.{is_quote, is_plain, is_simple_escape, is_octal_digit, is_hexadecimal_digit}
+use Rattle.proto_tokens.specs.Literals.{has_digits, is_wide, IsBody, no_bytes, plain, simple_escape, octal_escape}
+use Rattle.proto_tokens.specs.Literals.{hexadecimal_escape, unicode_escape, wide_escape}
 use Rattle.proto_tokens.specs.Scanning.{is_escape, closes}
 use Rattle.proto_tokens.proofs.Closing.{front_quote, front_last, front_escape, front_no_escape, front_break, front_on}
 
@@ -82,7 +87,8 @@ plus o n k e = ap (option_map (λ m. m + k)) e
 backslash : (quote : ℕ) → is_quote quote ≡ true → 92 ≢ quote
 backslash quote h e = let t : true ≡ false = sym (eq-eqb quote 92 (sym e)) ∙ no_backslash quote h in cc
 
-read_escape : (quote c : ℕ) (more rest : List ℕ) → is_quote quote ≡ true → is_escape c (more ++ quote ∷ rest) ≡ true → closes quote (more ++ quote ∷ rest) ≡ Some (length more + 1)
+read_escape : (quote c : ℕ) (more rest : List ℕ) → is_quote quote ≡ true → is_escape c (more ++ quote ∷ rest) ≡ true
+    → closes quote (more ++ quote ∷ rest) ≡ Some (length more + 1)
     → closes quote (92 ∷ c ∷ more ++ quote ∷ rest) ≡ Some (length (92 ∷ c ∷ more) + 1)
 read_escape quote c more rest h e ih =
     let n : length more + 1 + 2 ≡ length (92 ∷ c ∷ more) + 1 = omega arith in
@@ -125,24 +131,26 @@ plain_from quote c a b e =
 
 escape_body : (quote c : ℕ) (more rest : List ℕ) → is_quote quote ≡ true → is_escape c (more ++ quote ∷ rest) ≡ true → IsBody quote more → IsBody quote (92 ∷ c ∷ more)
 escape_body quote c more rest h e b =
-    elim (or_cases (is_simple_escape c || is_octal_digit c) ((c == 120 && has_digits 1 (more ++ quote ∷ rest)) || ((c == 117 && has_digits 4 (more ++ quote ∷ rest)) || (c == 85 && is_wide (more ++ quote ∷ rest)))) e) [
+    elim (or_cases (is_simple_escape c || is_octal_digit c) ((c == 120 && has_digits 1 (more ++ quote ∷ rest))
+    || ((c == 117 && has_digits 4 (more ++ quote ∷ rest)) || (c == 85 && is_wide (more ++ quote ∷ rest)))) e) [
       | inl f ↦ elim (or_cases (is_simple_escape c) (is_octal_digit c) f) [
         | inl g ↦ simple_escape c more refl g b
         | inr g ↦ octal_escape c more refl g b
       ]
-      | inr f ↦ elim (or_cases (c == 120 && has_digits 1 (more ++ quote ∷ rest)) ((c == 117 && has_digits 4 (more ++ quote ∷ rest)) || (c == 85 && is_wide (more ++ quote ∷ rest))) f) [
-        | inl g ↦
-            let parts = and_parts (c == 120) (has_digits 1 (more ++ quote ∷ rest)) g in
-            hexadecimal_escape more (ap (λ (d : ℕ). 92 ∷ d ∷ more) (eqb-true c 120 parts.0)) (sym (has_digits_quote 1 more rest quote (no_digit quote h)) ∙ parts.1) b
-        | inr g ↦ elim (or_cases (c == 117 && has_digits 4 (more ++ quote ∷ rest)) (c == 85 && is_wide (more ++ quote ∷ rest)) g) [
-          | inl k ↦
-              let parts = and_parts (c == 117) (has_digits 4 (more ++ quote ∷ rest)) k in
-              unicode_escape more (ap (λ (d : ℕ). 92 ∷ d ∷ more) (eqb-true c 117 parts.0)) (sym (has_digits_quote 4 more rest quote (no_digit quote h)) ∙ parts.1) b
-          | inr k ↦
-              let parts = and_parts (c == 85) (is_wide (more ++ quote ∷ rest)) k in
-              wide_escape more (ap (λ (d : ℕ). 92 ∷ d ∷ more) (eqb-true c 85 parts.0)) (is_wide_quote more rest quote h parts.1) b
-        ]
-      ]
+      | inr f ↦ elim (or_cases (c == 120 && has_digits 1 (more ++ quote ∷ rest))
+          ((c == 117 && has_digits 4 (more ++ quote ∷ rest)) || (c == 85 && is_wide (more ++ quote ∷ rest))) f) [
+            | inl g ↦
+                let parts = and_parts (c == 120) (has_digits 1 (more ++ quote ∷ rest)) g in
+                hexadecimal_escape more (ap (λ (d : ℕ). 92 ∷ d ∷ more) (eqb-true c 120 parts.0)) (sym (has_digits_quote 1 more rest quote (no_digit quote h)) ∙ parts.1) b
+            | inr g ↦ elim (or_cases (c == 117 && has_digits 4 (more ++ quote ∷ rest)) (c == 85 && is_wide (more ++ quote ∷ rest)) g) [
+              | inl k ↦
+                  let parts = and_parts (c == 117) (has_digits 4 (more ++ quote ∷ rest)) k in
+                  unicode_escape more (ap (λ (d : ℕ). 92 ∷ d ∷ more) (eqb-true c 117 parts.0)) (sym (has_digits_quote 4 more rest quote (no_digit quote h)) ∙ parts.1) b
+              | inr k ↦
+                  let parts = and_parts (c == 85) (is_wide (more ++ quote ∷ rest)) k in
+                  wide_escape more (ap (λ (d : ℕ). 92 ∷ d ∷ more) (eqb-true c 85 parts.0)) (is_wide_quote more rest quote h parts.1) b
+            ]
+          ]
     ]
 
 body_on : (quote c : ℕ) (cs : List ℕ) (m n : ℕ) → n ≡ m + 1 → is_plain quote c ≡ true → Body quote cs m → Body quote (c ∷ cs) n

@@ -29,7 +29,8 @@ pub block_on : (start text : List ℕ) (i : ℕ) → i < length text → get_or 
 unfolding walk
 block_on start text i h n = let e : (get_or text i 0 == 42) ≡ false = ne_eqb _ _ n in rw (drop_more text i 0 h, e) refl
 
-pub block_star_on : (start text : List ℕ) (i : ℕ) → i + 1 < length text → get_or text i 0 ≡ 42 → get_or text (i + 1) 0 ≢ 47 → walk (block start) (drop i text) ≡ walk (block start) (drop (i + 1) text)
+pub block_star_on : (start text : List ℕ) (i : ℕ) → i + 1 < length text → get_or text i 0 ≡ 42
+    → get_or text (i + 1) 0 ≢ 47 → walk (block start) (drop i text) ≡ walk (block start) (drop (i + 1) text)
 unfolding walk
 block_star_on start text i h n m =
     let here : i < length text = omega arith in
@@ -40,7 +41,8 @@ unfolding walk
 block_star_last start text i h last =
     rw (drop_more text i 0 h, drop_all (i + 1) text last) (elim (get_or text i 0 == 42) as (λ b. cond b start start ≡ start) [ true ↦ refl | false ↦ refl ])
 
-pub block_stops : (start text : List ℕ) (i : ℕ) → i + 1 < length text → get_or text i 0 ≡ 42 → get_or text (i + 1) 0 ≡ 47 → walk (block start) (drop i text) ≡ walk between (drop (i + 2) text)
+pub block_stops : (start text : List ℕ) (i : ℕ) → i + 1 < length text → get_or text i 0 ≡ 42
+    → get_or text (i + 1) 0 ≡ 47 → walk (block start) (drop i text) ≡ walk between (drop (i + 2) text)
 unfolding walk
 block_stops start text i h n m =
     let here : i < length text = omega arith in

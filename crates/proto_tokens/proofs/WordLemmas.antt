@@ -1,5 +1,6 @@
 -- The front of bytes: a token stands there exactly where one is read.
-use Rattle.std.proofs.Common.{◌≡◌, ◌⊎◌, inl, inr, ℕ, ◌+◌, ◌<◌, ◌==◌, Bool, true, false, not, ◌&&◌, ◌||◌, List, [], ◌∷◌, ◌++◌, codes, length, refl, arith, sym, ◌∙◌, ap, length-append}
+use Rattle.std.proofs.Common.{◌≡◌, ◌⊎◌, inl, inr, ℕ, ◌+◌, ◌<◌, ◌==◌, Bool, true, false, not, ◌&&◌, ◌||◌, List, []}
+use Rattle.std.proofs.Common.{◌∷◌, ◌++◌, codes, length, refl, arith, sym, ◌∙◌, ap, length-append}
 use Rattle.std.specs.Prelude.{Option, Some, None}
 use Rattle.std.specs.List.{list_all, prefix_len}
 use Rattle.std.proofs.lemmas.List.{append_assoc}
@@ -31,7 +32,12 @@ record Starts (literal : List ℕ) : Type 0 where
 
 starts_decimal : (whole tail : List ℕ) → is_decimal whole ≡ true → Starts (whole ++ tail)
 starts_decimal [] tail h = absurd (let t : false ≡ true = h in cc)
-starts_decimal (c ∷ cs) tail h = record { first = c; others = cs ++ tail; is = refl; what = inl (and_parts (is_decimal_digit c) (list_all is_decimal_digit cs) (decimal_digits (c ∷ cs) h)).0 }
+starts_decimal (c ∷ cs) tail h = record {
+  first = c;
+  others = cs ++ tail;
+  is = refl;
+  what = inl (and_parts (is_decimal_digit c) (list_all is_decimal_digit cs) (decimal_digits (c ∷ cs) h)).0;
+}
 
 starts_alone : (whole : List ℕ) → is_decimal whole ≡ true → Starts whole
 starts_alone [] h = absurd (let t : false ≡ true = h in cc)
@@ -44,7 +50,12 @@ starts_integer (hexadecimal x ds is x_is some all v) = record { first = 48; othe
 
 starts_fraction : (literal part power : List ℕ) → literal ≡ 46 ∷ part ++ power → is_some part ≡ true → list_all is_decimal_digit part ≡ true → Starts literal
 starts_fraction literal [] power is some all = absurd (let t : false ≡ true = some in cc)
-starts_fraction literal (d ∷ ds) power is some all = record { first = 46; others = d ∷ ds ++ power; is = is; what = inr (refl, (and_parts (is_decimal_digit d) (list_all is_decimal_digit ds) all).0) }
+starts_fraction literal (d ∷ ds) power is some all = record {
+  first = 46;
+  others = d ∷ ds ++ power;
+  is = is;
+  what = inr (refl, (and_parts (is_decimal_digit d) (list_all is_decimal_digit ds) all).0);
+}
 
 starts_number : {literal : List ℕ} → IsNumber literal → Starts literal
 starts_number (point whole part power is h all p) = rw is (starts_decimal whole (46 ∷ part ++ power) h)
@@ -100,7 +111,9 @@ word_quote : (q : ℕ) (cs : List ℕ) → is_quote q ≡ true → word_at (q �
 unfolding word_at
 word_quote q cs h = elim (quote_is q h) [ inl e ↦ rw e refl | inr e ↦ rw e refl ]
 
-read_text : (quote : ℕ) (body rest : List ℕ) → is_quote quote ≡ true → IsBody quote body → word_at ((quote ∷ body ++ quote ∷ []) ++ rest) ≡ Some (record { kind = Text; len = length (quote ∷ body ++ quote ∷ []) })
+read_text : (quote : ℕ) (body rest : List ℕ) → is_quote quote ≡ true → IsBody quote body
+    → word_at ((quote ∷ body ++ quote ∷ []) ++ rest)
+    ≡ Some (record { kind = Text; len = length (quote ∷ body ++ quote ∷ []) })
 read_text quote body rest h b =
     let same : (body ++ quote ∷ []) ++ rest ≡ body ++ quote ∷ rest = append_assoc body (quote ∷ []) rest in
     let n : (length body + 1) + 1 ≡ length (quote ∷ body ++ quote ∷ []) = omega (arith, length-append body (quote ∷ [])) in
@@ -183,7 +196,13 @@ found_mark c cs w e = elim (cases_Bool (is_mark c && not (goes_on c cs))) [
   | inl h ↦
       let parts = and_parts (is_mark c) (not (goes_on c cs)) h in
       let same : record { kind = Mark c; len = 1 } ≡ w = (let t : ◌≡◌ {A = Option Word} (Some (record { kind = Mark c; len = 1 })) (Some w) = rw h at e in cc) in
-      record { literal = c ∷ []; rest = cs; is = refl; long = sym (ap (λ (u : Word). u.len) same); stands = mark c (sym (ap (λ (u : Word). u.kind) same)) refl parts.0 (not-true _ parts.1) }
+      record {
+        literal = c ∷ [];
+        rest = cs;
+        is = refl;
+        long = sym (ap (λ (u : Word). u.len) same);
+        stands = mark c (sym (ap (λ (u : Word). u.kind) same)) refl parts.0 (not-true _ parts.1);
+      }
   | inr h ↦ absurd (let t : ◌≡◌ {A = Option Word} None (Some w) = rw h at e in cc)
 ]
 

@@ -1,4 +1,4 @@
--- What stands at the front of bytes, by its first bytes.
+-- The code's own: what stands at the front of bytes, by its first bytes.
 use Rattle.std.specs.Prelude.{ℕ, ◌+◌, ◌==◌, Bool, not, ◌&&◌, ◌||◌, if◌then◌else◌, List, [], ◌∷◌, take, drop, Option}
 use Rattle.std.specs.Prelude.{Some, None, option_map}
 use Rattle.std.specs.List.{prefix_len}

@@ -6,7 +6,9 @@ use Rattle.qos_order.specs.declared.account.Account.{Account}
 use Rattle.qos_order.specs.declared.account.Ending.{Ending}
 use Rattle.qos_order.specs.declared.account.Ending.TheVariants.{Given, Idle, Shut}
 
-counted_ending : (weight visits rounds kept dropped given : ℕ) (ending : Ending) → IsBalanced weight (record { visits = visits; rounds = rounds; kept = kept; dropped = dropped }) → Fits (granted weight kept) (record { given = given; ending = ending })
+counted_ending : (weight visits rounds kept dropped given : ℕ) (ending : Ending)
+    → IsBalanced weight (record { visits = visits; rounds = rounds; kept = kept; dropped = dropped })
+    → Fits (granted weight kept) (record { given = given; ending = ending })
     → IsBalanced weight (counted weight (record { visits = visits; rounds = rounds; kept = kept; dropped = dropped }) (record { given = given; ending = ending }))
 counted_ending weight visits rounds kept dropped given Given balanced fits =
     let all = balanced.all in
@@ -20,13 +22,15 @@ counted_ending weight visits rounds kept dropped given Shut balanced fits =
     record { all = omega (arith, balanced.all); most = omega (arith, balanced.most) }
 
 -- one visit more keeps the balance
-pub visited_balanced : (weight : ℕ) (account : Account) (visit : Visit) → IsBalanced weight account → Fits (granted weight account.kept) visit → IsBalanced weight (visited weight account visit)
+pub visited_balanced : (weight : ℕ) (account : Account) (visit : Visit) → IsBalanced weight account
+    → Fits (granted weight account.kept) visit → IsBalanced weight (visited weight account visit)
 visited_balanced weight account visit balanced fits = elim (bool_cases (nat_lt account.visits (2 ^ 40))) [
   | inl before ↦ rw before (counted_ending weight account.visits account.rounds account.kept account.dropped visit.given visit.ending balanced fits)
   | inr after ↦ rw after balanced
 ]
 
-after_balanced : (weight : ℕ) (account : Account) (visits : List Visit) → IsBalanced weight account → AllFit weight account visits → IsBalanced weight (fold (visited weight) account visits)
+after_balanced : (weight : ℕ) (account : Account) (visits : List Visit) → IsBalanced weight account
+    → AllFit weight account visits → IsBalanced weight (fold (visited weight) account visits)
 after_balanced weight account [] balanced fit = balanced
 after_balanced weight account (visit ∷ visits) balanced fit = after_balanced weight (visited weight account visit) visits (visited_balanced weight account visit balanced fit.0) fit.1
 

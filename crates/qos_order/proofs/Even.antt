@@ -1,5 +1,7 @@
 -- Visits and shares of connections on one wheel.
-use Rattle.std.proofs.Common.{◌≡◌, ◌≢◌, ℕ, suc, ◌+◌, ◌*◌, ◌<◌, ◌≤◌, ◌^◌, ◌==◌, nat_eq, false, List, [], ◌∷◌, ◌++◌, get_or, Some, option_map, IfSome, refl, ap, sym, ◌∙◌, arith, ◌⊎◌, inl, inr, append_assoc}
+use Rattle.std.proofs.Common.{◌≡◌, ◌≢◌, ℕ, suc, ◌+◌, ◌*◌, ◌<◌, ◌≤◌, ◌^◌, ◌==◌, nat_eq, false, List, [], ◌∷◌, ◌++◌}
+use Rattle.std.proofs.Common.{get_or, Some, option_map, IfSome, refl, ap, sym, ◌∙◌, arith, ◌⊎◌, inl, inr}
+use Rattle.std.proofs.Common.{append_assoc}
 use Rattle.std.specs.List.{Contains, All, IsDistinct}
 use Rattle.std.proofs.Math.Nat.{mul-le-mul_left}
 use Rattle.std.proofs.lemmas.Bool.{eqb-false, eq-eqb, ne_eqb, lt-ltb}
@@ -10,7 +12,9 @@ use Rattle.std.proofs.lemmas.Map.Keys.{apart_from_distinct}
 use Rattle.qos_order.proofs.Keyed.{find-contained, keys_have}
 use Rattle.qos_order.proofs.Turns.{conn-found, find-listed_after, grant_of_first, seat_after, turned_is, wheel_turned}
 use Rattle.qos_order.specs.Account.{Visit, granted, visited}
-use Rattle.qos_order.specs.Wheel.{AreWhole, IsWheel, IsWhole, NothingKept, SharesAreEven, Turn, VisitsAreEven, WheelState, account_of, first_seat, numbers_of, rounds_in, seat_of, seat_visited, turned, visits_in, weight_on, wheel_after}
+use Rattle.qos_order.specs.Wheel.{AreWhole, IsWheel, IsWhole, NothingKept, SharesAreEven, Turn, VisitsAreEven}
+use Rattle.qos_order.specs.Wheel.{WheelState, account_of, first_seat, numbers_of, rounds_in, seat_of, seat_visited}
+use Rattle.qos_order.specs.Wheel.{turned, visits_in, weight_on, wheel_after}
 use Rattle.qos_order.specs.declared.account.Account.{Account}
 use Rattle.qos_order.specs.declared.account.Ending.TheVariants.{Given}
 use Rattle.qos_order.specs.declared.seat.Seat.{Seat}
@@ -40,7 +44,9 @@ first_once n ns m once there same =
     eqb-false n (get_or ns there.0 m) apart (same ∙ sym there.2)
 
 -- a turn of another connection leaves what one gained
-gained_aside : (wheel now : WheelState) (turn : Turn) (first : ℕ) (others : List ℕ) (conn visits : ℕ) → now.order ≡ first ∷ others → first ≢ conn → Gained wheel now conn visits → Gained wheel (turned now turn) conn visits
+gained_aside : (wheel now : WheelState) (turn : Turn) (first : ℕ) (others : List ℕ) (conn visits : ℕ)
+    → now.order ≡ first ∷ others → first ≢ conn → Gained wheel now conn visits
+    → Gained wheel (turned now turn) conn visits
 gained_aside wheel now turn first others conn visits is other gained =
     let at : gained.is.conn ≡ conn = conn-found now.listed conn gained.is gained.is_there in
     let aside : (gained.is.conn == first) ≡ false = ne_eqb gained.is.conn first (λ same. other (sym same ∙ at)) in
@@ -49,7 +55,8 @@ gained_aside wheel now turn first others conn visits is other gained =
       was = gained.was;
       is = gained.is;
       was_there = gained.was_there;
-      is_there = rw (turned_is now turn first others is) (find-listed_after first turn.visit now.listed conn ∙ ap (option_map (seat_after first turn.visit)) gained.is_there ∙ ap Some same);
+      is_there = rw (turned_is now turn first others is) (find-listed_after first turn.visit now.listed conn
+          ∙ ap (option_map (seat_after first turn.visit)) gained.is_there ∙ ap Some same);
       weight = gained.weight;
       nothing = gained.nothing;
       count = gained.count;
@@ -62,7 +69,9 @@ pub record IsWholeVisit (weight : ℕ) (account after : Account) : Type 0 where
   pub rounds : after.rounds ≡ account.rounds + weight
   pub kept : after.kept ≡ 0
 
-whole_visit : (weight : ℕ) (account : Account) (visit : Visit) → account.kept ≡ 0 → account.visits < 2 ^ 40 → visit.ending ≡ Given → visit.given ≡ granted weight account.kept → IsWholeVisit weight account (visited weight account visit)
+whole_visit : (weight : ℕ) (account : Account) (visit : Visit) → account.kept ≡ 0 → account.visits < 2 ^ 40
+    → visit.ending ≡ Given → visit.given ≡ granted weight account.kept
+    → IsWholeVisit weight account (visited weight account visit)
 whole_visit weight account visit nothing counts ending whole = rw (lt-ltb account.visits (2 ^ 40) counts) (record {
   visits = refl;
   rounds = omega (arith, whole, nothing);
@@ -73,7 +82,9 @@ first_is : (now : WheelState) (first : ℕ) (others : List ℕ) (s : Seat) → n
 first_is now first others s is there = rw (is, there) refl
 
 -- a turn of a connection gives it one visit more
-gained_first : (wheel now : WheelState) (turn : Turn) (first : ℕ) (others : List ℕ) (visits : ℕ) → now.order ≡ first ∷ others → IsWhole now turn → Gained wheel now first visits → Gained wheel (turned now turn) first (visits + 1)
+gained_first : (wheel now : WheelState) (turn : Turn) (first : ℕ) (others : List ℕ) (visits : ℕ)
+    → now.order ≡ first ∷ others → IsWhole now turn → Gained wheel now first visits
+    → Gained wheel (turned now turn) first (visits + 1)
 gained_first wheel now turn first others visits is whole gained =
     let at : gained.is.conn ≡ first = conn-found now.listed first gained.is gained.is_there in
     let same : seat_after first turn.visit gained.is ≡ seat_visited turn.visit gained.is = rw (eq-eqb gained.is.conn first at) refl in
@@ -87,7 +98,8 @@ gained_first wheel now turn first others visits is whole gained =
       was = gained.was;
       is = seat_visited turn.visit gained.is;
       was_there = gained.was_there;
-      is_there = rw (turned_is now turn first others is) (find-listed_after first turn.visit now.listed first ∙ ap (option_map (seat_after first turn.visit)) gained.is_there ∙ ap Some same);
+      is_there = rw (turned_is now turn first others is) (find-listed_after first turn.visit now.listed first
+          ∙ ap (option_map (seat_after first turn.visit)) gained.is_there ∙ ap Some same);
       weight = gained.weight;
       nothing = after.kept;
       count = omega (arith, after.visits, count);
@@ -97,24 +109,34 @@ gained_first wheel now turn first others visits is whole gained =
     rounds_more : (now weight was weight' visits : ℕ) → now ≡ was + weight' * visits → weight ≡ weight' → now + weight ≡ was + weight' * (visits + 1)
     rounds_more now weight was weight' visits e f = omega arith
 
-order_stays : (now : WheelState) (turn : Turn) (first : ℕ) (others : List ℕ) → now.order ≡ first ∷ others → turn.leaves ≡ false → (turned now turn).order ≡ others ++ first ∷ []
+order_stays : (now : WheelState) (turn : Turn) (first : ℕ) (others : List ℕ) → now.order ≡ first ∷ others
+    → turn.leaves ≡ false → (turned now turn).order ≡ others ++ first ∷ []
 order_stays now turn first others is stays = rw (turned_is now turn first others is, stays) refl
 
-aside : (wheel now : WheelState) (turn : Turn) (first : ℕ) (others some : List ℕ) (visits : ℕ) → now.order ≡ first ∷ others → IsDistinct nat_eq (first ∷ others) → ((conn : ℕ) → Contains some conn → Contains others conn)
+aside : (wheel now : WheelState) (turn : Turn) (first : ℕ) (others some : List ℕ) (visits : ℕ)
+    → now.order ≡ first ∷ others → IsDistinct nat_eq (first ∷ others)
+    → ((conn : ℕ) → Contains some conn → Contains others conn)
     → All (λ conn. Gained wheel now conn visits) some → All (λ conn. Gained wheel (turned now turn) conn visits) some
 aside wheel now turn first others some visits is once among all k d within =
-    gained_aside wheel now turn first others (get_or some k d) visits is (first_once first others (get_or some k d) once (among (get_or some k d) (Contains-get_or some k d within))) (all k d within)
+    gained_aside wheel now turn first others (get_or some k d) visits is
+    (first_once first others (get_or some k d) once (among (get_or some k d) (Contains-get_or some k d within)))
+    (all k d within)
 
 to_end : (first : ℕ) (others : List ℕ) (conn : ℕ) → Contains (first ∷ others) conn → Contains (others ++ first ∷ []) conn
-to_end first others conn there = Contains-permutation (first ∷ others) (others ++ first ∷ []) conn (IsPermutation-sym (others ++ first ∷ []) (first ∷ others) (IsPermutation-to_front others first)) there
+to_end first others conn there = Contains-permutation (first ∷ others) (others ++ first ∷ []) conn
+    (IsPermutation-sym (others ++ first ∷ []) (first ∷ others) (IsPermutation-to_front others first)) there
 
 -- a turn of one of those in front
-turn_in_front : (wheel now : WheelState) (turn : Turn) (visits first : ℕ) (front back : List ℕ) → IsWheel now → IsWhole now turn → IsEven wheel now visits (first ∷ front) back → IsEven wheel (turned now turn) visits front (back ++ first ∷ [])
+turn_in_front : (wheel now : WheelState) (turn : Turn) (visits first : ℕ) (front back : List ℕ) → IsWheel now
+    → IsWhole now turn → IsEven wheel now visits (first ∷ front) back
+    → IsEven wheel (turned now turn) visits front (back ++ first ∷ [])
 turn_in_front wheel now turn visits first front back sound whole even =
     let once : IsDistinct nat_eq (first ∷ (front ++ back)) = rw even.order at sound.on_once in
     record {
       order = order_stays now turn first (front ++ back) even.order whole.stays ∙ append_assoc front back (first ∷ []);
-      less = aside wheel now turn first (front ++ back) front visits even.order once (λ conn there. Contains-append_left front back conn there) (All-tail (λ conn. Gained wheel now conn visits) first front even.less);
+      less = aside wheel now turn first (front ++ back) front visits even.order once
+          (λ conn there. Contains-append_left front back conn there)
+          (All-tail (λ conn. Gained wheel now conn visits) first front even.less);
       more = All-push (λ conn. Gained wheel (turned now turn) conn (visits + 1)) back first
           (aside wheel now turn first (front ++ back) back (visits + 1) even.order once (λ conn there. Contains-append_right front back conn there) even.more)
           (gained_first wheel now turn first (front ++ back) visits even.order whole (All-head (λ conn. Gained wheel now conn visits) first front even.less));
@@ -136,10 +158,22 @@ pub record AreEven (wheel now : WheelState) : Type 0 where
   pub back : List ℕ
   pub even : IsEven wheel now visits front back
 
-turn_even : (wheel now : WheelState) (turn : Turn) (visits : ℕ) (front back : List ℕ) → IsWheel now → IsWhole now turn → IsEven wheel now visits front back → AreEven wheel (turned now turn)
-turn_even wheel now turn visits (first ∷ front) back sound whole even = record { visits = visits; front = front; back = back ++ first ∷ []; even = turn_in_front wheel now turn visits first front back sound whole even }
+turn_even : (wheel now : WheelState) (turn : Turn) (visits : ℕ) (front back : List ℕ) → IsWheel now → IsWhole now turn
+    → IsEven wheel now visits front back → AreEven wheel (turned now turn)
+turn_even wheel now turn visits (first ∷ front) back sound whole even = record {
+  visits = visits;
+  front = front;
+  back = back ++ first ∷ [];
+  even = turn_in_front wheel now turn visits first front back sound whole even;
+}
 turn_even wheel now turn visits [] (first ∷ back) sound whole even =
-    record { visits = visits + 1; front = back; back = [] ++ first ∷ []; even = turn_in_front wheel now turn (visits + 1) first back [] sound whole (around wheel now visits (first ∷ back) even) }
+    record {
+      visits = visits + 1;
+      front = back;
+      back = [] ++ first ∷ [];
+      even = turn_in_front wheel now turn (visits + 1) first back [] sound whole
+          (around wheel now visits (first ∷ back) even);
+    }
 turn_even wheel now turn visits [] [] sound whole even = absurd (whole.fitting.some even.order)
 
 turns_even : (wheel now : WheelState) (turns : List Turn) → IsWheel now → AreWhole now turns → AreEven wheel now → AreEven wheel (wheel_after now turns)
@@ -185,7 +219,8 @@ gained_of wheel now even conn there = elim (Contains-append_cases even.front eve
 visits-gained : (wheel : WheelState) (turns : List Turn) (conn visits : ℕ) → Gained wheel (wheel_after wheel turns) conn visits → visits_in wheel turns conn ≡ visits
 visits-gained wheel turns conn visits gained = let count = gained.count in rw (gained.was_there, gained.is_there) (omega (arith, count))
 
-rounds-gained : (wheel : WheelState) (turns : List Turn) (conn visits : ℕ) → Gained wheel (wheel_after wheel turns) conn visits → rounds_in wheel turns conn ≡ weight_on wheel conn * visits
+rounds-gained : (wheel : WheelState) (turns : List Turn) (conn visits : ℕ)
+    → Gained wheel (wheel_after wheel turns) conn visits → rounds_in wheel turns conn ≡ weight_on wheel conn * visits
 rounds-gained wheel turns conn visits gained = let rounds = gained.rounds in rw (gained.was_there, gained.is_there) (omega (arith, rounds))
 
 close : (wheel now : WheelState) (even : AreEven wheel now) (conn other : ℕ) → Contains wheel.order conn → Contains wheel.order other

@@ -1,12 +1,16 @@
 -- Sorting a list of weights by its halves: which faults of the halves are those of the whole.
-use Rattle.std.proofs.Common.{◌≡◌, ℕ, zero, suc, ◌<◌, ◌≤◌, false, is_some, List, [], ◌∷◌, ◌++◌, length, get_or, take, drop, slice_get, refl, ap, sym, ◌∙◌, arith, inl, inr, subst, append_assoc, None, option_map, IfSome, length-append, drop-cons}
+use Rattle.std.proofs.Common.{◌≡◌, ℕ, zero, suc, ◌<◌, ◌≤◌, false, is_some, List, [], ◌∷◌, ◌++◌, length, get_or, take}
+use Rattle.std.proofs.Common.{drop, slice_get, refl, ap, sym, ◌∙◌, arith, inl, inr, subst, append_assoc, None}
+use Rattle.std.proofs.Common.{option_map, IfSome, length-append, drop-cons}
 use Rattle.std.specs.List.{Contains, All}
 use Rattle.std.specs.List.Sorted.{IsPermutation}
 use Rattle.std.proofs.Math.Seq.{take-append_seam, drop-append_seam}
 use Rattle.std.proofs.lemmas.Bool.{eqb-false}
 use Rattle.std.proofs.lemmas.List.{take-append-drop, take_all, drop_all, append-nil, length-take-le}
 use Rattle.std.proofs.lemmas.List.Elements.{All-tail, All-head, All-take, Contains-push_cases, Contains-append_left, Contains-append_right}
-use Rattle.std.proofs.lemmas.List.Sorted.{IsPermutation-sym, IsPermutation-trans, IsPermutation-append, IsPermutation-append_left, IsPermutation-map, Contains-permutation, length_permutation}
+use Rattle.std.proofs.lemmas.List.Sorted.{IsPermutation-sym, IsPermutation-trans, IsPermutation-append}
+use Rattle.std.proofs.lemmas.List.Sorted.{IsPermutation-append_left, IsPermutation-map, Contains-permutation}
+use Rattle.std.proofs.lemmas.List.Sorted.{length_permutation}
 use Rattle.std.proofs.lemmas.Option.{slice_get_cases}
 use Rattle.qos_order.proofs.Keyed.{first_apart, keyed-tail}
 use Rattle.qos_order.proofs.Sound.{conns-append, sound-nil, sound-more}
@@ -47,7 +51,12 @@ apart-front xs ys zs apart = record { apart = λ k d within. rw (sym (get-front 
 
 -- what is apart from a list is apart from it in another order
 pub apart-moved : (xs zs ys : List Weight) → IsPermutation xs zs → AreApart zs ys → AreApart xs ys
-apart-moved xs zs ys moved apart = record { apart = λ k d within there. apart.apart k d within (Contains-permutation (conns_of xs) (conns_of zs) (get_or ys k d).conn (IsPermutation-map (λ w. w.conn) xs zs moved) there) }
+apart-moved xs zs ys moved apart =
+    record {
+      apart = λ k d within there.
+          apart.apart k d within (Contains-permutation (conns_of xs) (conns_of zs) (get_or ys k d).conn
+          (IsPermutation-map (λ w. w.conn) xs zs moved) there);
+    }
 
 -- a fault of the front is one of the whole
 pub fault-append : (xs ys : List Weight) (fault : WeightFault) → IsFirstFault xs fault → IsFirstFault (xs ++ ys) fault
@@ -72,7 +81,8 @@ twice-behind xs ys conn sound apart first = record {
 }
 
 -- an entry behind that stands in the first part
-pub twice-met : (xs ys : List Weight) (w : Weight) (more : List Weight) → IsSound (xs ++ ys) → IsWeight w.weight → Contains (conns_of xs) w.conn → IsFirstFault (xs ++ (ys ++ w ∷ more)) (Twice w.conn)
+pub twice-met : (xs ys : List Weight) (w : Weight) (more : List Weight) → IsSound (xs ++ ys) → IsWeight w.weight
+    → Contains (conns_of xs) w.conn → IsFirstFault (xs ++ (ys ++ w ∷ more)) (Twice w.conn)
 twice-met xs ys w more sound ranged there = record {
   before = xs ++ ys;
   entry = w;
@@ -109,7 +119,8 @@ halved entries sorted front back half within sound moved at_front at_back =
     }
 
 -- the front as it was sorted
-pub front_sorted : (entries sorted front : List Weight) (half : ℕ) → half ≤ length entries → IsPermutation (take half entries) sorted → front ≡ take half (sorted ++ drop half entries) → front ≡ sorted
+pub front_sorted : (entries sorted front : List Weight) (half : ℕ) → half ≤ length entries
+    → IsPermutation (take half entries) sorted → front ≡ take half (sorted ++ drop half entries) → front ≡ sorted
 front_sorted entries sorted front half within moved at_front =
     at_front ∙ seam-take sorted (drop half entries) half (length_permutation (take half entries) sorted moved ∙ length-take-le half entries within)
 
@@ -126,14 +137,18 @@ pub ranged_behind : (entries front back : List Weight) (n : ℕ) → Halved entr
 ranged_behind entries front back n state ranged = All-take (λ w. IsWeight w.weight) n back (ranged-back entries front back state ranged)
 
 -- the second part has a connection twice
-pub twice_in_back : (entries front back : List Weight) (n conn : ℕ) → Halved entries front back → AreApart front (take n back) → IsFirstFault (take n back) (Twice conn) → IsFirstFault entries (Twice conn)
+pub twice_in_back : (entries front back : List Weight) (n conn : ℕ) → Halved entries front back
+    → AreApart front (take n back) → IsFirstFault (take n back) (Twice conn) → IsFirstFault entries (Twice conn)
 twice_in_back entries front back n conn state apart first =
     let known = twice-behind state.unsorted (take n back) conn state.sound (apart-moved state.unsorted front (take n back) state.moved apart) first in
     let longer = fault-append (state.unsorted ++ take n back) (drop n back) (Twice conn) known in
-    let same : (state.unsorted ++ take n back) ++ drop n back ≡ entries = append_assoc state.unsorted (take n back) (drop n back) ∙ ap (λ xs. state.unsorted ++ xs) (take-append-drop n back) ∙ sym state.split in
+    let same : (state.unsorted ++ take n back) ++ drop n back ≡ entries =
+    append_assoc state.unsorted (take n back) (drop n back) ∙ ap (λ xs. state.unsorted ++ xs)
+    (take-append-drop n back) ∙ sym state.split in
     subst (λ (xs : List Weight). IsFirstFault xs (Twice conn)) same longer
 
-sound_so_far : (entries front back : List Weight) (n : ℕ) (state : Halved entries front back) → AreApart front (take n back) → IsSound (take n back) → IsSound (state.unsorted ++ take n back)
+sound_so_far : (entries front back : List Weight) (n : ℕ) (state : Halved entries front back)
+    → AreApart front (take n back) → IsSound (take n back) → IsSound (state.unsorted ++ take n back)
 sound_so_far entries front back n state apart sound = sound-append state.unsorted (take n back) state.sound sound (apart-moved state.unsorted front (take n back) state.moved apart)
 
 met_entry : (entries front back : List Weight) (n : ℕ) → Halved entries front back → All (λ w. IsWeight w.weight) entries → AreApart front (take n back) → IsSound (take n back)
@@ -141,13 +156,18 @@ met_entry : (entries front back : List Weight) (n : ℕ) → Halved entries fron
 met_entry entries front back n state ranged apart sound w there within at =
     let behind : drop n back ≡ w ∷ drop (suc n) back = drop-cons back n w within ∙ ap (λ x. x ∷ drop (suc n) back) at in
     let in_range : IsWeight w.weight = subst (λ (x : Weight). IsWeight x.weight) at (ranged-back entries front back state ranged n w within) in
-    let before = Contains-permutation (conns_of front) (conns_of state.unsorted) w.conn (IsPermutation-sym (conns_of state.unsorted) (conns_of front) (IsPermutation-map (λ x. x.conn) state.unsorted front state.moved)) there in
+    let before = Contains-permutation (conns_of front) (conns_of state.unsorted) w.conn
+    (IsPermutation-sym (conns_of state.unsorted) (conns_of front)
+    (IsPermutation-map (λ x. x.conn) state.unsorted front state.moved)) there in
     let known = twice-met state.unsorted (take n back) w (drop (suc n) back) (sound_so_far entries front back n state apart sound) in_range before in
-    let same : state.unsorted ++ (take n back ++ w ∷ drop (suc n) back) ≡ entries = ap (λ xs. state.unsorted ++ (take n back ++ xs)) (sym behind) ∙ ap (λ xs. state.unsorted ++ xs) (take-append-drop n back) ∙ sym state.split in
+    let same : state.unsorted ++ (take n back ++ w ∷ drop (suc n) back) ≡ entries =
+    ap (λ xs. state.unsorted ++ (take n back ++ xs)) (sym behind) ∙ ap (λ xs. state.unsorted ++ xs)
+    (take-append-drop n back) ∙ sym state.split in
     subst (λ (xs : List Weight). IsFirstFault xs (Twice w.conn)) same known
 
 -- an entry of the second part stands in the first
-pub twice_met : (entries front back : List Weight) (n : ℕ) → Halved entries front back → All (λ w. IsWeight w.weight) entries → AreApart front (take n back) → IsSound (take n back)
+pub twice_met : (entries front back : List Weight) (n : ℕ) → Halved entries front back
+    → All (λ w. IsWeight w.weight) entries → AreApart front (take n back) → IsSound (take n back)
     → IfSome (slice_get back n) (λ w. Contains (conns_of front) w.conn) → IfSome (option_map (λ w. w.conn) (slice_get back n)) (λ conn. IsFirstFault entries (Twice conn))
 twice_met entries front back n state ranged apart sound met = elim ((slice_get_cases back n).1) [
   | inl inside ↦ rw inside.2 (met_entry entries front back n state ranged apart sound inside.0 (rw inside.2 at met) inside.1 inside.3)
@@ -155,7 +175,9 @@ twice_met entries front back n state ranged apart sound met = elim ((slice_get_c
 ]
 
 -- nothing of the second part stands in the first
-pub whole_sound : (entries front back : List Weight) (n : ℕ) → Halved entries front back → AreApart front (take n back) → IsSound (take n back) → is_some (option_map (λ (w : Weight). w.conn) (slice_get back n)) ≡ false → IsSound entries
+pub whole_sound : (entries front back : List Weight) (n : ℕ) → Halved entries front back
+    → AreApart front (take n back) → IsSound (take n back)
+    → is_some (option_map (λ (w : Weight). w.conn) (slice_get back n)) ≡ false → IsSound entries
 whole_sound entries front back n state apart sound none = elim ((slice_get_cases back n).1) [
   | inl inside ↦ absurd (let e = inside.2 in let found = rw e at none in cc)
   | inr past ↦
@@ -168,7 +190,9 @@ pub first_moved : (xs ys : List Weight) (n : ℕ) → IsPermutation (take n xs) 
 first_moved xs ys n moved = subst (λ (zs : List Weight). IsPermutation zs (ys ++ drop n xs)) (take-append-drop n xs) (IsPermutation-append_left (drop n xs) (take n xs) ys moved)
 
 -- the halves that were sorted have what the entries had
-pub same_entries : (entries front back sorted all : List Weight) (n : ℕ) → Halved entries front back → IsPermutation (take n back) sorted → IsPermutation (front ++ (sorted ++ drop n back)) all → IsPermutation entries all
+pub same_entries : (entries front back sorted all : List Weight) (n : ℕ) → Halved entries front back
+    → IsPermutation (take n back) sorted → IsPermutation (front ++ (sorted ++ drop n back)) all
+    → IsPermutation entries all
 same_entries entries front back sorted all n state moved last =
     let both = IsPermutation-append state.unsorted front back (sorted ++ drop n back) state.moved (first_moved back sorted n moved) in
     subst (λ (xs : List Weight). IsPermutation xs all) (sym state.split) (IsPermutation-trans (state.unsorted ++ back) (front ++ (sorted ++ drop n back)) all both last)
@@ -184,7 +208,9 @@ pub fault_of_first : (xs : List Weight) (n : ℕ) (fault : WeightFault) → IsFi
 fault_of_first xs n fault first = subst (λ (ys : List Weight). IsFirstFault ys fault) (take-append-drop n xs) (fault-append (take n xs) (drop n xs) fault first)
 
 -- an entry out of range behind sound ones
-pub range_behind : (xs : List Weight) (n : ℕ) → IsSound (take n xs) → IfSome (slice_get xs n) (λ w. ¬ IsWeight w.weight) → IfSome (option_map (λ w. w.conn) (slice_get xs n)) (λ conn. IsFirstFault xs (Range conn))
+pub range_behind : (xs : List Weight) (n : ℕ) → IsSound (take n xs)
+    → IfSome (slice_get xs n) (λ w. ¬ IsWeight w.weight)
+    → IfSome (option_map (λ w. w.conn) (slice_get xs n)) (λ conn. IsFirstFault xs (Range conn))
 range_behind xs n sound out = elim ((slice_get_cases xs n).1) [
   | inl inside ↦ rw inside.2 (record {
     before = take n xs;

@@ -1,5 +1,7 @@
 -- Lists whose items are told apart by a number each: what a search finds, and what moves leave.
-use Rattle.std.proofs.Common.{◌≡◌, ◌≢◌, ℕ, zero, suc, ◌<◌, ◌≤◌, ◌==◌, nat_eq, Bool, true, false, List, [], ◌∷◌, map, length, get_or, Some, None, refl, ap, sym, ◌∙◌, arith, ◌⊎◌, inl, inr, Result, Ok, Err, IsTrue, is_ok, ◌↔◌, slice_get}
+use Rattle.std.proofs.Common.{◌≡◌, ◌≢◌, ℕ, zero, suc, ◌<◌, ◌≤◌, ◌==◌, nat_eq, Bool, true, false, List, [], ◌∷◌, map}
+use Rattle.std.proofs.Common.{length, get_or, Some, None, refl, ap, sym, ◌∙◌, arith, ◌⊎◌, inl, inr, Result, Ok, Err}
+use Rattle.std.proofs.Common.{IsTrue, is_ok, ◌↔◌, slice_get}
 use Rattle.std.specs.List.{find, Contains, IsDistinct}
 use Rattle.std.specs.List.Sorted.{IsPermutation, IsNonDecreasingBy, IsPartitionPoint, IsBinarySearchResult, IsSearchInRange}
 use Rattle.std.specs.Ordering.{nat_cmp, ordering_index}
@@ -34,7 +36,8 @@ first_apart key x xs i d keyed within =
 pub keyed-tail : {X : Type 0} (key : X → ℕ) (x : X) (xs : List X) → IsKeyed key (x ∷ xs) → IsKeyed key xs
 keyed-tail key x xs keyed = IsDistinct-tail nat_eq (key x) (map key xs) keyed
 
-pub find-at : {X : Type 0} (key : X → ℕ) (xs : List X) (n i : ℕ) (d : X) → IsKeyed key xs → i < length xs → key (get_or xs i d) ≡ n → find (λ x. key x == n) xs ≡ Some (get_or xs i d)
+pub find-at : {X : Type 0} (key : X → ℕ) (xs : List X) (n i : ℕ) (d : X) → IsKeyed key xs → i < length xs
+    → key (get_or xs i d) ≡ n → find (λ x. key x == n) xs ≡ Some (get_or xs i d)
 find-at key [] n i d keyed within is = absurd (omega arith)
 find-at key (x ∷ xs) n zero d keyed within is = rw (eq-eqb (key x) n is) refl
 find-at key (x ∷ xs) n (suc i) d keyed within is =
@@ -59,12 +62,16 @@ equal_is : (a b : ℕ) → nat_cmp a b ≡ Equal → a ≡ b
 equal_is a b e = grind arith
 
 -- what a search by number found
-pub find-searched : {X : Type 0} (key : X → ℕ) (xs : List X) (n i : ℕ) (x : X) → IsKeyed key xs → i < length xs → ((d : X) → nat_cmp (key (get_or xs i d)) n ≡ Equal) → x ≡ get_or xs i x → find (λ y. key y == n) xs ≡ Some x
+pub find-searched : {X : Type 0} (key : X → ℕ) (xs : List X) (n i : ℕ) (x : X) → IsKeyed key xs → i < length xs
+    → ((d : X) → nat_cmp (key (get_or xs i d)) n ≡ Equal) → x ≡ get_or xs i x → find (λ y. key y == n) xs ≡ Some x
 find-searched key xs n i x keyed within equal is =
     find-at key xs n i x keyed within (equal_is (key (get_or xs i x)) n (equal x)) ∙ ap Some (sym is)
 
 -- what a search by number among items that don't fall didn't find
-pub find-missed : {X : Type 0} (key : X → ℕ) (xs : List X) (n i : ℕ) → IsNonDecreasingBy key xs → (IsNonDecreasingBy (λ x. ordering_index (nat_cmp (key x) n)) xs → IsPartitionPoint (λ x. nat_cmp (key x) n ≡ Less) (λ x. nat_cmp (key x) n ≡ Greater) xs i) → find (λ x. key x == n) xs ≡ None
+pub find-missed : {X : Type 0} (key : X → ℕ) (xs : List X) (n i : ℕ) → IsNonDecreasingBy key xs
+    → (IsNonDecreasingBy (λ x. ordering_index (nat_cmp (key x) n)) xs
+    → IsPartitionPoint (λ x. nat_cmp (key x) n ≡ Less) (λ x. nat_cmp (key x) n ≡ Greater) xs i)
+    → find (λ x. key x == n) xs ≡ None
 find-missed key xs n i up parts =
     let point = parts (λ i j d le within. index_rises (key (get_or xs i d)) (key (get_or xs j d)) n (up i j d le within)) in
     find-none key xs n (λ k d within. elim (cases_lt k i) [
@@ -76,12 +83,15 @@ pub bool_cases : (b : Bool) → (b ≡ true) ⊎ (b ≡ false)
 bool_cases true = inl refl
 bool_cases false = inr refl
 
-none_more : {X : Type 0} (key : X → ℕ) (x : X) (xs : List X) (n : ℕ) → key x ≢ n → ((i : ℕ) (d : X) → i < length xs → key (get_or xs i d) ≢ n) → (i : ℕ) (d : X) → i < length (x ∷ xs) → key (get_or (x ∷ xs) i d) ≢ n
+none_more : {X : Type 0} (key : X → ℕ) (x : X) (xs : List X) (n : ℕ) → key x ≢ n
+    → ((i : ℕ) (d : X) → i < length xs → key (get_or xs i d) ≢ n) → (i : ℕ) (d : X) → i < length (x ∷ xs)
+    → key (get_or (x ∷ xs) i d) ≢ n
 none_more key x xs n other none zero d within = other
 none_more key x xs n other none (suc i) d within = none i d (omega arith)
 
 -- an item of this number is there, or none is
-pub there_or_not : {X : Type 0} (key : X → ℕ) (xs : List X) (n : ℕ) → ((x : X) × Contains xs x × (key x ≡ n)) ⊎ ((i : ℕ) (d : X) → i < length xs → key (get_or xs i d) ≢ n)
+pub there_or_not : {X : Type 0} (key : X → ℕ) (xs : List X) (n : ℕ)
+    → ((x : X) × Contains xs x × (key x ≡ n)) ⊎ ((i : ℕ) (d : X) → i < length xs → key (get_or xs i d) ≢ n)
 there_or_not key [] n = inr (λ i d within. absurd (omega arith))
 there_or_not key (x ∷ xs) n = elim (bool_cases (key x == n)) [
   | inl same ↦ inl (x, (0, omega arith, refl), eqb-true (key x) n same)
@@ -122,7 +132,9 @@ keys_have key (x ∷ xs) n (suc k) within is =
     (found.0, (suc found.1.0, omega (arith, found.1.1), found.1.2), found.2)
 
 -- where a search by number among items that don't fall found none, none has the number
-none_missed : {X : Type 0} (key : X → ℕ) (xs : List X) (n i : ℕ) → IsNonDecreasingBy key xs → (IsNonDecreasingBy (λ x. ordering_index (nat_cmp (key x) n)) xs → IsPartitionPoint (λ x. nat_cmp (key x) n ≡ Less) (λ x. nat_cmp (key x) n ≡ Greater) xs i)
+none_missed : {X : Type 0} (key : X → ℕ) (xs : List X) (n i : ℕ) → IsNonDecreasingBy key xs
+    → (IsNonDecreasingBy (λ x. ordering_index (nat_cmp (key x) n)) xs
+    → IsPartitionPoint (λ x. nat_cmp (key x) n ≡ Less) (λ x. nat_cmp (key x) n ≡ Greater) xs i)
     → (k : ℕ) (d : X) → k < length xs → key (get_or xs k d) ≢ n
 none_missed key xs n i up parts k d within =
     let point = parts (λ i j d le within. index_rises (key (get_or xs i d)) (key (get_or xs j d)) n (up i j d le within)) in
@@ -132,7 +144,9 @@ none_missed key xs n i up parts k d within =
     ]
 
 -- a search by number says whether the number is there
-pub search_tells : {X : Type 0} (key : X → ℕ) (xs : List X) (n : ℕ) (r : Result ℕ ℕ) → IsNonDecreasingBy key xs → IsSearchInRange r (length xs) → IsBinarySearchResult (λ x. nat_cmp (key x) n) xs r → IsTrue (is_ok r) ↔ Contains (map key xs) n
+pub search_tells : {X : Type 0} (key : X → ℕ) (xs : List X) (n : ℕ) (r : Result ℕ ℕ) → IsNonDecreasingBy key xs
+    → IsSearchInRange r (length xs) → IsBinarySearchResult (λ x. nat_cmp (key x) n) xs r → IsTrue (is_ok r)
+    ↔ Contains (map key xs) n
 search_tells key xs n (Ok i) up bound found = (λ _. there key xs n i bound found, λ _. refl)
   where
     there : {X : Type 0} (key : X → ℕ) (xs : List X) (n i : ℕ) → i < length xs → ((d : X) → nat_cmp (key (get_or xs i d)) n ≡ Equal) → Contains (map key xs) n
@@ -146,7 +160,8 @@ search_tells key xs n (Err i) up bound parts = (
 )
 
 -- the item at the place that a search by number found is the one of the number
-pub find-place : {X : Type 0} (key : X → ℕ) (xs : List X) (n i : ℕ) → IsKeyed key xs → i < length xs → ((d : X) → nat_cmp (key (get_or xs i d)) n ≡ Equal) → slice_get xs i ≡ find (λ x. key x == n) xs
+pub find-place : {X : Type 0} (key : X → ℕ) (xs : List X) (n i : ℕ) → IsKeyed key xs → i < length xs
+    → ((d : X) → nat_cmp (key (get_or xs i d)) n ≡ Equal) → slice_get xs i ≡ find (λ x. key x == n) xs
 find-place key [] n i keyed within equal = absurd (omega arith)
 find-place key (x ∷ xs) n i keyed within equal =
     slice_get-get_or (x ∷ xs) i x within ∙ sym (find-at key (x ∷ xs) n i x keyed within (equal_is (key (get_or (x ∷ xs) i x)) n (equal x)))

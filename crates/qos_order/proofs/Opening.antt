@@ -21,14 +21,17 @@ find-opened [] n = refl
 find-opened (w ∷ weights) n = elim (bool_cases (w.conn == n)) [ inl same ↦ rw same refl | inr other ↦ rw other (find-opened weights n) ]
 
 -- what is listed under a number is the entry of the list
-pub seat_opened : (weights sorted : List Weight) (n : ℕ) → IsSound weights → IsPermutation weights sorted → find (λ s. s.conn == n) (map opened sorted) ≡ option_map opened (entry_of weights n)
+pub seat_opened : (weights sorted : List Weight) (n : ℕ) → IsSound weights → IsPermutation weights sorted
+    → find (λ s. s.conn == n) (map opened sorted) ≡ option_map opened (entry_of weights n)
 seat_opened weights sorted n sound moved = find-opened sorted n ∙ ap (option_map opened) (find-moved (λ w. w.conn) weights sorted n moved sound.once)
 
 pub opened_wheel : (weights sorted : List Weight) → IsSound weights → IsPermutation weights sorted → IsWheel (record { listed = map opened sorted; order = conns_of weights })
 opened_wheel weights sorted sound moved = record {
   listed_once = rw (numbers-opened sorted) (keyed-moved (λ w. w.conn) weights sorted moved sound.once);
   on_once = sound.once;
-  known = rw (numbers-opened sorted) (λ k d within. Contains-permutation (conns_of weights) (conns_of sorted) (get_or (conns_of weights) k d) (IsPermutation-map (λ w. w.conn) weights sorted moved) (Contains-get_or (conns_of weights) k d within));
+  known = rw (numbers-opened sorted) (λ k d within. Contains-permutation (conns_of weights) (conns_of sorted)
+      (get_or (conns_of weights) k d) (IsPermutation-map (λ w. w.conn) weights sorted moved)
+      (Contains-get_or (conns_of weights) k d within));
   weights = All-map (λ s. IsWeight s.weight) opened sorted (All-permutation (λ w. IsWeight w.weight) weights sorted moved sound.ranged);
   balanced = All-map (λ s. IsBalanced s.weight s.account) opened sorted (λ k d within. new_balanced (get_or sorted k d).weight);
 }

@@ -16,7 +16,9 @@ abbrev stays : Turn
 stays = record { visit = record { given = 1; ending = Given }; leaves = false }
 
 abbrev five : List Turn
-five = record stays { visit = record { given = 3; ending = Given } } ∷ stays ∷ record stays { visit = record { given = 1; ending = Shut } } ∷ stays ∷ record stays { visit = record { given = 5; ending = Given } } ∷ []
+five = record stays { visit = record { given = 3; ending = Given } } ∷ stays
+    ∷ record stays { visit = record { given = 1; ending = Shut } } ∷ stays
+    ∷ record stays { visit = record { given = 5; ending = Given } } ∷ []
 
 abbrev numbers : (visits rounds kept dropped : ℕ) → Account
 numbers visits rounds kept dropped = record { visits = visits; rounds = rounds; kept = kept; dropped = dropped }
@@ -84,6 +86,8 @@ range_first = record {
   entry = record { conn = 4; weight = 101 };
   after = [];
   is = refl;
-  sound = sound-short (record { conn = 4; weight = 1 } ∷ []) (omega arith) (All-cons (λ w. IsWeight w.weight) (record { conn = 4; weight = 1 }) [] (omega arith, omega arith) (All-nil (λ w. IsWeight w.weight)));
+  sound = sound-short (record { conn = 4; weight = 1 } ∷ []) (omega arith)
+      (All-cons (λ w. IsWeight w.weight) (record { conn = 4; weight = 1 }) [] (omega arith, omega arith)
+      (All-nil (λ w. IsWeight w.weight)));
   there = (refl, λ within. omega (arith, within.1));
 }

@@ -1,5 +1,6 @@
 -- Sound lists of weights, and first faults.
-use Rattle.std.proofs.Common.{◌≡◌, ℕ, zero, suc, ◌<◌, nat_eq, false, List, [], ◌∷◌, ◌++◌, length, get_or, refl, ap, sym, ◌∙◌, arith, ◌⊎◌, inl, inr, subst, append_assoc}
+use Rattle.std.proofs.Common.{◌≡◌, ℕ, zero, suc, ◌<◌, nat_eq, false, List, [], ◌∷◌, ◌++◌, length, get_or, refl, ap}
+use Rattle.std.proofs.Common.{sym, ◌∙◌, arith, ◌⊎◌, inl, inr, subst, append_assoc}
 use Rattle.std.specs.List.{Contains, IsDistinct, list_any}
 use Rattle.std.specs.List.Sorted.{IsPermutation}
 use Rattle.std.proofs.lemmas.Bool.{false_from_ne_true, eqb-false, eqb-true, cases_lt}
@@ -55,14 +56,17 @@ longer (x ∷ xs) y ys = omega (arith, longer xs y ys)
 
 -- no entry of a sound list is at fault
 fault_is_none : (before : List Weight) (entry : Weight) (after : List Weight) (fault : WeightFault) → IsSound (before ++ entry ∷ after) → IsAtFault before entry fault → ⊥
-fault_is_none before entry after (Range conn) sound at = at.1 (subst (λ (w : Weight). IsWeight w.weight) (get-append before entry after entry) (sound.ranged (length before) entry (longer before entry after)))
+fault_is_none before entry after (Range conn) sound at =
+    at.1 (subst (λ (w : Weight). IsWeight w.weight) (get-append before entry after entry)
+    (sound.ranged (length before) entry (longer before entry after)))
 fault_is_none before entry after (Twice conn) sound at =
     let there = at.2 in
     let names = conns-append before (entry ∷ after) in
     let once = rw names at sound.once in
     let far = longer (conns_of before) entry.conn (conns_of after) in
     let apart = apart_from_distinct nat_eq (conns_of before ++ entry.conn ∷ conns_of after) there.0 (length (conns_of before)) conn once there.1 far in
-    let same : get_or (conns_of before ++ entry.conn ∷ conns_of after) there.0 conn ≡ conn = get-before (conns_of before) (entry.conn ∷ conns_of after) there.0 conn there.1 ∙ there.2 in
+    let same : get_or (conns_of before ++ entry.conn ∷ conns_of after) there.0 conn ≡ conn =
+    get-before (conns_of before) (entry.conn ∷ conns_of after) there.0 conn there.1 ∙ there.2 in
     let last : get_or (conns_of before ++ entry.conn ∷ conns_of after) (length (conns_of before)) conn ≡ entry.conn = get-append (conns_of before) entry.conn (conns_of after) conn in
     eqb-false _ _ apart (same ∙ at.0 ∙ sym last)
 fault_is_none before entry after Memory sound at = at
@@ -98,7 +102,9 @@ one_way before entry Memory other at there = absurd at
 
 pub faults_once : FaultsOnce
 faults_once weights fault other first second = elim (split_again first.before first.entry first.after second.before second.entry second.after (sym first.is ∙ second.is)) [
-  | inl same ↦ one_way second.before second.entry fault other (subst (λ (e : Weight). IsAtFault second.before e fault) same.1 (subst (λ (b : List Weight). IsAtFault b first.entry fault) same.0 first.there)) second.there
+  | inl same ↦ one_way second.before second.entry fault other
+      (subst (λ (e : Weight). IsAtFault second.before e fault) same.1
+      (subst (λ (b : List Weight). IsAtFault b first.entry fault) same.0 first.there)) second.there
   | inr nested ↦ elim nested [
     | inl longer ↦ absurd (fault_is_none first.before first.entry longer.0 fault (subst IsSound longer.1 second.sound) first.there)
     | inr longer ↦ absurd (fault_is_none second.before second.entry longer.0 other (subst IsSound longer.1 first.sound) second.there)

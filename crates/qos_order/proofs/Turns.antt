@@ -1,5 +1,7 @@
 -- What a turn does to each connection of a wheel.
-use Rattle.std.proofs.Common.{◌≡◌, ◌≢◌, ℕ, zero, suc, ◌<◌, ◌==◌, nat_eq, if◌then◌else◌, List, [], ◌∷◌, ◌++◌, length, get_or, set, Some, option_map, slice_get, take, drop, refl, ap, sym, ◌∙◌, arith, inl, inr, subst}
+use Rattle.std.proofs.Common.{◌≡◌, ◌≢◌, ℕ, zero, suc, ◌<◌, ◌==◌, nat_eq, if◌then◌else◌, List, [], ◌∷◌, ◌++◌, length}
+use Rattle.std.proofs.Common.{get_or, set, Some, option_map, slice_get, take, drop, refl, ap, sym, ◌∙◌, arith, inl}
+use Rattle.std.proofs.Common.{inr, subst}
 use Rattle.std.specs.List.{find, Contains, All, IsDistinct}
 use Rattle.std.proofs.lemmas.Bool.{eqb-true, eqb-false, eq-eqb, ne_eqb}
 use Rattle.std.proofs.Math.Seq.{take-append_seam}
@@ -29,7 +31,9 @@ numbers-listed_after conn visit [] = refl
 numbers-listed_after conn visit (s ∷ seats) = let head = conn-seat_after conn visit s in let tail = numbers-listed_after conn visit seats in cc
 
 -- what is listed under a number after a visit
-pub find-listed_after : (conn : ℕ) (visit : Visit) (seats : List Seat) (n : ℕ) → find (λ s. s.conn == n) (listed_after conn visit seats) ≡ option_map (seat_after conn visit) (find (λ s. s.conn == n) seats)
+pub find-listed_after : (conn : ℕ) (visit : Visit) (seats : List Seat) (n : ℕ)
+    → find (λ s. s.conn == n) (listed_after conn visit seats) ≡ option_map (seat_after conn visit)
+    (find (λ s. s.conn == n) seats)
 find-listed_after conn visit [] n = refl
 find-listed_after conn visit (s ∷ seats) n = elim (bool_cases (s.conn == n)) [
   | inl same ↦ rw (conn-seat_after conn visit s, same) refl
@@ -45,12 +49,14 @@ conn-found (r ∷ seats) n s found = elim (bool_cases (r.conn == n)) [
 ]
 
 -- a visit of a connection that isn't among these leaves them
-others_stay : (conn : ℕ) (visit : Visit) (seats : List Seat) → ((k : ℕ) (d : Seat) → k < length seats → (get_or seats k d).conn ≢ conn) → listed_after conn visit seats ≡ seats
+others_stay : (conn : ℕ) (visit : Visit) (seats : List Seat)
+    → ((k : ℕ) (d : Seat) → k < length seats → (get_or seats k d).conn ≢ conn) → listed_after conn visit seats ≡ seats
 others_stay conn visit [] none = refl
 others_stay conn visit (s ∷ seats) none = rw (ne_eqb s.conn conn (none 0 s (omega arith))) (ap (λ r. s ∷ r) (others_stay conn visit seats (λ k d within. none (suc k) d (omega arith))))
 
 -- a write at the place of the connection is the visit
-pub set-visited : (conn : ℕ) (visit : Visit) (seats : List Seat) (place : ℕ) (d : Seat) → IsDistinct nat_eq (numbers_of seats) → place < length seats → (get_or seats place d).conn ≡ conn
+pub set-visited : (conn : ℕ) (visit : Visit) (seats : List Seat) (place : ℕ) (d : Seat)
+    → IsDistinct nat_eq (numbers_of seats) → place < length seats → (get_or seats place d).conn ≡ conn
     → set seats place (seat_visited visit (get_or seats place d)) ≡ listed_after conn visit seats
 set-visited conn visit [] place d once within is = absurd (omega arith)
 set-visited conn visit (s ∷ seats) zero d once within is =
@@ -76,7 +82,8 @@ pub turned_is : (wheel : WheelState) (turn : Turn) (first : ℕ) (others : List 
 turned_is wheel turn first others is = rw is refl
 
 -- the grant of the first connection is that of what is listed under its number
-pub grant_of_first : (wheel : WheelState) (first : ℕ) (others : List ℕ) (s : Seat) → wheel.order ≡ first ∷ others → seat_of wheel first ≡ Some s → first_grant wheel ≡ granted s.weight s.account.kept
+pub grant_of_first : (wheel : WheelState) (first : ℕ) (others : List ℕ) (s : Seat) → wheel.order ≡ first ∷ others
+    → seat_of wheel first ≡ Some s → first_grant wheel ≡ granted s.weight s.account.kept
 grant_of_first wheel first others s is there = rw (is, there) refl
 
 after_turn : (wheel : WheelState) (turn : Turn) (first : ℕ) (others : List ℕ) → wheel.order ≡ first ∷ others → IsWheel wheel → Fits (first_grant wheel) turn.visit
@@ -85,13 +92,18 @@ after_turn wheel turn first others is sound fits = record {
   listed_once = rw (numbers-listed_after first turn.visit wheel.listed) sound.listed_once;
   on_once = elim (bool_cases turn.leaves) [
     | inl leaves ↦ rw leaves (IsDistinct-tail nat_eq first others (rw is at sound.on_once))
-    | inr stays ↦ rw stays (IsDistinct-IsPermutation nat_eq (nat_eq_equiv).symm (first ∷ others) (others ++ first ∷ []) (IsPermutation-sym (others ++ first ∷ []) (first ∷ others) (IsPermutation-to_front others first)) (rw is at sound.on_once))
+    | inr stays ↦ rw stays (IsDistinct-IsPermutation nat_eq (nat_eq_equiv).symm (first ∷ others)
+        (others ++ first ∷ []) (IsPermutation-sym (others ++ first ∷ []) (first ∷ others)
+        (IsPermutation-to_front others first)) (rw is at sound.on_once))
   ];
   known = rw (numbers-listed_after first turn.visit wheel.listed) (elim (bool_cases turn.leaves) [
     | inl leaves ↦ rw leaves (All-tail (Contains (numbers_of wheel.listed)) first others (rw is at sound.known))
-    | inr stays ↦ rw stays (All-permutation (Contains (numbers_of wheel.listed)) (first ∷ others) (others ++ first ∷ []) (IsPermutation-sym (others ++ first ∷ []) (first ∷ others) (IsPermutation-to_front others first)) (rw is at sound.known))
+    | inr stays ↦ rw stays (All-permutation (Contains (numbers_of wheel.listed)) (first ∷ others)
+        (others ++ first ∷ []) (IsPermutation-sym (others ++ first ∷ []) (first ∷ others)
+        (IsPermutation-to_front others first)) (rw is at sound.known))
   ]);
-  weights = All-map (λ s. IsWeight s.weight) (seat_after first turn.visit) wheel.listed (λ k d within. rw (weight-seat_after first turn.visit (get_or wheel.listed k d)) (sound.weights k d within));
+  weights = All-map (λ s. IsWeight s.weight) (seat_after first turn.visit) wheel.listed
+      (λ k d within. rw (weight-seat_after first turn.visit (get_or wheel.listed k d)) (sound.weights k d within));
   balanced = All-map (λ s. IsBalanced s.weight s.account) (seat_after first turn.visit) wheel.listed (λ k d within.
       seat_after_balanced wheel.listed first turn.visit k d sound.listed_once sound.balanced (λ s there. rw (grant_of_first wheel first others s is there) at fits) within);
 }
@@ -112,7 +124,8 @@ order_is [] conn first = cc
 order_is (n ∷ ns) conn first = let same : conn ≡ n = cc in ap (λ m. m ∷ ns) (sym same)
 
 -- what the parts of a wheel are after a visit is the wheel after the turn
-pub visited_wheel : (wheel : WheelState) (turn : Turn) (conn : ℕ) (seats : List Seat) (order : List ℕ) → Some conn ≡ slice_get wheel.order 0 → seats ≡ listed_after conn turn.visit wheel.listed
+pub visited_wheel : (wheel : WheelState) (turn : Turn) (conn : ℕ) (seats : List Seat) (order : List ℕ)
+    → Some conn ≡ slice_get wheel.order 0 → seats ≡ listed_after conn turn.visit wheel.listed
     → order ≡ (if turn.leaves then drop 1 wheel.order else drop 1 wheel.order ++ take 1 wheel.order) → record { listed = seats; order = order } ≡ turned wheel turn
 visited_wheel wheel turn conn seats order first listed turning =
     let is = order_is wheel.order conn first in
@@ -120,7 +133,8 @@ visited_wheel wheel turn conn seats order first listed turning =
     ap (λ (ns : List ℕ). if turn.leaves then drop 1 wheel.order else drop 1 wheel.order ++ take 1 ns) is in
     rw (turned_is wheel turn conn (drop 1 wheel.order) is, listed, turning, rest) refl
 
-pub visited_sound : (wheel : WheelState) (turn : Turn) (conn : ℕ) (seats : List Seat) (order : List ℕ) → IsWheel wheel → IsTurn wheel turn → Some conn ≡ slice_get wheel.order 0 → seats ≡ listed_after conn turn.visit wheel.listed
+pub visited_sound : (wheel : WheelState) (turn : Turn) (conn : ℕ) (seats : List Seat) (order : List ℕ) → IsWheel wheel
+    → IsTurn wheel turn → Some conn ≡ slice_get wheel.order 0 → seats ≡ listed_after conn turn.visit wheel.listed
     → order ≡ (if turn.leaves then drop 1 wheel.order else drop 1 wheel.order ++ take 1 wheel.order) → IsWheel (record { listed = seats; order = order })
 visited_sound wheel turn conn seats order sound is_turn first listed turning =
     subst IsWheel (sym (visited_wheel wheel turn conn seats order first listed turning)) (wheel_turned wheel turn sound is_turn)
@@ -143,8 +157,12 @@ some_first (n ∷ ns) conn first = omega arith
 pub ascends_alike : (seats others : List Seat) → numbers_of others ≡ numbers_of seats → SeatsAscend seats → SeatsAscend others
 ascends_alike seats others same up i j d le within =
     let long : length others ≡ length seats = sym (length-keys (λ (s : Seat). s.conn) others) ∙ ap length same ∙ length-keys (λ (s : Seat). s.conn) seats in
-    let at_i : (get_or others i d).conn ≡ (get_or seats i d).conn = sym (get-map (λ (s : Seat). s.conn) others i d 0 (omega arith)) ∙ ap (λ ns. get_or ns i 0) same ∙ get-map (λ (s : Seat). s.conn) seats i d 0 (omega arith) in
-    let at_j : (get_or others j d).conn ≡ (get_or seats j d).conn = sym (get-map (λ (s : Seat). s.conn) others j d 0 within) ∙ ap (λ ns. get_or ns j 0) same ∙ get-map (λ (s : Seat). s.conn) seats j d 0 (omega arith) in
+    let at_i : (get_or others i d).conn ≡ (get_or seats i d).conn =
+    sym (get-map (λ (s : Seat). s.conn) others i d 0 (omega arith)) ∙ ap (λ ns. get_or ns i 0) same
+    ∙ get-map (λ (s : Seat). s.conn) seats i d 0 (omega arith) in
+    let at_j : (get_or others j d).conn ≡ (get_or seats j d).conn =
+    sym (get-map (λ (s : Seat). s.conn) others j d 0 within) ∙ ap (λ ns. get_or ns j 0) same
+    ∙ get-map (λ (s : Seat). s.conn) seats j d 0 (omega arith) in
     omega (arith, up i j d le (omega arith))
 
 pub ascends_after : (conn : ℕ) (visit : Visit) (seats others : List Seat) → others ≡ listed_after conn visit seats → SeatsAscend seats → SeatsAscend others

@@ -27,7 +27,7 @@ pub struct Account {
     pub dropped: u64,
 }
 
-/// An account at this number of visits doesn't change any more.
+// An account at this number of visits doesn't change any more.
 const MOST_VISITS: u64 = 1_099_511_627_776;
 
 impl Account {

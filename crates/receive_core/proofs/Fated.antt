@@ -1,5 +1,6 @@
 -- A frame has one fate.
-use Rattle.std.proofs.Common.{◌≡◌, ℕ, ◌-◌, ◌<◌, ◌≤◌, ◌⊎◌, List, length, Option, Some, None, Bool, true, false, inl, inr, refl, sym, ap, subst, ◌∙◌, arith, ⊎_elim}
+use Rattle.std.proofs.Common.{◌≡◌, ℕ, ◌-◌, ◌<◌, ◌≤◌, ◌⊎◌, List, length, Option, Some, None, Bool, true, false, inl}
+use Rattle.std.proofs.Common.{inr, refl, sym, ap, subst, ◌∙◌, arith, ⊎_elim}
 use Rattle.std.proofs.lemmas.Bool.{cases_lt, cases_eq}
 use Rattle.mrpc_table.specs.Node.{Node}
 use Rattle.mrpc_table.specs.declared.table.Table.{Table}
@@ -9,9 +10,11 @@ use Rattle.wire_decode.specs.declared.fault.DecodeReason.{DecodeReason}
 use Rattle.frame_transport.specs.declared.format.Frame.{Frame}
 use Rattle.policy_access.specs.Verdict.{AccessPolicy, verdict}
 use Rattle.mrpc_table.specs.declared.call.Call.{Call}
-use Rattle.graph_place.specs.Size.{capped}
+use Rattle.mrpc_table.specs.Capped.{capped}
 use Rattle.receive_core.specs.declared.arrival.DropCause.TheVariants.{Hello, NoMethod, Decode, Denied, Oversize}
-use Rattle.receive_core.specs.Fates.{Fate, drops, arrives, IsFate, is_hello, has_no_method, is_faulty, is_denied, is_too_large, arrived, IsCall, Allows, HasFate, HasOneFate, call_of, message_of, block_words}
+use Rattle.receive_core.specs.Fates.{Fate, drops, arrives, IsFate, is_hello, has_no_method, is_faulty, is_denied}
+use Rattle.receive_core.specs.Fates.{is_too_large, arrived, IsCall, Allows, HasFate, HasOneFate, call_of, message_of}
+use Rattle.receive_core.specs.Fates.{block_words}
 
 -- what is known of meanings and faults
 abbrev pub MeansOnce : Type 0

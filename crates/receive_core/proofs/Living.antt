@@ -1,5 +1,7 @@
 -- How the life of a receiver goes on.
-use Rattle.std.proofs.Common.{◌≡◌, ℕ, ◌+◌, ◌*◌, ◌-◌, ◌<◌, ◌≤◌, List, [], ◌∷◌, ◌++◌, length, Option, Some, None, Result, Ok, Err, inl, inr, refl, sym, ap, subst, ◌∙◌, arith, append_assoc, append-nil, length-append, get_or}
+use Rattle.std.proofs.Common.{◌≡◌, ℕ, ◌+◌, ◌*◌, ◌-◌, ◌<◌, ◌≤◌, List, [], ◌∷◌, ◌++◌, length, Option, Some, None}
+use Rattle.std.proofs.Common.{Result, Ok, Err, inl, inr, refl, sym, ap, subst, ◌∙◌, arith, append_assoc, append-nil}
+use Rattle.std.proofs.Common.{length-append, get_or}
 use Rattle.std.specs.Prelude.{All, map, ◌⊎◌, OnOk, IfErr, IfOk, OnErr}
 use Rattle.std.specs.List.{flat_map}
 use Rattle.std.proofs.lemmas.List.Elements.{All-nil, All-head, All-tail, All-push, All-append, All-from_get_or}
@@ -16,7 +18,9 @@ use Rattle.receive_heap.specs.Layout.{Layout, IsSound}
 use Rattle.receive_core.specs.Fates.{arrives, IsFate, is_hello, has_no_method, is_faulty, is_denied, is_too_large, arrived, message_of, block_words}
 use Rattle.receive_core.specs.Order.{HasTaken, goes_on, has_stopped}
 use Rattle.receive_core.specs.Turns.{Receiving, IsReady, Turns, HasStayed}
-use Rattle.receive_core.specs.Life.{Fated, was_dropped, was_placed, frame_of, stores_of, HasArrived, HasItsFate, Reads, Life, hello_in, frames_of, Lives, no_life, fed, greeted, fated, Tells, TakesEach, StreamIsShort, StoresAreFew}
+use Rattle.receive_core.specs.Life.{Fated, was_dropped, was_placed, frame_of, stores_of, HasArrived, HasItsFate}
+use Rattle.receive_core.specs.Life.{Reads, Life, hello_in, frames_of, Lives, no_life, fed, greeted, fated, Tells}
+use Rattle.receive_core.specs.Life.{TakesEach, StreamIsShort, StoresAreFew}
 use Rattle.receive_core.specs.declared.arrival.Arrival.{Arrival}
 use Rattle.receive_core.specs.declared.arrival.Arrival.TheVariants.{None as NoFrame, Arrived, Dropped, Waiting}
 use Rattle.receive_core.proofs.Firsts.{OneFrame, taken_total}
@@ -83,7 +87,8 @@ left_reads once old f new fault (h ∷ waiting) r g =
 
 -- ---- one step
 
-pub begins : IsPartial [] → ((fault : FeedFault) → IsFaultAt 0 [] fault → ⊥) → (T : Table) (r : Receiving) → r.fed ≡ record { place = 0; bytes = []; behind = 0 } → IsSound r.heap
+pub begins : IsPartial [] → ((fault : FeedFault) → IsFaultAt 0 [] fault → ⊥) → (T : Table) (r : Receiving)
+    → r.fed ≡ record { place = 0; bytes = []; behind = 0 } → IsSound r.heap
     → r.heap.next ≡ 1 → IsReady T r → Lives T no_life r
 begins nothing clean T r none sound next ready =
     let start : Fed = record { place = 0; bytes = []; behind = 0 } in
@@ -106,7 +111,8 @@ begins nothing clean T r none sound next ready =
     }
 
 -- a receiver of which only the heap and what was read of the first frame have changed
-pub lives_still : (T : Table) (life : Life) (old new : Receiving) → Lives T life old → new.conn ≡ old.conn → new.fed ≡ old.fed → new.heap.words ≡ old.heap.words → new.heap.next ≡ old.heap.next
+pub lives_still : (T : Table) (life : Life) (old new : Receiving) → Lives T life old → new.conn ≡ old.conn
+    → new.fed ≡ old.fed → new.heap.words ≡ old.heap.words → new.heap.next ≡ old.heap.next
     → IsSound new.heap → IsReady T new → Lives T life new
 lives_still T life old new lives conn same words next sound ready = record {
   waiting = lives.waiting;
@@ -127,7 +133,8 @@ are_bytes : (bs : List ℕ) → ((i : ℕ) → get_or bs i 0 < 256) → All (λ 
 are_bytes bs h = All-from_get_or (λ (byte : ℕ). byte < 256) bs 0 (λ i lt. h i)
 
 pub goes_well : Known → (T : Table) (life : Life) (old new : Receiving) (piece : List ℕ) → Lives T life old → ((i : ℕ) → get_or piece i 0 < 256)
-    → GoesOn old.fed piece new.fed → Ends old.fed.place (old.fed.bytes ++ piece) None → new.conn ≡ old.conn → new.heap ≡ old.heap → IsReady T new → Lives T (fed life piece None) new
+    → GoesOn old.fed piece new.fed → Ends old.fed.place (old.fed.bytes ++ piece) None → new.conn ≡ old.conn
+    → new.heap ≡ old.heap → IsReady T new → Lives T (fed life piece None) new
 goes_well known T life old new piece lives small on clean conn heap ready =
     let taken = goes_on_so known.stays known.ends life.stream (frames_of life) old.fed piece new.fed lives.taken on clean in
     let kept : Reads new.fed.place new.fed.bytes clean.frames None = record {
@@ -171,7 +178,16 @@ goes_wrong known T life old new piece fault lives small stop conn heap ready =
       all = all_of known (life.stream ++ piece) (frames_of life) end.frames new.fed (Some fault) taken kept;
       kept = kept;
       taken = taken;
-      counted = omega (arith, before, stop.place, stop.behind, ap length stop.stream, length-append old.fed.bytes piece, length-append new.fed.bytes stop.dropped, length-append life.stream piece);
+      counted = omega (
+        arith,
+        before,
+        stop.place,
+        stop.behind,
+        ap length stop.stream,
+        length-append old.fed.bytes piece,
+        length-append new.fed.bytes stop.dropped,
+        length-append life.stream piece,
+      );
       bytes = All-append (λ (byte : ℕ). byte < 256) life.stream piece lives.bytes (are_bytes piece small);
       ready = ready;
       fates = subst (λ (l : Layout). All (HasItsFate T new.conn l.words) life.fates) (sym heap)
@@ -229,13 +245,15 @@ fates_on known T life old new m lives gives conn words next sound ready fate =
     let all = All-push (HasItsFate T old.conn old.heap.words) life.fates m lives.fates fate in
     let before = lives.blocks in
     gives_on known T life (fated life (m ∷ [])) old new (frame_of m) lives gives refl refl (one_more life m)
-    (subst (λ (w : ℕ). All (HasItsFate T new.conn w) (life.fates ++ m ∷ [])) (sym words) (subst (λ (n : ℕ). All (HasItsFate T n old.heap.words) (life.fates ++ m ∷ [])) (sym conn) all))
+    (subst (λ (w : ℕ). All (HasItsFate T new.conn w) (life.fates ++ m ∷ [])) (sym words)
+    (subst (λ (n : ℕ). All (HasItsFate T n old.heap.words) (life.fates ++ m ∷ [])) (sym conn) all))
     sound (omega (arith, before, next, length-append life.fates (m ∷ []))) ready
 
 -- ---- a turn
 
 -- a message that arrives has a block within the heap
-small_block : (T : Table) (policy : Option AccessPolicy) (conn words : ℕ) (f : Frame) (t : Node) → IsFate T policy conn words f (arrives t) → block_words T (message_of T f) t ≤ words - 1
+small_block : (T : Table) (policy : Option AccessPolicy) (conn words : ℕ) (f : Frame) (t : Node)
+    → IsFate T policy conn words f (arrives t) → block_words T (message_of T f) t ≤ words - 1
 small_block T policy conn words f t (is_hello kind wrong) = absurd cc
 small_block T policy conn words f t (has_no_method kind method wrong) = absurd cc
 small_block T policy conn words f t (is_faulty call reason place fault wrong) = absurd cc
@@ -255,7 +273,9 @@ Adds T policy life new stores after a = (more : List Fated) × Tells policy a mo
 nothing_stored : (stores after : List (ℕ × ℕ)) → after ≡ stores → after ≡ stores ++ flat_map stores_of []
 nothing_stored stores after same = same ∙ sym (append-nil stores)
 
-pub turn_adds : Known → (T : Table) (policy : Option AccessPolicy) (life : Life) (old new : Receiving) (stores after : List (ℕ × ℕ)) (a : Arrival) → Lives T life old → new.conn ≡ old.conn
+pub turn_adds : Known
+    → (T : Table) (policy : Option AccessPolicy) (life : Life) (old new : Receiving) (stores after : List (ℕ × ℕ))
+    (a : Arrival) → Lives T life old → new.conn ≡ old.conn
     → new.heap.words ≡ old.heap.words → IsSound new.heap → IsReady T new → Turns T policy old new stores after a → Adds T policy life new stores after a
 turn_adds known T policy life old new stores after NoFrame lives conn words sound ready t =
     ([], refl, nothing_stored stores after t.2, subst (λ (l : Life). Lives T l new) (no_more life) (subst (Lives T life) (sym t.1) lives))
@@ -288,15 +308,19 @@ turn_adds known T policy life old new stores after (Arrived kind method number b
       fates_on known T life old new m lives t.taken conn words next sound ready arrives,
     )
 
-pub ok_adds : Known → (T : Table) (policy : Option AccessPolicy) (life : Life) (old new : Receiving) (stores after : List (ℕ × ℕ)) (r : Result Arrival Memory) → Lives T life old → new.conn ≡ old.conn
+pub ok_adds : Known
+    → (T : Table) (policy : Option AccessPolicy) (life : Life) (old new : Receiving) (stores after : List (ℕ × ℕ))
+    (r : Result Arrival Memory) → Lives T life old → new.conn ≡ old.conn
     → new.heap.words ≡ old.heap.words → IsSound new.heap → IsReady T new → IfOk r (Turns T policy old new stores after) → IfOk r (Adds T policy life new stores after)
 ok_adds known T policy life old new stores after (Ok a) lives conn words sound ready t = turn_adds known T policy life old new stores after a lives conn words sound ready t
 ok_adds known T policy life old new stores after (Err e) lives conn words sound ready t = tt
 
-pub err_stays : (T : Table) (life : Life) (old new : Receiving) (r : Result Arrival Memory) → Lives T life old → IsReady T new → OnErr r (HasStayed old new) → OnErr r (Lives T life new)
+pub err_stays : (T : Table) (life : Life) (old new : Receiving) (r : Result Arrival Memory) → Lives T life old
+    → IsReady T new → OnErr r (HasStayed old new) → OnErr r (Lives T life new)
 err_stays T life old new (Ok a) lives ready stays = tt
 err_stays T life old new (Err e) lives ready stays =
-    lives_still T life old new lives stays.conn stays.fed (ap (λ (l : Layout). l.words) stays.heap) (ap (λ (l : Layout). l.next) stays.heap) (subst IsSound (sym stays.heap) lives.sound) ready
+    lives_still T life old new lives stays.conn stays.fed (ap (λ (l : Layout). l.words) stays.heap)
+    (ap (λ (l : Layout). l.next) stays.heap) (subst IsSound (sym stays.heap) lives.sound) ready
 
 -- how many stores a turn makes
 stores_of_turn : (T : Table) (policy : Option AccessPolicy) (old new : Receiving) (stores after : List (ℕ × ℕ)) (a : Arrival) → Turns T policy old new stores after a
@@ -312,20 +336,25 @@ stores_of_turn T policy old new stores after (Arrived kind method number block t
     let long : length after ≡ length stores + length placed.placed.words = ap length placed.stored ∙ length-append stores placed.placed.words in
     omega (arith, small, size, few, long)
 
-pub few_stores : (T : Table) (policy : Option AccessPolicy) (old new : Receiving) (stores after : List (ℕ × ℕ)) (r : Result Arrival Memory) → IfOk r (Turns T policy old new stores after)
+pub few_stores : (T : Table) (policy : Option AccessPolicy) (old new : Receiving) (stores after : List (ℕ × ℕ))
+    (r : Result Arrival Memory) → IfOk r (Turns T policy old new stores after)
     → OnErr r (after ≡ stores) → length after ≤ length stores + (old.heap.words - 1)
 few_stores T policy old new stores after (Ok a) t none = stores_of_turn T policy old new stores after a t
 few_stores T policy old new stores after (Err e) t none = (let same : length after ≡ length stores = ap length none in omega (arith, same))
 
 -- ---- a piece
 
-pub piece_life : Known → (T : Table) (life : Life) (old new : Receiving) (piece : List ℕ) (r : Result (Unit {0}) FeedFault) → Lives T life old → ((i : ℕ) → get_or piece i 0 < 256)
+pub piece_life : Known
+    → (T : Table) (life : Life) (old new : Receiving) (piece : List ℕ) (r : Result (Unit {0}) FeedFault)
+    → Lives T life old → ((i : ℕ) → get_or piece i 0 < 256)
     → OnOk r (GoesOn old.fed piece new.fed) → OnOk r (Ends old.fed.place (old.fed.bytes ++ piece) None) → new.conn ≡ old.conn → new.heap ≡ old.heap → IsReady T new
     → OnOk r (Lives T (fed life piece None) new)
 piece_life known T life old new piece (Ok u) lives small on clean conn heap ready = goes_well known T life old new piece lives small on clean conn heap ready
 piece_life known T life old new piece (Err e) lives small on clean conn heap ready = tt
 
-pub fault_life : Known → (T : Table) (life : Life) (old new : Receiving) (piece : List ℕ) (r : Result (Unit {0}) FeedFault) → Lives T life old → ((i : ℕ) → get_or piece i 0 < 256)
+pub fault_life : Known
+    → (T : Table) (life : Life) (old new : Receiving) (piece : List ℕ) (r : Result (Unit {0}) FeedFault)
+    → Lives T life old → ((i : ℕ) → get_or piece i 0 < 256)
     → IfErr r (λ fault. (fault ≡ NoMemory) ⊎ StopsAt old.fed piece fault new.fed) → new.conn ≡ old.conn → new.heap ≡ old.heap → IsReady T new
     → IfErr r (λ fault. (fault ≡ NoMemory) ⊎ Lives T (fed life piece (Some fault)) new)
 fault_life known T life old new piece (Ok u) lives small stops conn heap ready = tt
@@ -384,7 +413,8 @@ few_each : (T : Table) (conn words : ℕ) (m : Fated) → HasItsFate T conn word
 few_each T conn words (was_dropped f policy why) fate = omega arith
 few_each T conn words (was_placed f policy t block placed) fate = (let few = fate.stands.few in let inside = fate.inside in omega (arith, few, inside))
 
-few_all : (T : Table) (conn words most : ℕ) (fates : List Fated) → most ≡ words - 1 → All (HasItsFate T conn words) fates → length (flat_map stores_of fates) ≤ length fates * most
+few_all : (T : Table) (conn words most : ℕ) (fates : List Fated) → most ≡ words - 1
+    → All (HasItsFate T conn words) fates → length (flat_map stores_of fates) ≤ length fates * most
 few_all T conn words most [] is all = omega arith
 few_all T conn words most (m ∷ fates) is all =
     let rest = few_all T conn words most fates is (All-tail (HasItsFate T conn words) m fates all) in

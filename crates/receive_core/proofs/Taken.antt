@@ -6,7 +6,8 @@ use Rattle.mrpc_table.specs.Calls.{message_at}
 use Rattle.mrpc_table.specs.Node.{Node}
 use Rattle.mrpc_table.specs.declared.table.Table.{Table}
 use Rattle.graph_form.specs.declared.placed.Placed.{Placed as PlacedWords}
-use Rattle.graph_place.specs.Size.{tree_words, capped}
+use Rattle.mrpc_table.specs.Capped.{capped}
+use Rattle.graph_place.specs.Size.{tree_words}
 use Rattle.frame_transport.specs.declared.format.Frame.{Frame}
 use Rattle.mrpc_table.specs.declared.call.Call.{Call}
 use Rattle.receive_heap.specs.Layout.{Layout, IsFirstFit}
@@ -72,4 +73,5 @@ fits_in T conn f o at words is inside small =
 pub inside_heap : (T : Table) (H msg : ℕ) (t : Node) (at span size : ℕ) (placed : PlacedWords) → StandsIn T H msg t at span placed → 1 ≤ at → at + span ≤ size
     → All (λ word. (1 ≤ word.0) × (word.0 < size)) placed.words
 inside_heap T H msg t at span size placed stands from within =
-    All-weaker (λ (w : ℕ × ℕ). (at ≤ w.0) × (w.0 < at + span)) (λ (w : ℕ × ℕ). (1 ≤ w.0) × (w.0 < size)) (λ w h. (omega (arith, h.0, from), omega (arith, h.1, within))) placed.words stands.within
+    All-weaker (λ (w : ℕ × ℕ). (at ≤ w.0) × (w.0 < at + span)) (λ (w : ℕ × ℕ). (1 ≤ w.0) × (w.0 < size))
+    (λ w h. (omega (arith, h.0, from), omega (arith, h.1, within))) placed.words stands.within

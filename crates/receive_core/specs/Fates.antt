@@ -6,7 +6,8 @@ use Rattle.mrpc_table.specs.declared.table.Table.{Table}
 use Rattle.wire_decode.specs.Means.{Means}
 use Rattle.wire_decode.specs.Faults.{IsFirstFault}
 use Rattle.wire_decode.specs.declared.fault.DecodeReason.{DecodeReason}
-use Rattle.graph_place.specs.Size.{tree_words, capped}
+use Rattle.mrpc_table.specs.Capped.{capped}
+use Rattle.graph_place.specs.Size.{tree_words}
 use Rattle.frame_transport.specs.declared.format.Frame.{Frame}
 use Rattle.frame_transport.specs.declared.format.TheConstants.{HELLO}
 use Rattle.policy_access.specs.Verdict.{AccessPolicy, verdict}

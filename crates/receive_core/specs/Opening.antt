@@ -3,7 +3,7 @@ use Rattle.std.specs.Prelude.{◌≡◌, ℕ, ◌-◌, ◌<◌, ◌≤◌, ◌�
 use Rattle.mrpc_table.specs.Normal.{IsNormal}
 use Rattle.mrpc_table.specs.declared.table.Table.{Table}
 use Rattle.wire_decode.specs.Means.{Means}
-use Rattle.graph_place.specs.Size.{capped}
+use Rattle.mrpc_table.specs.Capped.{capped}
 use Rattle.frame_transport.specs.declared.format.Frame.{Frame}
 use Rattle.policy_access.specs.Verdict.{AccessPolicy, verdict}
 use Rattle.receive_core.specs.Fates.{IsFate, drops, IsCall, Allows, call_of, message_of, block_words}

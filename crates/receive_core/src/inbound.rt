@@ -237,7 +237,7 @@ impl Inbound {
     }
 
     /// How many bytes were fed that lie in no whole frame. It takes no memory.
-    pub fn rest(&self) -> u64
+    pub fn left_over(&self) -> u64
         ensures { (frames : List TheFrame) (rest : List ℕ) → Splits self.now.fed.place self.now.fed.bytes frames rest
             → result ≡ length rest + self.now.fed.behind }
     {

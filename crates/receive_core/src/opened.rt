@@ -29,7 +29,7 @@ pub(crate) enum Reading {
     Dropped(DropCause),
 }
 
-/// The number by which the call of a frame is judged.
+// The number by which the call of a frame is judged.
 fn judged_number(frame: &Frame) -> u32
     ensures { result ≡ judged_number frame.now }
 {

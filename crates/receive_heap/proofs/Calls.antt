@@ -1,5 +1,6 @@
 -- What the two calls keep.
-use Rattle.std.proofs.Common.{◌≡◌, ◌<◌, ◌≤◌, ◌+◌, ℕ, cond, List, [], ◌∷◌, ◌++◌, Some, length, length-append, arith, refl, sym, ◌∙◌, ap, subst, map, get_or}
+use Rattle.std.proofs.Common.{◌≡◌, ◌<◌, ◌≤◌, ◌+◌, ℕ, cond, List, [], ◌∷◌, ◌++◌, Some, length, length-append, arith}
+use Rattle.std.proofs.Common.{refl, sym, ◌∙◌, ap, subst, map, get_or}
 use Rattle.std.specs.List.{sum_by}
 use Rattle.std.specs.Map.{values_of, lookup, remove_entry}
 use Rattle.std.specs.BTreeMap.{is_at}
@@ -28,13 +29,16 @@ places_taken before holes after i words x same lt is places place =
     subst (λ hs. holes_at after place + one_at (record { at = x.at; words = words }) place ≡ holes_at hs place) same
     (subst (λ (h : Span). holes_at after place + one_at (record { at = h.at; words = words }) place ≡ holes_at before place) e (places place))
 
-pub sound_from : (words next : ℕ) (holes : List Span) (entries : List (ℕ × Block)) (capacity : ℕ) → Keeps (laid words holes entries next) entries capacity → IsStrictlySortedBy nat_cmp (map (λ (e : ℕ × Block). e.0) entries)
+pub sound_from : (words next : ℕ) (holes : List Span) (entries : List (ℕ × Block)) (capacity : ℕ)
+    → Keeps (laid words holes entries next) entries capacity
+    → IsStrictlySortedBy nat_cmp (map (λ (e : ℕ × Block). e.0) entries)
     → IsSound (laid words holes entries next)
 sound_from words next holes entries capacity keeps sorted = record {
   partition = keeps.partition;
   apart = keeps.apart;
   hole_words = keeps.some;
-  block_words = All-map (λ (block : Block). 1 ≤ block.words) (λ (e : ℕ × Block). e.1) entries (All-weaker (IsEntry next) (λ e. 1 ≤ e.1.words) (λ e known. known.3) entries keeps.known);
+  block_words = All-map (λ (block : Block). 1 ≤ block.words) (λ (e : ℕ × Block). e.1) entries
+      (All-weaker (IsEntry next) (λ e. 1 ≤ e.1.words) (λ e known. known.3) entries keeps.known);
   numbers = subst IsStrictlyIncreasing (sym (numbers_are next entries keeps.known)) (IsStrictlyIncreasing-from_sorted (map (λ (e : ℕ × Block). e.0) entries) sorted);
   numbered = All-map (λ (block : Block). (1 ≤ block.number) × (block.number < next)) (λ (e : ℕ × Block). e.1) entries
       (All-weaker (IsEntry next) (λ e. (1 ≤ e.1.number) × (e.1.number < next)) (λ e known. (omega (arith, known.0, known.1), omega (arith, known.0, known.2))) entries keeps.known);
@@ -42,7 +46,9 @@ sound_from words next holes entries capacity keeps sorted = record {
 
 pub reclaim_keeps : (words next number : ℕ) (holes after : List Span) (entries : List (ℕ × Block)) (block : Block) (capacity grown : ℕ)
     → Keeps (laid words holes entries next) entries capacity → lookup (is_at (nat_cmp number)) entries ≡ Some block → AreHoles after
-    → ((place : ℕ) → holes_at after place ≡ holes_at holes place + one_at (record { at = block.at; words = block.words }) place) → length after ≤ length holes + 1 → capacity ≤ grown
+    → ((place : ℕ) → holes_at after place ≡ holes_at holes place
+    + one_at (record { at = block.at; words = block.words }) place) → length after ≤ length holes + 1
+    → capacity ≤ grown
     → Keeps (laid words after (remove_entry (is_at (nat_cmp number)) entries) next) (remove_entry (is_at (nat_cmp number)) entries) grown
 reclaim_keeps words next number holes after entries block capacity grown keeps found are places len larger = record {
   words = keeps.words;
@@ -59,7 +65,8 @@ reclaim_keeps words next number holes after entries block capacity grown keeps f
 
 pub take_keeps : (words next : ℕ) (holes after : List Span) (entries : List (ℕ × Block)) (block : Block) (capacity room : ℕ)
     → Keeps (laid words holes entries next) entries capacity → block.number ≡ next → 1 ≤ block.words → AreHoles after
-    → ((place : ℕ) → holes_at after place + one_at (record { at = block.at; words = block.words }) place ≡ holes_at holes place) → length after ≤ length holes → length holes + (length entries + 1) ≤ room
+    → ((place : ℕ) → holes_at after place + one_at (record { at = block.at; words = block.words }) place
+    ≡ holes_at holes place) → length after ≤ length holes → length holes + (length entries + 1) ≤ room
     → Keeps (laid words after (entries ++ (next, block) ∷ []) (next + 1)) (entries ++ (next, block) ∷ []) room
 take_keeps words next holes after entries block capacity room keeps number some are places len roomy = record {
   words = keeps.words;

@@ -1,5 +1,6 @@
 -- A span among the holes: joined with the holes that it touches, and set among the others.
-use Rattle.std.proofs.Common.{◌≡◌, ◌≢◌, ◌<◌, ◌≤◌, ◌+◌, ◌-◌, ℕ, suc, ◌⊎◌, true, nat_lt, List, ◌∷◌, All, get_or, length, take, drop, arith, sym, ◌∙◌, ap, subst, ⊎_elim}
+use Rattle.std.proofs.Common.{◌≡◌, ◌≢◌, ◌<◌, ◌≤◌, ◌+◌, ◌-◌, ℕ, suc, ◌⊎◌, true, nat_lt, List, ◌∷◌, All, get_or, length}
+use Rattle.std.proofs.Common.{take, drop, arith, sym, ◌∙◌, ap, subst, ⊎_elim}
 use Rattle.std.specs.List.{AllWithin, insert, remove}
 use Rattle.std.specs.List.Sorted.{IsPartitionedBy}
 use Rattle.std.proofs.lemmas.Bool.{cases_lt}
@@ -88,7 +89,8 @@ clear_joined_before holes i s h are some lt is k d klt =
     let e : get_or holes k h ≡ get_or (remove holes (i - 1)) k d = get_or_default holes k h d within ∙ sym (get_or-remove_below holes (i - 1) d k klt lt) in
     subst (λ x. x.at + x.words < h.at) e b
 
-pub stands_joined_before : (holes : List Span) (i : ℕ) (s h : Span) → AreHoles holes → Stands holes i s → 0 < i → i - 1 < length holes → h ≡ get_or holes (i - 1) h → h.at + h.words ≡ s.at
+pub stands_joined_before : (holes : List Span) (i : ℕ) (s h : Span) → AreHoles holes → Stands holes i s → 0 < i
+    → i - 1 < length holes → h ≡ get_or holes (i - 1) h → h.at + h.words ≡ s.at
     → Stands (remove holes (i - 1)) (i - 1) (record { at = h.at; words = h.words + s.words })
 stands_joined_before holes i s h are stands some lt is touch =
     let n = length-remove holes (i - 1) lt in
@@ -102,7 +104,8 @@ stands_joined_before holes i s h are stands some lt is touch =
           subst (λ x. h.at + (h.words + s.words) ≤ x.at) (sym (get_or-remove_above holes (i - 1) d k le lt)) (omega (arith, b, touch));
     }
 
-pub clear_apart_before : (holes : List Span) (i : ℕ) (s h : Span) → AreHoles holes → Stands holes i s → 0 < i → i - 1 < length holes → h ≡ get_or holes (i - 1) h → h.at + h.words ≢ s.at
+pub clear_apart_before : (holes : List Span) (i : ℕ) (s h : Span) → AreHoles holes → Stands holes i s → 0 < i
+    → i - 1 < length holes → h ≡ get_or holes (i - 1) h → h.at + h.words ≢ s.at
     → IsClearBefore holes i s
 clear_apart_before holes i s h are stands some lt is differs k d klt =
     let b : h.at + h.words ≤ s.at = subst (λ x. x.at + x.words ≤ s.at) (sym is) (stands.before (i - 1) h (omega (arith, some))) in
@@ -135,7 +138,9 @@ holes_inserted holes i s are stands behind before = record {
       subst (λ x. x.at + x.words < (get_or (insert holes i s) k d).at) (sym ej)
       (⊎_elim
       (λ (kc : i < k).
-      let ek : get_or (insert holes i s) k d ≡ get_or holes (k - 1) d = subst (λ m. get_or (insert holes i s) m d ≡ get_or holes (k - 1) d) (omega (arith, kc)) (get_or-insert_above holes i s d (k - 1) (omega (arith, kc)) stands.within) in
+      let ek : get_or (insert holes i s) k d ≡ get_or holes (k - 1) d =
+      subst (λ m. get_or (insert holes i s) m d ≡ get_or holes (k - 1) d) (omega (arith, kc))
+      (get_or-insert_above holes i s d (k - 1) (omega (arith, kc)) stands.within) in
       subst (λ x. (get_or holes j d).at + (get_or holes j d).words < x.at) (sym ek) (are.apart j (k - 1) d (omega (arith, jb, kc)) (omega (arith, n, klt, kc))))
       (λ (ke : k ≤ i).
       let e : i ≡ k = omega (arith, ke, ka) in
@@ -144,11 +149,15 @@ holes_inserted holes i s are stands behind before = record {
       (cases_lt i k)))
       (λ (ja : i ≤ j).
       let kc : i < k = omega (arith, ja, less) in
-      let ek : get_or (insert holes i s) k d ≡ get_or holes (k - 1) d = subst (λ m. get_or (insert holes i s) m d ≡ get_or holes (k - 1) d) (omega (arith, kc)) (get_or-insert_above holes i s d (k - 1) (omega (arith, kc)) stands.within) in
+      let ek : get_or (insert holes i s) k d ≡ get_or holes (k - 1) d =
+      subst (λ m. get_or (insert holes i s) m d ≡ get_or holes (k - 1) d) (omega (arith, kc))
+      (get_or-insert_above holes i s d (k - 1) (omega (arith, kc)) stands.within) in
       subst (λ x. (get_or (insert holes i s) j d).at + (get_or (insert holes i s) j d).words < x.at) (sym ek)
       (⊎_elim
       (λ (jc : i < j).
-      let ej : get_or (insert holes i s) j d ≡ get_or holes (j - 1) d = subst (λ m. get_or (insert holes i s) m d ≡ get_or holes (j - 1) d) (omega (arith, jc)) (get_or-insert_above holes i s d (j - 1) (omega (arith, jc)) stands.within) in
+      let ej : get_or (insert holes i s) j d ≡ get_or holes (j - 1) d =
+      subst (λ m. get_or (insert holes i s) m d ≡ get_or holes (j - 1) d) (omega (arith, jc))
+      (get_or-insert_above holes i s d (j - 1) (omega (arith, jc)) stands.within) in
       subst (λ x. x.at + x.words < (get_or holes (k - 1) d).at) (sym ej) (are.apart (j - 1) (k - 1) d (omega (arith, jc, less)) (omega (arith, n, klt, kc))))
       (λ (je : j ≤ i).
       let e : i ≡ j = omega (arith, je, ja) in
@@ -170,7 +179,10 @@ stands_between holes i s are some small none within low high = record {
   small = small;
   before = λ k d klt.
       let lt : k < length holes = omega (arith, klt, within) in
-      ⊎_elim (λ done. done) (λ past. let l = low k d (omega arith) klt in omega (arith, l, past, some)) (All-get_or (λ hole. (hole.at + hole.words ≤ s.at) ⊎ (s.at + s.words ≤ hole.at)) holes k d lt none);
+      ⊎_elim (λ done. done) (λ past. let l = low k d (omega arith) klt in omega (arith, l, past, some))
+      (All-get_or (λ hole. (hole.at + hole.words ≤ s.at) ⊎ (s.at + s.words ≤ hole.at)) holes k d lt none);
   behind = λ k d le klt.
-      ⊎_elim (λ past. let h = high k d le klt in let w = All-get_or (λ hole. 1 ≤ hole.words) holes k d klt are.some in omega (arith, h, w, past)) (λ done. done) (All-get_or (λ hole. (hole.at + hole.words ≤ s.at) ⊎ (s.at + s.words ≤ hole.at)) holes k d klt none);
+      ⊎_elim (λ past. let h = high k d le klt in let w = All-get_or (λ hole. 1 ≤ hole.words) holes k d klt are.some in
+      omega (arith, h, w, past)) (λ done. done)
+      (All-get_or (λ hole. (hole.at + hole.words ≤ s.at) ⊎ (s.at + s.words ≤ hole.at)) holes k d klt none);
 }

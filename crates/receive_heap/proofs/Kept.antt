@@ -1,5 +1,7 @@
 -- The map of held blocks, and the partition through a call.
-use Rattle.std.proofs.Common.{◌≡◌, ◌≢◌, ◌<◌, ◌≤◌, ◌+◌, ◌⊎◌, ℕ, zero, suc, Bool, true, false, cond, List, [], ◌∷◌, ◌++◌, All, Some, None, map, length, get_or, take, drop, arith, refl, sym, ◌∙◌, ap, subst, ⊎_elim}
+use Rattle.std.proofs.Common.{◌≡◌, ◌≢◌, ◌<◌, ◌≤◌, ◌+◌, ◌⊎◌, ℕ, zero, suc, Bool, true, false, cond, List, [], ◌∷◌}
+use Rattle.std.proofs.Common.{◌++◌, All, Some, None, map, length, get_or, take, drop, arith, refl, sym, ◌∙◌, ap}
+use Rattle.std.proofs.Common.{subst, ⊎_elim}
 use Rattle.std.specs.Map.{values_of, lookup, remove_entry}
 use Rattle.std.specs.BTreeMap.{insert_entry, is_at}
 use Rattle.std.specs.Ordering.{nat_cmp, match_ordering}
@@ -16,7 +18,8 @@ behind : (number next : ℕ) → number < next → nat_cmp next number ≡ Great
 behind number next lt = grind (arith, nat_tests)
 
 -- an entry whose key is past all others goes last
-pub insert_entry-last : (entries : List (ℕ × Block)) (next : ℕ) (block : Block) → All (IsEntry next) entries → insert_entry nat_cmp entries next block ≡ entries ++ (next, block) ∷ []
+pub insert_entry-last : (entries : List (ℕ × Block)) (next : ℕ) (block : Block) → All (IsEntry next) entries
+    → insert_entry nat_cmp entries next block ≡ entries ++ (next, block) ∷ []
 insert_entry-last [] next block known = refl
 insert_entry-last (e ∷ entries) next block known =
     let head = All-head (IsEntry next) e entries known in
@@ -59,7 +62,8 @@ without number next (e ∷ entries) block known found =
     })
     (cases_eq number e.0)
 
-pub absent : (number next : ℕ) (entries : List (ℕ × Block)) → All (IsEntry next) entries → lookup (is_at (nat_cmp number)) entries ≡ None → All (λ block. block.number ≢ number) (values_of entries)
+pub absent : (number next : ℕ) (entries : List (ℕ × Block)) → All (IsEntry next) entries
+    → lookup (is_at (nat_cmp number)) entries ≡ None → All (λ block. block.number ≢ number) (values_of entries)
 absent number next [] known none = All-nil (λ block. block.number ≢ number)
 absent number next (e ∷ entries) known none =
     let test : ℕ → Bool = is_at (nat_cmp number) in
@@ -71,7 +75,9 @@ absent number next (e ∷ entries) known none =
     (absent number next entries (All-tail (IsEntry next) e entries known) (ap (λ v. cond v (Some e.1) (lookup test entries)) (sym (at_other number e.0 other)) ∙ none)))
     (cases_eq number e.0)
 
-pub present : (number next : ℕ) (entries : List (ℕ × Block)) (block : Block) → All (IsEntry next) entries → lookup (is_at (nat_cmp number)) entries ≡ Some block → All (λ held. held.number ≢ number) (values_of entries) → ⊥
+pub present : (number next : ℕ) (entries : List (ℕ × Block)) (block : Block) → All (IsEntry next) entries
+    → lookup (is_at (nat_cmp number)) entries ≡ Some block → All (λ held. held.number ≢ number) (values_of entries)
+    → ⊥
 present number next [] block known found all = cc
 present number next (e ∷ entries) block known found all =
     let test : ℕ → Bool = is_at (nat_cmp number) in
@@ -83,7 +89,8 @@ present number next (e ∷ entries) block known found all =
     (All-tail (λ held. held.number ≢ number) e.1 (values_of entries) all))
     (cases_eq number e.0)
 
-pub some_words : (number next : ℕ) (entries : List (ℕ × Block)) (block : Block) → All (IsEntry next) entries → lookup (is_at (nat_cmp number)) entries ≡ Some block → 1 ≤ block.words
+pub some_words : (number next : ℕ) (entries : List (ℕ × Block)) (block : Block) → All (IsEntry next) entries
+    → lookup (is_at (nat_cmp number)) entries ≡ Some block → 1 ≤ block.words
 some_words number next [] block known found = cc
 some_words number next (e ∷ entries) block known found =
     let test : ℕ → Bool = is_at (nat_cmp number) in
@@ -93,7 +100,8 @@ some_words number next (e ∷ entries) block known found =
     let same : Some e.1 ≡ Some block = ap (λ v. cond v (Some e.1) (lookup test entries)) (sym (at_own number e.0 own)) ∙ found in
     let is : e.1 ≡ block = cc in
     subst (λ (b : Block). 1 ≤ b.words) is head.3)
-    (λ (other : number ≢ e.0). some_words number next entries block (All-tail (IsEntry next) e entries known) (ap (λ v. cond v (Some e.1) (lookup test entries)) (sym (at_other number e.0 other)) ∙ found))
+    (λ (other : number ≢ e.0). some_words number next entries block (All-tail (IsEntry next) e entries known)
+    (ap (λ v. cond v (Some e.1) (lookup test entries)) (sym (at_other number e.0 other)) ∙ found))
     (cases_eq number e.0)
 
 pub all_removed : (number next : ℕ) (entries : List (ℕ × Block)) → All (IsEntry next) entries → All (IsEntry next) (remove_entry (is_at (nat_cmp number)) entries)
@@ -107,7 +115,9 @@ all_removed number next (e ∷ entries) known =
     (All-cons (IsEntry next) e (remove_entry test entries) (All-head (IsEntry next) e entries known) (all_removed number next entries tail)))
     (cases_eq number e.0)
 
-pub length_removed : (number : ℕ) (entries : List (ℕ × Block)) (block : Block) → lookup (is_at (nat_cmp number)) entries ≡ Some block → length (remove_entry (is_at (nat_cmp number)) entries) + 1 ≡ length entries
+pub length_removed : (number : ℕ) (entries : List (ℕ × Block)) (block : Block)
+    → lookup (is_at (nat_cmp number)) entries ≡ Some block → length (remove_entry (is_at (nat_cmp number)) entries)
+    + 1 ≡ length entries
 length_removed number [] block found = cc
 length_removed number (e ∷ entries) block found =
     let test : ℕ → Bool = is_at (nat_cmp number) in
@@ -123,7 +133,8 @@ pub values_pushed : (entries : List (ℕ × Block)) (e : ℕ × Block) → value
 values_pushed [] e = refl
 values_pushed (x ∷ entries) e = ap (λ rest. x.1 ∷ rest) (values_pushed entries e)
 
-pub numbers_are : (next : ℕ) (entries : List (ℕ × Block)) → All (IsEntry next) entries → map (λ (block : Block). block.number) (values_of entries) ≡ map (λ (e : ℕ × Block). e.0) entries
+pub numbers_are : (next : ℕ) (entries : List (ℕ × Block)) → All (IsEntry next) entries
+    → map (λ (block : Block). block.number) (values_of entries) ≡ map (λ (e : ℕ × Block). e.0) entries
 numbers_are next [] known = refl
 numbers_are next (e ∷ entries) known =
     ap (λ n. n ∷ map (λ (block : Block). block.number) (values_of entries)) (All-head (IsEntry next) e entries known).0
@@ -136,7 +147,8 @@ split_at [] i x lt is = absurd (omega (arith, lt))
 split_at (h ∷ holes) zero x lt is = ap (λ y. y ∷ holes) (sym is)
 split_at (h ∷ holes) (suc i) x lt is = ap (λ rest. h ∷ rest) (split_at holes i x (omega (arith, lt)) is)
 
-all_front : (words : ℕ) (holes : List Span) (i : ℕ) → ((k : ℕ) (d : Span) → k < i → (get_or holes k d).words < words) → i ≤ length holes → All (λ hole. hole.words < words) (take i holes)
+all_front : (words : ℕ) (holes : List Span) (i : ℕ) → ((k : ℕ) (d : Span) → k < i → (get_or holes k d).words < words)
+    → i ≤ length holes → All (λ hole. hole.words < words) (take i holes)
 all_front words holes zero each le = All-nil (λ hole. hole.words < words)
 all_front words [] (suc i) each le = All-nil (λ hole. hole.words < words)
 all_front words (h ∷ holes) (suc i) each le =

@@ -75,7 +75,9 @@ at_most_one layout is place =
     (cases_lt place layout.words))
     (cases_lt place 1)
 
-pub block_within : (layout : Layout) → IsPartition layout → (test : ℕ → Bool) (entries : List (ℕ × Block)) (block : Block) → layout.held ≡ values_of entries → lookup test entries ≡ Some block → 1 ≤ block.words
+pub block_within : (layout : Layout) → IsPartition layout
+    → (test : ℕ → Bool) (entries : List (ℕ × Block)) (block : Block) → layout.held ≡ values_of entries
+    → lookup test entries ≡ Some block → 1 ≤ block.words
     → block.at + block.words ≤ layout.words
 block_within layout is test entries block held found one =
     ⊎_elim
@@ -91,8 +93,10 @@ block_within layout is test entries block held found one =
     (cases_lt layout.words (block.at + block.words))
 
 -- a hole and a held block have no place in common
-no_common : (layout : Layout) → IsPartition layout → (test : ℕ → Bool) (entries : List (ℕ × Block)) (block : Block) → layout.held ≡ values_of entries → lookup test entries ≡ Some block
-    → (i : ℕ) (d : Span) → i < length layout.holes → (place : ℕ) → (get_or layout.holes i d).at ≤ place → place < (get_or layout.holes i d).at + (get_or layout.holes i d).words
+no_common : (layout : Layout) → IsPartition layout → (test : ℕ → Bool) (entries : List (ℕ × Block)) (block : Block)
+    → layout.held ≡ values_of entries → lookup test entries ≡ Some block
+    → (i : ℕ) (d : Span) → i < length layout.holes → (place : ℕ) → (get_or layout.holes i d).at ≤ place
+    → place < (get_or layout.holes i d).at + (get_or layout.holes i d).words
     → block.at ≤ place → place < block.at + block.words → ⊥
 no_common layout is test entries block held found i d lt place from below from_block below_block =
     let h = get_or layout.holes i d in
@@ -102,7 +106,9 @@ no_common layout is test entries block held found i d lt place from below from_b
     let hole = get_or-le-sum_by (λ (hole : Span). one_of hole.at hole.words place) layout.holes i d lt in
     omega (arith, has_own h.at h.words place from below, has_own block.at block.words place from_block below_block, part, same, hole, at_most_one layout is place)
 
-pub meets_none : (layout : Layout) → IsPartition layout → All (λ hole. 1 ≤ hole.words) layout.holes → (test : ℕ → Bool) (entries : List (ℕ × Block)) (block : Block) → layout.held ≡ values_of entries → lookup test entries ≡ Some block → 1 ≤ block.words
+pub meets_none : (layout : Layout) → IsPartition layout → All (λ hole. 1 ≤ hole.words) layout.holes
+    → (test : ℕ → Bool) (entries : List (ℕ × Block)) (block : Block) → layout.held ≡ values_of entries
+    → lookup test entries ≡ Some block → 1 ≤ block.words
     → MeetsNone layout.holes (record { at = block.at; words = block.words })
 meets_none layout is some test entries block held found one k d lt =
     let h = get_or layout.holes k d in

@@ -1,4 +1,4 @@
--- How the lists of holes and of held blocks are kept.
+-- The code's own: how the lists of holes and of held blocks are kept.
 use Rattle.std.specs.Prelude.{◌≡◌, ℕ, ◌+◌, ◌<◌, ◌≤◌, ◌⊎◌, cond, List, All, length, slice_index_or}
 use Rattle.std.specs.List.{AllWithin, count_by}
 use Rattle.mrpc_table.specs.declared.limits.TheConstants.{MAX_HEAP}

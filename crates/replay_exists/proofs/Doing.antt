@@ -17,7 +17,9 @@ use Rattle.script_text.specs.declared.script.Line.{Line}
 use Rattle.script_text.specs.declared.script.Line.TheVariants as line
 use Rattle.script_text.specs.declared.script.Script.{Script}
 use Rattle.call_history.specs.Behind.{chain, moment, standing, taken}
-use Rattle.call_history.specs.Events.{Comes, Course, IsReady, accepted, accepts, changes, has_turn, is_away, link_failed, operates, refused_for_link, rises, shows, stays, takes, turned, turns, turns_away}
+use Rattle.call_history.specs.Events.{Comes, Course, IsReady, accepted, accepts, changes, has_turn, is_away}
+use Rattle.call_history.specs.Events.{link_failed, operates, refused_for_link, rises, shows, stays, takes, turned}
+use Rattle.call_history.specs.Events.{turns, turns_away}
 use Rattle.call_history.specs.Frames.{frames}
 use Rattle.call_history.specs.Legal.{History}
 use Rattle.call_history.specs.Loads.{IsLoaded}
@@ -181,7 +183,8 @@ module _ (laws : TurnLaws) (graphs : GraphLaws) (s : Script) (one : Opened) (h :
         other = submitted one [] c;
         history = h ++ on_connection one.conn (what.Away method number addr) ∷ [];
         does = is_turned_away method number addr c refl comes refl;
-        grows = grows-more laws.growth one.conn h h one.course.past one.course.past (what.Away method number addr) (grows-none one.conn h one.course.past stands.here) (λ tenant window. inl refl);
+        grows = grows-more laws.growth one.conn h h one.course.past one.course.past (what.Away method number addr)
+            (grows-none one.conn h one.course.past stands.here) (λ tenant window. inl refl);
         conn = refl;
         opened = record { going = opened.going; stores = small-append one.stores (stores_of one.races) opened.stores (small-stores one.races opened.races); races = tt };
         same_chain = refl;
@@ -189,7 +192,8 @@ module _ (laws : TurnLaws) (graphs : GraphLaws) (s : Script) (one : Opened) (h :
             (one-still laws.growth one.conn s.table h (what.Away method number addr) (λ past. refl));
       }
 
-  does-submit : (method number addr : ℕ) → IsValid s.table → 1 ≤ s.loads → length (standing one.course.past) ≤ MAX_CALLS → DoesOn s (line.Submit one.conn method number addr) one h
+  does-submit : (method number addr : ℕ) → IsValid s.table → 1 ≤ s.loads
+      → length (standing one.course.past) ≤ MAX_CALLS → DoesOn s (line.Submit one.conn method number addr) one h
   does-submit method number addr valid least few = elim (cases_lt (length (standing one.course.past)) MAX_CALLS) [
     | inl low ↦ does-take method number addr low
         (taken-somehow graphs s.table one.words s.loads method number addr (read_at one.stores one.races) valid least (read-small one.stores one.races opened.stores opened.races))

@@ -1,6 +1,7 @@
 -- A drain goes on until nothing can go on: with each turn calls come nearer to the end of the chain, and where fields are
 -- cleared, calls have fewer parts. Each sending of it may fail.
-use Rattle.std.proofs.Common.{◌≡◌, inl, inr, ℕ, zero, suc, ◌+◌, ◌-◌, ◌<◌, ◌≤◌, ◌==◌, not, [], ◌∷◌, ◌++◌, length, refl, sym, ap, ◌∙◌, subst, arith}
+use Rattle.std.proofs.Common.{◌≡◌, inl, inr, ℕ, zero, suc, ◌+◌, ◌-◌, ◌<◌, ◌≤◌, ◌==◌, not, [], ◌∷◌, ◌++◌, length, refl}
+use Rattle.std.proofs.Common.{sym, ap, ◌∙◌, subst, arith}
 use Rattle.std.specs.Prelude.{Option, Some, None}
 use Rattle.std.proofs.lemmas.Bool.{cases_lt, eq-eqb}
 use Rattle.frame_transport.specs.declared.format.TheConstants.{HEADER_LEN}
@@ -8,7 +9,9 @@ use Rattle.engine_core.specs.Moves.{Row, first_at, without_call}
 use Rattle.engine_core.specs.declared.outcome.Outcome.{Outcome}
 use Rattle.engine_core.specs.declared.outcome.Outcome.TheVariants as outcomes
 use Rattle.call_history.specs.Behind.{chain}
-use Rattle.call_history.specs.Draining.{BeginsToDrain, Drains, Ending, IsDone, Passes, SendsSome, Turns, again, at_rest, begins_again, goes, is_held, is_idle, is_over, next, none, one, redacts}
+use Rattle.call_history.specs.Draining.{BeginsToDrain, Drains, Ending, IsDone, Passes, SendsSome, Turns, again}
+use Rattle.call_history.specs.Draining.{at_rest, begins_again, goes, is_held, is_idle, is_over, next, none, one}
+use Rattle.call_history.specs.Draining.{redacts}
 use Rattle.call_history.specs.Events.{Comes, Course, HasTurn, IsReady, is_sent, sends, turned}
 use Rattle.call_history.specs.Frames.{frames}
 use Rattle.call_history.specs.Legal.{History}

@@ -1,5 +1,6 @@
 -- A script sends no fewer calls than one of its sendings that fails has before it, and one more.
-use Rattle.std.proofs.Common.{◌≡◌, inl, inr, ℕ, ◌+◌, ◌<◌, ◌≤◌, suc, List, [], ◌∷◌, ◌++◌, length, map, reverse, refl, sym, ap, ◌∙◌, subst, append_assoc, append-nil, arith}
+use Rattle.std.proofs.Common.{◌≡◌, inl, inr, ℕ, ◌+◌, ◌<◌, ◌≤◌, suc, List, [], ◌∷◌, ◌++◌, length, map, reverse, refl}
+use Rattle.std.proofs.Common.{sym, ap, ◌∙◌, subst, append_assoc, append-nil, arith}
 use Rattle.std.specs.Prelude.{Some}
 use Rattle.std.specs.List.{range_with_len}
 use Rattle.std.proofs.lemmas.List.{append_cancel_right, map-append, reverse-append, reverse-reverse}
@@ -13,7 +14,9 @@ use Rattle.script_text.specs.declared.script.Line.{Line}
 use Rattle.script_text.specs.declared.script.Script.{Script}
 use Rattle.call_history.specs.Behind.{chain, standing}
 use Rattle.call_history.specs.Draining.{BeginsToDrain}
-use Rattle.call_history.specs.Events.{Comes, Course, IsCourse, fails, refused_for_link, sends, takes, is_away as turns_off, changes, rises, stays, has_turn as turns_on, is_sent as comes_sent, link_failed}
+use Rattle.call_history.specs.Events.{Comes, Course, IsCourse, fails, refused_for_link, sends, takes}
+use Rattle.call_history.specs.Events.{is_away as turns_off, changes, rises, stays, has_turn as turns_on}
+use Rattle.call_history.specs.Events.{is_sent as comes_sent, link_failed}
 use Rattle.call_history.specs.Frames.{frames}
 use Rattle.call_history.specs.Legal.{History, behind}
 use Rattle.call_history.specs.Rules.{Under}
@@ -282,7 +285,8 @@ module _ (laws : FurtherLaws) (s : Script) where
         }) in
         let to : List Line = front ++ l ∷ [] in
         let policies = s.declared.policies in
-        let first = known-line laws.below s script front f.until.behind l f.until.before f.until.order (allowed-rest s.loads policies [] front (l ∷ f.until.behind) allowed).0 known-before in
+        let first = known-line laws.below s script front f.until.behind l f.until.before f.until.order
+        (allowed-rest s.loads policies [] front (l ∷ f.until.behind) allowed).0 known-before in
         let same : gone ≡ first.end =
         laws.one (with_lines s to) gone first.end (script-in s to f.until.behind script further-order)
         (record { leads = leads-in s to to start gone (leads-push s start f.until.before gone front l f.until.leads step); in_turn = e.grows.here.in_turn })

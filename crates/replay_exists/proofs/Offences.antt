@@ -1,5 +1,6 @@
 -- Each word of a role offends or is fine, and of the reasons for which it offends one is first.
-use Rattle.std.proofs.Common.{◌≡◌, ◌≢◌, ◌⊎◌, inl, inr, ℕ, ◌+◌, ◌*◌, ◌/◌, ◌<◌, ◌≤◌, ◌^◌, ◌==◌, Bool, true, false, cond, List, ◌++◌, take, refl, sym, ap, ◌∙◌, subst, arith}
+use Rattle.std.proofs.Common.{◌≡◌, ◌≢◌, ◌⊎◌, inl, inr, ℕ, ◌+◌, ◌*◌, ◌/◌, ◌<◌, ◌≤◌, ◌^◌, ◌==◌, Bool, true, false, cond}
+use Rattle.std.proofs.Common.{List, ◌++◌, take, refl, sym, ap, ◌∙◌, subst, arith}
 use Rattle.std.specs.Prelude.{IsTrue, Option, Some, None}
 use Rattle.std.specs.Str.{IsUtf8, is_utf8}
 use Rattle.std.proofs.lemmas.Bool.{cases_lt, cases_eq, true≢false}
@@ -9,13 +10,17 @@ use Rattle.mrpc_table.specs.Words.{IsSigned32, IsWordForm}
 use Rattle.mrpc_table.specs.declared.limits.TheConstants.{MAX_DEPTH}
 use Rattle.mrpc_table.specs.declared.table.Field.{Field}
 use Rattle.mrpc_table.specs.declared.table.Kind.{Kind}
-use Rattle.mrpc_table.specs.declared.table.Kind.TheVariants.{Int32, Int64, Uint32, Uint64, Sint32, Sint64, Bool as TheBool, Fixed32, Fixed64, Sfixed32, Sfixed64, Float, Double, Text, Octets, Message, Choice}
+use Rattle.mrpc_table.specs.declared.table.Kind.TheVariants.{Int32, Int64, Uint32, Uint64, Sint32, Sint64}
+use Rattle.mrpc_table.specs.declared.table.Kind.TheVariants.{Bool as TheBool, Fixed32, Fixed64, Sfixed32, Sfixed64}
+use Rattle.mrpc_table.specs.declared.table.Kind.TheVariants.{Float, Double, Text, Octets, Message, Choice}
 use Rattle.mrpc_table.specs.declared.table.Label.{Label}
 use Rattle.mrpc_table.specs.declared.table.Label.TheVariants.{Plain, Optional, Repeated, Packed, Map, Member}
 use Rattle.mrpc_table.specs.declared.table.Table.{Table}
 use Rattle.graph_form.specs.declared.reason.Reason.{Reason}
 use Rattle.graph_form.specs.declared.reason.Reason.TheVariants.{Address, Presence, Case, Length, Utf8, Narrow, Depth, Loads, NoMethod}
-use Rattle.graph_form.specs.Roles.{Role, value, presence, run_length, run_presence, run_address, run_word, link, count, elements_address, entry_count, entries_address, case_word, element_words, run_words, size_words, word_bytes}
+use Rattle.graph_form.specs.Roles.{Role, value, presence, run_length, run_presence, run_address, run_word, link}
+use Rattle.graph_form.specs.Roles.{count, elements_address, entry_count, entries_address, case_word, element_words}
+use Rattle.graph_form.specs.Roles.{run_words, size_words, word_bytes}
 use Rattle.graph_form.specs.Placed.{LiesIn, Offends, IsFine}
 use Rattle.graph_form.specs.Malformed.{OffendsFirst, order_of}
 

@@ -6,7 +6,9 @@ use Rattle.mrpc_table.specs.declared.call.Call.{Call}
 use Rattle.policy_access.specs.Verdict.{verdict}
 use Rattle.policy_redact.specs.Redacting.{cleared}
 use Rattle.policy_redact.specs.declared.redact.Clear.{Clear}
-use Rattle.engine_core.specs.Answers.{Answer, Answers, Past, drawn, redact, allows, denies, was_charged, charges, holds, refuses, is_within, is_over, draws, was_counted, counts, is_clear, redacts}
+use Rattle.engine_core.specs.Answers.{Answer, Answers, Past, drawn, redact, allows, denies, was_charged, charges}
+use Rattle.engine_core.specs.Answers.{holds, refuses, is_within, is_over, draws, was_counted, counts, is_clear}
+use Rattle.engine_core.specs.Answers.{redacts}
 use Rattle.engine_core.specs.Turns.{ComesOut, passes, is_noted, is_held, is_refused, is_noted_and_refused, is_redacted, noted_in}
 use Rattle.engine_core.specs.declared.outcome.Noted.{Noted}
 use Rattle.engine_core.specs.declared.outcome.Noted.TheVariants.{Nothing, Charged, Drawn, Counted}

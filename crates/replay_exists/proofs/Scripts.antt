@@ -1,5 +1,6 @@
 -- From each script something follows, whole, and up to each sending that fails.
-use Rattle.std.proofs.Common.{◌≡◌, ◌≢◌, ◌⊎◌, inl, inr, ℕ, ◌<◌, ◌≤◌, false, List, [], ◌∷◌, ◌++◌, length, map, refl, sym, ap, ◌∙◌, subst, append_assoc, append-nil, arith}
+use Rattle.std.proofs.Common.{◌≡◌, ◌≢◌, ◌⊎◌, inl, inr, ℕ, ◌<◌, ◌≤◌, false, List, [], ◌∷◌, ◌++◌, length, map, refl}
+use Rattle.std.proofs.Common.{sym, ap, ◌∙◌, subst, append_assoc, append-nil, arith}
 use Rattle.std.specs.Prelude.{All, None}
 use Rattle.std.specs.List.{AllByRecursion}
 use Rattle.std.proofs.lemmas.Bool.{cases_eq, cases_lt}
@@ -198,7 +199,8 @@ module _ (laws : Laws) (s : Script) (script : IsScript s) where
       history = d.does.grows.history_is;
     }
 
-    next-chains : (conn : ℕ) → chain (behind d.one.conn st.history) ≡ chain d.one.course.past → chain (behind conn next.history) ≡ chain_of s.declared.policies (lines ++ l ∷ []) conn
+    next-chains : (conn : ℕ) → chain (behind d.one.conn st.history) ≡ chain d.one.course.past
+        → chain (behind conn next.history) ≡ chain_of s.declared.policies (lines ++ l ∷ []) conn
     unfolding next
     next-chains conn was = elim (cases_eq d.one.conn conn) [
       | inl same ↦
@@ -304,7 +306,9 @@ module _ (laws : Laws) (s : Script) (script : IsScript s) where
       let chain_is : chain one.course.past ≡ chain_of policies lines (conn_of l) =
       ap chain sound.past ∙ known.chains one.conn ∙ ap (chain_of policies lines) (sym found.2) in
       let few : length (standing one.course.past) ≤ MAX_CALLS =
-      subst (λ (p : Behind). length (standing p) ≤ MAX_CALLS) (sym sound.past) (laws.few s.table s.loads one.conn st.history (laws.legal s lines (l ∷ others) st script order known.leads)) in
+      subst (λ (p : Behind). length (standing p) ≤ MAX_CALLS) (sym sound.past)
+      (laws.few s.table s.loads one.conn st.history (laws.legal s lines (l ∷ others) st script order known.leads))
+      in
       let given : Given laws.turns laws.graphs s one st.history opened stands l = record {
         valid = script.table;
         least = script.loads_from;

@@ -1,5 +1,6 @@
 -- The loads of a graph, one after another, up to the end, to a word that offends, or to the limit.
-use Rattle.std.proofs.Common.{◌≡◌, inl, inr, ℕ, zero, suc, ◌+◌, ◌<◌, ◌≤◌, ◌^◌, List, [], ◌∷◌, ◌++◌, length, refl, sym, ap, ◌∙◌, subst, append_assoc, arith}
+use Rattle.std.proofs.Common.{◌≡◌, inl, inr, ℕ, zero, suc, ◌+◌, ◌<◌, ◌≤◌, ◌^◌, List, [], ◌∷◌, ◌++◌, length, refl, sym}
+use Rattle.std.proofs.Common.{ap, ◌∙◌, subst, append_assoc, arith}
 use Rattle.mrpc_table.specs.declared.table.Table.{Table}
 use Rattle.graph_form.specs.declared.reason.Reason.{Reason}
 use Rattle.graph_form.specs.declared.reason.Reason.TheVariants.{Address, Loads}

@@ -9,7 +9,6 @@ use engine_core::Policy;
 use mrpc_table::{Sequence, Table};
 
 /// What an application does.
-#[derive(Drop)]
 pub enum Role {
     /// The lines of its program, once.
     Client(Program),
@@ -19,23 +18,51 @@ pub enum Role {
     Echo,
 }
 
+// By hand, so that a drop is one call where it is needed, and not a drop of each part.
+impl Drop for Role {
+    fn drop(self) {
+        match self {
+            Role::Client(_a) => {}
+            Role::Server(_a) => {}
+            Role::Echo => {}
+        }
+    }
+}
+
 /// A policy of the plan, by its place, as it was read under the table of an application.
-#[derive(Drop)]
 pub struct OwnPolicy {
     pub place: usize,
     pub policy: Policy,
 }
 
+// By hand, so that a drop is one call where it is needed, and not a drop of each part.
+impl Drop for OwnPolicy {
+    fn drop(self) {
+        let OwnPolicy {
+            place: _,
+            policy: _policy,
+        } = self;
+    }
+}
+
 /// What an application has that binds by a schema of its own.
-#[derive(Drop)]
 pub struct OwnSchema {
     pub table: Table,
     /// The policies that its connection uses.
     pub policies: Sequence<OwnPolicy>,
 }
 
+// By hand, so that a drop is one call where it is needed, and not a drop of each part.
+impl Drop for OwnSchema {
+    fn drop(self) {
+        let OwnSchema {
+            table: _table,
+            policies: _policies,
+        } = self;
+    }
+}
+
 /// An application, and what its connection has. Policies are named by their places among those of the plan, from 0.
-#[derive(Drop)]
 pub struct Application {
     /// The number of its connection, 1 to 16.
     pub conn: u32,
@@ -54,6 +81,23 @@ pub struct Application {
     pub inbound: Option<usize>,
     /// Its own schema; none where it binds by the plan's.
     pub own: Option<OwnSchema>,
+}
+
+// By hand, so that a drop is one call where it is needed, and not a drop of each part.
+impl Drop for Application {
+    fn drop(self) {
+        let Application {
+            conn: _,
+            role: _,
+            heap: _,
+            receive: _,
+            ring: _,
+            weight: _,
+            chain: _chain,
+            inbound: _,
+            own: _own,
+        } = self;
+    }
 }
 
 impl OwnSchema {

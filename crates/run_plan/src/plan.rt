@@ -18,7 +18,6 @@ pub struct Pair {
 }
 
 /// What a run is told.
-#[derive(Drop)]
 pub struct Plan {
     /// The full name of the service that all connections bind to.
     pub service: Name,
@@ -36,6 +35,23 @@ pub struct Plan {
     pub links: Sequence<Pair>,
     /// At most one of each connection.
     pub operators: Sequence<Operator>,
+}
+
+// By hand, so that a drop is one call where it is needed, and not a drop of each part.
+impl Drop for Plan {
+    fn drop(self) {
+        let Plan {
+            service: _service,
+            loads: _,
+            workers: _,
+            weighted: _,
+            table: _table,
+            declared: _declared,
+            applications: _applications,
+            links: _links,
+            operators: _operators,
+        } = self;
+    }
 }
 
 impl Plan {

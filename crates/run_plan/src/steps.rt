@@ -47,7 +47,7 @@ impl Plan {
         }
     }
 
-    /// The policy at a place, as it was read under the plan's table.
+    // The policy at a place, as it was read under the plan's table.
     fn shared_policy(&self, place: usize) -> Option<&Policy>
         ensures { option_copied result ≡ policy_at self.now.declared.policies place }
     {
@@ -108,7 +108,7 @@ impl Plan {
         }
     }
 
-    /// The name and the policy at a place, for an application.
+    // The name and the policy at a place, for an application.
     fn named(
         &self,
         alloc: Global,
@@ -149,7 +149,7 @@ impl Plan {
     }
 }
 
-/// The access policy, if this is one.
+// The access policy, if this is one.
 fn access_in<'a>(policy: Option<&'a Policy>) -> Option<&'a Access>
     ensures { option_copied result ≡ access_in (option_copied policy.entry) }
 {

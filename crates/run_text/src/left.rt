@@ -50,7 +50,7 @@ fn append_where_cut(
     if let Some(fault) = fault {
         return append_cut(out, conn, fault);
     }
-    let rest = inbound.rest();
+    let rest = inbound.left_over();
     if failed || rest == 0 {
         return Ok(());
     }

@@ -166,6 +166,8 @@ again = applications.is_linked 1 (0, lit< tt, refl) (0, lit< tt, refl) refl
 -- ---- texts
 
 -- what this text says as TOML
-its_text : parse_document (codes "mrpc = 1\n[[app]]\nconn = 2\nrole = \"echo\"\n") ≡ Some (member (codes "app") (array (item (table echo) no_items)) (member (codes "mrpc") (integer (pos 1)) no_members))
+its_text : parse_document (codes "mrpc = 1\n[[app]]\nconn = 2\nrole = \"echo\"\n")
+    ≡ Some (member (codes "app") (array (item (table echo) no_items))
+    (member (codes "mrpc") (integer (pos 1)) no_members))
 unfolding toml_on_literals
 its_text = refl

@@ -14,7 +14,7 @@ use run_plan::{MAX_CONNECTIONS, MAX_RING, MAX_WEIGHT, MAX_WORKERS};
 use scenario_values::{Key, Range, Shape, has_keys, word_at};
 use toml::Table;
 
-/// The longest window, and the longest time of a rate, in milliseconds.
+// The longest window, and the longest time of a rate, in milliseconds.
 const DAY: u64 = 86_400_000;
 
 /// The number of the format.
@@ -115,14 +115,14 @@ pub fn end_b() -> Range
     Range::new("b", 0, 1, MAX_CONNECTIONS as u64)
 }
 
-/// The key of a name.
+// The key of a name.
 fn name_key() -> Key
     ensures { result ≡ a_key (codes "name") shape.Text }
 {
     Key::required("name", Shape::Text)
 }
 
-/// The key of a connection.
+// The key of a connection.
 fn conn_key() -> Key
     ensures { result ≡ a_key (codes "conn") shape.Integer }
 {
@@ -237,7 +237,7 @@ pub fn role_of(entry: &Table) -> Option<RoleWord>
     }
 }
 
-/// Whether an echo has its keys.
+// Whether an echo has its keys.
 fn has_echo_keys(entry: &Table) -> bool
     ensures { result ≡ has_keys (keys.app_keys role.Echo) (table_view entry.now) }
 {
@@ -255,7 +255,7 @@ fn has_echo_keys(entry: &Table) -> bool
     has_keys(&keys, entry)
 }
 
-/// Whether an application with a program has its keys.
+// Whether an application with a program has its keys.
 fn has_program_keys(entry: &Table) -> bool
     ensures { result ≡ has_keys (keys.app_keys role.Client) (table_view entry.now) }
 {

@@ -9,7 +9,7 @@ use proto_schema::{ProtoFault, alone_is_ordered, read_proto};
 use schema_resolve::{ResolveFault, resolve};
 use std::alloc::Global;
 
-/// The longest text that is read, one byte more. No memory has a text as long.
+// The longest text that is read, one byte more. No memory has a text as long.
 const TOO_LONG: usize = 1 << 62;
 
 /// The table of a proto text; none where the text has a fault.

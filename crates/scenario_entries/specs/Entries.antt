@@ -1,4 +1,4 @@
--- The code's own: what is read of entries, one by one and list by list.
+-- What is read of entries, one by one and list by list (this project's own).
 use Rattle.std.specs.Prelude.{◌≡◌, ℕ, List, map, String, Result, Ok, Err}
 use Rattle.std.specs.BTreeMap.{BTreeMap}
 use Rattle.std.specs.Borrow.{Bor}

@@ -1,4 +1,4 @@
--- The code's own: the entries of a chain, as the code keeps them.
+-- The entries of a chain, as the code keeps them (this project's own).
 use Rattle.std.specs.Prelude.{◌≡◌, ℕ, List, map, Option, Some, None}
 use Rattle.engine_core.specs.Chains.{Chain, Changes, Refusal, Refuses}
 use Rattle.engine_core.specs.declared.op.Op.{Op}

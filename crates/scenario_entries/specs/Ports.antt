@@ -1,4 +1,4 @@
--- The code's own: connections of applications, and the first reason against a link between two of them.
+-- Connections of applications, and the first reason against a link between two of them (this project's own).
 use Rattle.std.specs.Prelude.{◌≡◌, ℕ, ◌==◌, Bool, true, false, ◌&&◌, ◌||◌, not, List, Option, Some}
 use Rattle.std.specs.List.{list_any}
 use Rattle.run_plan.specs.declared.plan.Pair.{Pair}

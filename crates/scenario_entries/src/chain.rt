@@ -25,7 +25,7 @@ pub struct Chain<'a> {
     entries: Vec<ChainEntry<'a>>,
 }
 
-/// The position of a chain of so many entries, if it has it.
+// The position of a chain of so many entries, if it has it.
 fn place_in(position: Decimal, entries: usize) -> Option<usize>
     ensures place { (at : ℕ) → position ≡ in_64_bits at
         → MatchOption result (entries < at) (λ p. (p ≡ at) × (at ≤ entries)) }
@@ -62,7 +62,7 @@ impl<'a> Chain<'a> {
         })
     }
 
-    /// Where the entry of a name stands.
+    // Where the entry of a name stands.
     fn place(&self, name: &[u8]) -> Option<usize>
         ensures { result ≡ position (λ e. bytes_eq e.name.now name.now) self.now.entries.items }
     {

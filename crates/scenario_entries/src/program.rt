@@ -31,7 +31,7 @@ pub fn read_program(
     Ok(reader.finish())
 }
 
-/// Whether a line of a client has the form of a submission.
+// Whether a line of a client has the form of a submission.
 fn is_submission(line: &[u8]) -> bool
     ensures { result ≡ is_submit (form_of of.Client line.now) }
 {
@@ -41,7 +41,7 @@ fn is_submission(line: &[u8]) -> bool
     }
 }
 
-/// How many of the lines of a client have the form of a submission.
+// How many of the lines of a client have the form of a submission.
 fn submissions_in(lines: &[&[u8]]) -> u64
     ensures count { result ≡ submits_of (map (λ t. t.now) lines.now) }
     ensures few { result ≤ length lines.now }

@@ -20,13 +20,13 @@ pub(crate) enum Takes {
 /// A key, what may stand at it, and whether it has to be there. Those that have to be come first in a table.
 pub(crate) type Key = (&'static str, Takes, bool);
 
-/// The longest window, and the longest time of a rate, in milliseconds.
+// The longest window, and the longest time of a rate, in milliseconds.
 const DAY: u64 = 86_400_000;
 
-/// How many calls a rate lets pass, at the most.
+// How many calls a rate lets pass, at the most.
 const MOST_CALLS: u64 = 1_000_000;
 
-/// The largest cap of a window.
+// The largest cap of a window.
 const MOST_TICKETS: u64 = 4_294_967_295;
 
 const CONNECTIONS: u64 = MAX_CONNECTIONS as u64;

@@ -17,7 +17,7 @@ const FULL_FORM: &str = ", which is no full name: names joined by dots, 255 byte
 const FORM: &str =
     ", which is no name: a letter or \"_\", then letters, digits and \"_\", 64 bytes at the most";
 
-/// Keys at which a name stands, with how a sentence of each begins.
+// Keys at which a name stands, with how a sentence of each begins.
 const NAMES: [Row; 2] = [("name", ": name is "), ("tenant", ": tenant is ")];
 
 /// Says which name of an entry is none, apart from those in lines.

@@ -54,8 +54,28 @@ same_application a b conn role heap receive ring weight chain inbound own = cc
 same_plan : (a b : Plan) → a.service ≡ b.service → a.loads ≡ b.loads → a.workers ≡ b.workers → a.weighted ≡ b.weighted → a.table ≡ b.table
     → a.declared ≡ b.declared → a.applications ≡ b.applications → a.links ≡ b.links → a.operators ≡ b.operators
     → ◌≡◌ {A = Plan}
-    (record { service = a.service; loads = a.loads; workers = a.workers; weighted = a.weighted; table = a.table; declared = a.declared; applications = a.applications; links = a.links; operators = a.operators })
-    (record { service = b.service; loads = b.loads; workers = b.workers; weighted = b.weighted; table = b.table; declared = b.declared; applications = b.applications; links = b.links; operators = b.operators })
+    (record {
+      service = a.service;
+      loads = a.loads;
+      workers = a.workers;
+      weighted = a.weighted;
+      table = a.table;
+      declared = a.declared;
+      applications = a.applications;
+      links = a.links;
+      operators = a.operators;
+    })
+    (record {
+      service = b.service;
+      loads = b.loads;
+      workers = b.workers;
+      weighted = b.weighted;
+      table = b.table;
+      declared = b.declared;
+      applications = b.applications;
+      links = b.links;
+      operators = b.operators;
+    })
 same_plan a b service loads workers weighted table declared applications links operators = cc
 
 -- ---- places

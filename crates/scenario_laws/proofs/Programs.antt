@@ -1,5 +1,6 @@
 -- Lines that say a program, against which nothing stands, are one of their role.
-use Rattle.std.proofs.Common.{◌≡◌, ◌⊎◌, ℕ, ◌+◌, ◌<◌, ◌≤◌, ◌^◌, true, false, not, List, [], ◌∷◌, ◌++◌, length, All, Contains, Option, Some, refl, sym, ap, ◌∙◌, subst, inl, inr, length-append, bytes_eq}
+use Rattle.std.proofs.Common.{◌≡◌, ◌⊎◌, ℕ, ◌+◌, ◌<◌, ◌≤◌, ◌^◌, true, false, not, List, [], ◌∷◌, ◌++◌, length, All}
+use Rattle.std.proofs.Common.{Contains, Option, Some, refl, sym, ap, ◌∙◌, subst, inl, inr, length-append, bytes_eq}
 use Rattle.std.specs.Prelude.{cond}
 use Rattle.std.proofs.lemmas.Bool.{and_parts, both_ways, cases_lt, not-true, true_from_ne_false}
 use Rattle.std.proofs.lemmas.List.Elements.{All-cons, All-nil}

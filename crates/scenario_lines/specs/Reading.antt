@@ -1,4 +1,4 @@
--- The code's own: what a reader of a program has read.
+-- What a reader of a program has read (this project's own).
 use Rattle.std.specs.Prelude.{◌≡◌, ℕ, [], ◌∷◌, ◌++◌, ◌+◌, ◌*◌, ◌<◌, ◌≤◌, nat_lt, nat_le, Bool, false, ◌&&◌, ◌||◌, not, if◌then◌else◌, List, length, Contains, Option, Some, None}
 use Rattle.std.specs.List.{list_any}
 use Rattle.app_program.specs.Programs.{stores_of}

@@ -39,13 +39,13 @@ pub enum StepForm {
     Upgrade,
 }
 
-/// Any number of 64 bits.
+// Any number of 64 bits.
 const ANY: Sort = Sort::Number {
     least: 0,
     most: u64::MAX,
 };
 
-/// How often a line stores two values at most.
+// How often a line stores two values at most.
 const TIMES: Sort = Sort::Number {
     least: 0,
     most: MAX_STORES / 2,
@@ -56,14 +56,14 @@ const METHOD: Sort = Sort::Number {
     most: 65535,
 };
 
-/// The number of a block.
+// The number of a block.
 const BLOCK: Sort = Sort::Number {
     least: 1,
     most: 1 << 63,
 };
 
 impl ProgramRole {
-    /// The forms of its lines.
+    // The forms of its lines.
     fn forms(self) -> &'static [LineForm]
         ensures { result.now ≡ forms_of self }
     {
@@ -80,7 +80,7 @@ impl ProgramRole {
 }
 
 impl LineForm {
-    /// The word that stands first.
+    // The word that stands first.
     fn first_word(self) -> &'static [u8]
         ensures { result.now ≡ first_word self }
     {
@@ -121,7 +121,7 @@ impl LineForm {
 const STEP_FORMS: [StepForm; 3] = [StepForm::Attach, StepForm::Detach, StepForm::Upgrade];
 
 impl StepForm {
-    /// The word that stands second.
+    // The word that stands second.
     fn step_word(self) -> Keyword
         ensures { result ≡ step_word self }
     {

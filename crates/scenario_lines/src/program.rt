@@ -31,7 +31,7 @@ pub struct ProgramReader {
     ends: bool,
 }
 
-/// Whether a line has the form of a reply.
+// Whether a line has the form of a reply.
 fn is_reply(line: &[u8]) -> bool
     ensures { result ≡ is_reply line.now }
 {
@@ -39,7 +39,7 @@ fn is_reply(line: &[u8]) -> bool
     is_word(word, b"reply")
 }
 
-/// How often a line stores.
+// How often a line stores.
 fn line_stores(line: ProgramLine) -> u64
     ensures stores { result ≡ line_stores line }
     ensures few { result ≤ 8589934590 }
@@ -51,7 +51,7 @@ fn line_stores(line: ProgramLine) -> u64
     }
 }
 
-/// How often lines store, and one more. More than a program may are as many as there are.
+// How often lines store, and one more. More than a program may are as many as there are.
 fn added(stores: u64, line: ProgramLine) -> u64
     ensures { result ≡ added stores line }
 {
@@ -62,7 +62,7 @@ fn added(stores: u64, line: ProgramLine) -> u64
     }
 }
 
-/// The first of two reasons.
+// The first of two reasons.
 fn earlier(one: Option<LineReason>, other: Option<LineReason>) -> Option<LineReason>
     ensures { result ≡ earlier one other }
 {
@@ -93,7 +93,7 @@ impl ProgramReader {
         }
     }
 
-    /// Keeps what a line says.
+    // Keeps what a line says.
     fn keep(&mut self, said: ProgramLine) -> Result<(), Memory>
         ensures kept { OnOk result (self.new ≡ kept self.old said) }
         ensures refused { OnErr result (self.new ≡ self.old) }
@@ -103,7 +103,7 @@ impl ProgramReader {
         Ok(())
     }
 
-    /// Keeps what a line says, or the first reason against it.
+    // Keeps what a line says, or the first reason against it.
     fn take(&mut self, line: &[u8]) -> Result<(), Memory>
         ensures taken { OnOk result (Takes self.old line.now self.new) }
         ensures refused { OnErr result (self.new ≡ self.old) }
@@ -117,7 +117,7 @@ impl ProgramReader {
         }
     }
 
-    /// Notes whether a line more has the form of a reply.
+    // Notes whether a line more has the form of a reply.
     fn note_reply(&mut self, replies: bool)
         ensures { self.new ≡ noted self.old replies }
     {
@@ -145,14 +145,14 @@ impl ProgramReader {
         }
     }
 
-    /// Whether the lines store too often, or are too many.
+    // Whether the lines store too often, or are too many.
     fn is_too_long(&self) -> bool
         ensures { result ≡ is_too_long self.now }
     {
         self.stores > self.role.most_stores() || self.lines.len() as u64 > MAX_LINES
     }
 
-    /// Whether the lines are of a server, and their last one isn't their one reply.
+    // Whether the lines are of a server, and their last one isn't their one reply.
     fn lacks_reply(&self) -> bool
         ensures { result ≡ lacks_reply self.now.role self.now.ends }
     {
@@ -162,7 +162,7 @@ impl ProgramReader {
         }
     }
 
-    /// The first reason against the lines.
+    // The first reason against the lines.
     fn first_reason(&self) -> Option<LineReason>
         ensures { result ≡ first_reason self.now }
     {
@@ -186,7 +186,7 @@ impl ProgramReader {
     }
 }
 
-/// The reason, where it holds.
+// The reason, where it holds.
 fn reason_if(holds: bool, reason: LineReason) -> Option<LineReason>
     ensures { result ≡ reason_if holds reason }
 {
@@ -194,7 +194,7 @@ fn reason_if(holds: bool, reason: LineReason) -> Option<LineReason>
 }
 
 impl ProgramRole {
-    /// How often its program stores at most.
+    // How often its program stores at most.
     fn most_stores(self) -> u64
         ensures { result ≡ most_stores self }
     {

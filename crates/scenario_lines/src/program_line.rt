@@ -15,7 +15,7 @@ use app_program::ProgramLine;
 use mrpc_table::Decimal;
 use script_words::{Said, number_at, one_judgement, unbounded_at};
 
-/// A place of a heap that has so many words.
+// A place of a heap that has so many words.
 fn place_in(heap: u32, place: Decimal) -> Option<u32>
     ensures { MatchOption result (IsNoPlace heap (Some place))
         (λ p. (place ≡ Small p) × IsPlace heap p) }
@@ -32,7 +32,7 @@ fn place_in(heap: u32, place: Decimal) -> Option<u32>
     }
 }
 
-/// What the words of a form say, for a heap of so many words; none where they name no place of it.
+// What the words of a form say, for a heap of so many words; none where they name no place of it.
 fn said_by(heap: u32, form: LineForm, words: &[Said<'_>]) -> Option<ProgramLine>
     requires fits { Fits form (meanings_of words.now) }
     ensures { MatchOption result (IsNoPlace heap (place_in form (meanings_of words.now)))

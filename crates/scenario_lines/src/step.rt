@@ -35,7 +35,7 @@ pub enum StepText<'a> {
     },
 }
 
-/// What the words of a form say.
+// What the words of a form say.
 fn told_by<'a>(form: StepForm, words: &[Said<'a>]) -> StepText<'a>
     ensures { FormTells form (meanings_of words.now) result }
 {

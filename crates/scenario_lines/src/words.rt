@@ -25,7 +25,7 @@ pub fn first_word(text: &[u8]) -> (&[u8], Rest<'_>)
     }
 }
 
-/// Whether a word that has to be a name is none.
+// Whether a word that has to be a name is none.
 fn is_no_name(sort: Sort, word: &[u8]) -> bool
     ensures { result ≡ is_no_name sort word.now }
 {
@@ -35,7 +35,7 @@ fn is_no_name(sort: Sort, word: &[u8]) -> bool
     }
 }
 
-/// Whether a word of a line that is to be a name is none. A line with another number of words has no such word.
+// Whether a word of a line that is to be a name is none. A line with another number of words has no such word.
 fn lacks_name(sorts: &[Sort], line: &[u8]) -> bool
     ensures { result ≡ lacks_name false sorts.now (words_of line.now) }
 {
@@ -53,7 +53,7 @@ fn lacks_name(sorts: &[Sort], line: &[u8]) -> bool
     lacks && rest.is_none()
 }
 
-/// The reason that comes first here: a word that is no name counts before one of no form.
+// The reason that comes first here: a word that is no name counts before one of no form.
 fn ordered(reason: ScriptReason, lacks_name: bool) -> LineReason
     ensures { result ≡ ordered reason lacks_name }
 {

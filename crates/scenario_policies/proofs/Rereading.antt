@@ -1,5 +1,7 @@
 -- The policies that are marked, read again one after another.
-use Rattle.std.proofs.Common.{◌≡◌, ◌⊎◌, ℕ, zero, suc, ◌+◌, ◌<◌, Bool, true, false, List, [], ◌∷◌, ◌++◌, length, get_or, map, take, Contains, Option, Some, None, Ok, Err, refl, sym, ap, ◌∙◌, subst, inl, inr, arith}
+use Rattle.std.proofs.Common.{◌≡◌, ◌⊎◌, ℕ, zero, suc, ◌+◌, ◌<◌, Bool, true, false, List, [], ◌∷◌, ◌++◌, length}
+use Rattle.std.proofs.Common.{get_or, map, take, Contains, Option, Some, None, Ok, Err, refl, sym, ap, ◌∙◌, subst}
+use Rattle.std.proofs.Common.{inl, inr, arith}
 use Rattle.std.specs.Prelude.{slice_get}
 use Rattle.std.proofs.lemmas.List.{length-take-le, map-append, take_more}
 use Rattle.std.proofs.lemmas.List.Elements.{All-push, Contains-append_left, Contains-push, Contains-push_cases}
@@ -117,7 +119,8 @@ module _ (entries tenants : List Members) (own : Table) (marks : List Bool) wher
         | inr here ↦ subst (λ (n : ℕ). slice_get (marks ++ true ∷ []) n ≡ Some true) (sym is ∙ here) (push_here marks)
       ],
       λ e. subst (λ (ns : List ℕ). Contains ns place) (sym (places_push policies p)) (elim (push_cases marks true place e) [
-        | inl both ↦ subst (λ (n : ℕ). Contains (map (λ (o : OwnPolicy). o.place) policies ++ p.place ∷ []) n) (is ∙ sym both.0) (Contains-push (map (λ (o : OwnPolicy). o.place) policies) p.place)
+        | inl both ↦ subst (λ (n : ℕ). Contains (map (λ (o : OwnPolicy). o.place) policies ++ p.place ∷ []) n)
+            (is ∙ sym both.0) (Contains-push (map (λ (o : OwnPolicy). o.place) policies) p.place)
         | inr there ↦ Contains-append_left (map (λ (o : OwnPolicy). o.place) policies) (p.place ∷ []) place ((h.marked place).1 there)
       ]),
     );

@@ -19,7 +19,7 @@ use scenario_values::texts_at;
 use std::alloc::Global;
 use toml::Table;
 
-/// The lines at a key of a policy.
+// The lines at a key of a policy.
 fn lines_at(alloc: Global, entry: &Table, key: &str) -> Result<Lines, Memory>
     ensures { IfOk result (λ lines. lines ≡ texts_at key.now (table_view entry.now)) }
 {
@@ -69,7 +69,7 @@ pub(crate) fn redact_in(
     }
 }
 
-/// What lines say, as what a policy has that may have none.
+// What lines say, as what a policy has that may have none.
 fn lined_by(ruled: Result<Policy, RuleReason>) -> Result<Option<Policy>, RuleReason>
     ensures { (k : TheKind) (T : TheTable) (ms : Members) → IsRuled k T ms ruled → IsLinesRead k T ms result }
 {

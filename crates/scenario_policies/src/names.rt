@@ -36,14 +36,14 @@ pub(crate) fn earliest(first: Option<ScenarioReason>, reason: ScenarioReason) ->
     }
 }
 
-/// Whether one of the words is no name.
+// Whether one of the words is no name.
 fn lacks_form(names: &[&[u8]]) -> bool
     ensures { result ≡ list_any (λ n. is_no_name n.now) names.now }
 {
     names.iter().any(|name| is_no_name(name))
 }
 
-/// Whether one of the names is that of no policy.
+// Whether one of the names is that of no policy.
 fn lacks_policy(declared: &Declarations, names: &[&[u8]]) -> bool
     ensures { result ≡ list_any (λ n. is_none (policy_place declared.now n.now)) names.now }
 {

@@ -27,14 +27,14 @@ use scenario::{ScenarioReason, of_rule};
 use std::alloc::Global;
 use toml::Table;
 
-/// So many places, of which none is marked.
+// So many places, of which none is marked.
 fn unmarked(alloc: Global, count: usize) -> Result<Vec<bool>, Memory>
     ensures { IfOk result (λ marks. marks.items ≡ replicate count false) }
 {
     Ok(vec![in alloc; false; count]?)
 }
 
-/// The places of the policies, of which those are marked that have one of the names.
+// The places of the policies, of which those are marked that have one of the names.
 fn marks_of(alloc: Global, declared: &Declarations, names: &[&[u8]]) -> Result<Vec<bool>, Memory>
     ensures { IfOk result (λ marks. AreMarked declared.now (map (λ n. n.now) names.now) marks.items) }
 {
@@ -47,7 +47,7 @@ fn marks_of(alloc: Global, declared: &Declarations, names: &[&[u8]]) -> Result<V
     Ok(marks)
 }
 
-/// A declared policy as its entry says it under another table, or the reason of its first line at fault there.
+// A declared policy as its entry says it under another table, or the reason of its first line at fault there.
 fn read_again(
     alloc: Global,
     table: &Schema,
@@ -65,7 +65,7 @@ fn read_again(
     }
 }
 
-/// The marked policies as their entries say them under another table, or the first reason against them.
+// The marked policies as their entries say them under another table, or the first reason against them.
 fn read_marked(
     alloc: Global,
     table: &Schema,

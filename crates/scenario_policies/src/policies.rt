@@ -30,7 +30,7 @@ use scenario_values::{are_within, word_at};
 use std::alloc::Global;
 use toml::Table;
 
-/// Whether the numbers of a policy of a kind are in their ranges.
+// Whether the numbers of a policy of a kind are in their ranges.
 fn is_within(kind: Kind, entry: &Table) -> bool
     ensures { result ≡ list_all (is_within_at (table_view entry.now)) (policy_ranges (Some kind)) }
 {
@@ -41,7 +41,7 @@ fn is_within(kind: Kind, entry: &Table) -> bool
     }
 }
 
-/// The first reason against the tenant that a quota names.
+// The first reason against the tenant that a quota names.
 fn quota_reason(declared: &Declarations, kind: Kind, entry: &Table) -> Option<ScenarioReason>
     ensures { result ≡ quota_first kind declared.now (table_view entry.now) }
 {
@@ -55,7 +55,7 @@ fn quota_reason(declared: &Declarations, kind: Kind, entry: &Table) -> Option<Sc
     }
 }
 
-/// The first reason against a policy with its keys behind those that are declared, but for its lines.
+// The first reason against a policy with its keys behind those that are declared, but for its lines.
 fn head_reason(declared: &Declarations, kind: Kind, entry: &Table) -> Option<ScenarioReason>
     ensures { result ≡ head_first declared.now kind (table_view entry.now) }
 {
@@ -71,7 +71,7 @@ fn head_reason(declared: &Declarations, kind: Kind, entry: &Table) -> Option<Sce
     earlier(known, quota_reason(declared, kind, entry))
 }
 
-/// The quota of an entry; none where its tenant isn't declared.
+// The quota of an entry; none where its tenant isn't declared.
 fn quota_in(declared: &Declarations, entry: &Table) -> Option<Policy>
     ensures { (T : TheTable) (tenants : List Members) → kind_of (table_view entry.now) ≡ Some of_kind.Quota
         → Each TenantSays tenants declared.now.tenants
@@ -89,8 +89,8 @@ fn quota_in(declared: &Declarations, entry: &Table) -> Option<Policy>
     }
 }
 
-/// The policy of an entry of a kind, by what its lines say; none where the tenant of a quota isn't declared, or its
-/// lines say nothing.
+// The policy of an entry of a kind, by what its lines say; none where the tenant of a quota isn't declared, or its
+// lines say nothing.
 fn policy_in(
     declared: &Declarations,
     kind: Kind,
@@ -116,7 +116,7 @@ fn policy_in(
     }
 }
 
-/// The policy of an entry of a kind against which nothing stands, by what its lines say.
+// The policy of an entry of a kind against which nothing stands, by what its lines say.
 fn named_policy(
     alloc: Global,
     declared: &Declarations,
@@ -137,7 +137,7 @@ fn named_policy(
     }
 }
 
-/// The policy of an entry behind those that are declared, or the first reason against it.
+// The policy of an entry behind those that are declared, or the first reason against it.
 fn read_policy(
     alloc: Global,
     table: &Schema,
@@ -168,7 +168,7 @@ fn read_policy(
     }
 }
 
-/// What is declared and one policy more, which an entry says, or the first reason against it.
+// What is declared and one policy more, which an entry says, or the first reason against it.
 fn with_policy(
     alloc: Global,
     table: &Schema,

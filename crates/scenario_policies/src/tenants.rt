@@ -21,7 +21,7 @@ use scenario_values::word_at;
 use std::alloc::Global;
 use toml::Table;
 
-/// The first reason against a tenant behind those that are declared.
+// The first reason against a tenant behind those that are declared.
 fn tenant_reason(declared: &Declarations, entry: &Table) -> Option<ScenarioReason>
     ensures { result ≡ tenant_first declared.now (table_view entry.now) }
 {
@@ -38,7 +38,7 @@ fn tenant_reason(declared: &Declarations, entry: &Table) -> Option<ScenarioReaso
     )
 }
 
-/// The tenants and one more, which an entry says, or the first reason against it.
+// The tenants and one more, which an entry says, or the first reason against it.
 fn with_tenant(
     alloc: Global,
     declared: Declarations,

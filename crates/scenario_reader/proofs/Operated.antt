@@ -1,5 +1,6 @@
 -- The application of an operator's connection, and the steps of an operator against which nothing else stands.
-use Rattle.std.proofs.Common.{◌≡◌, ℕ, ◌==◌, List, [], ◌∷◌, get_or, map, Contains, Option, Some, None, Result, Ok, Err, sym, ap, ◌∙◌, subst, inl, inr, refl, true, false}
+use Rattle.std.proofs.Common.{◌≡◌, ℕ, ◌==◌, List, [], ◌∷◌, get_or, map, Contains, Option, Some, None, Result, Ok, Err}
+use Rattle.std.proofs.Common.{sym, ap, ◌∙◌, subst, inl, inr, refl, true, false}
 use Rattle.std.specs.Prelude.{is_some, position, slice_get}
 use Rattle.std.proofs.lemmas.Bool.{eq-eqb, eqb-true}
 use Rattle.std.proofs.lemmas.Option.{get_or_from_slice_get}

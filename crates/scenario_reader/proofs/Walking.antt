@@ -1,5 +1,6 @@
 -- Steps that change a chain one after another, and the first one that is refused.
-use Rattle.std.proofs.Common.{◌≡◌, ◌^◌, Bool, if◌then◌else◌, ℕ, suc, ◌+◌, ◌<◌, List, [], ◌∷◌, ◌++◌, length, get_or, map, take, drop, Option, Some, None, refl, sym, ap, ◌∙◌, subst, arith}
+use Rattle.std.proofs.Common.{◌≡◌, ◌^◌, Bool, if◌then◌else◌, ℕ, suc, ◌+◌, ◌<◌, List, [], ◌∷◌, ◌++◌, length, get_or}
+use Rattle.std.proofs.Common.{map, take, drop, Option, Some, None, refl, sym, ap, ◌∙◌, subst, arith}
 use Rattle.std.specs.Borrow.{Bor}
 use Rattle.std.proofs.lemmas.Bool.{lt-ltb}
 use Rattle.std.proofs.lemmas.List.Elements.{All-nil}
@@ -246,7 +247,8 @@ module _ (laws : Laws) (d : Declared) (names : List (Bor (List ℕ))) (i : ℕ) 
       (subst (λ (xs : List (List ℕ)). AreOpsOf d 0 xs ops) more_names are) in
       let w = so_far s.front s.before in
       let r = takes w.after s.here w.sound w.kept (at_count s.here s.is) in
-      let whole : ops ≡ s.front ++ s.here ∷ [] = s.whole ∙ ap (λ (os : List Op). s.front ++ s.here ∷ os) (none_behind (0 + length (map (λ (n : Bor (List ℕ)). n.now) (take i names)) + 1) s.behind s.after) in
+      let whole : ops ≡ s.front ++ s.here ∷ [] = s.whole ∙ ap (λ (os : List Op). s.front ++ s.here ∷ os)
+      (none_behind (0 + length (map (λ (n : Bor (List ℕ)). n.now) (take i names)) + 1) s.behind s.after) in
       record {
         after = r.0;
         change = subst (λ (os : List Op). Changing start os r.0) (sym whole) (changing_push start w.after r.0 s.front s.here w.change r.1);

@@ -173,8 +173,12 @@ module _ (all : Members) where
         → (before : List Members) × (ms : Members) × StandsAt (policy_tables all) before ms (number_of_entry at) × PolicyAgainst shared (tenant_tables all) before ms q
     policy_to at q l (whole.top is h) = absurd (let e = ap list_of_entry is in omega (arith, e, l))
     policy_to at q l (whole.tenant before ms n is stands h) = absurd (let e = ap list_of_entry is in omega (arith, e, l))
-    policy_to at q l (whole.policy before ms n T is stands has h) =
-        (before, ms, subst (λ (m : ℕ). StandsAt (policy_tables all) before ms m) (sym (ap number_of_entry is)) stands, subst (λ (U : Table). PolicyAgainst U (tenant_tables all) before ms q) (one T has) h)
+    policy_to at q l (whole.policy before ms n T is stands has h) = (
+      before,
+      ms,
+      subst (λ (m : ℕ). StandsAt (policy_tables all) before ms m) (sym (ap number_of_entry is)) stands,
+      subst (λ (U : Table). PolicyAgainst U (tenant_tables all) before ms q) (one T has) h,
+    )
     policy_to at q l (whole.app before ms n d is stands has h) = absurd (let e = ap list_of_entry is in omega (arith, e, l))
     policy_to at q l (whole.link before ms n is stands h) = absurd (let e = ap list_of_entry is in omega (arith, e, l))
     policy_to at q l (whole.operator before ms n d is stands has h) = absurd (let e = ap list_of_entry is in omega (arith, e, l))
@@ -193,8 +197,12 @@ module _ (all : Members) where
     app_to at q l (whole.top is h) = absurd (let e = ap list_of_entry is in omega (arith, e, l))
     app_to at q l (whole.tenant before ms n is stands h) = absurd (let e = ap list_of_entry is in omega (arith, e, l))
     app_to at q l (whole.policy before ms n T is stands has h) = absurd (let e = ap list_of_entry is in omega (arith, e, l))
-    app_to at q l (whole.app before ms n d is stands has h) =
-        (before, ms, subst (λ (m : ℕ). StandsAt (app_tables all) before ms m) (sym (ap number_of_entry is)) stands, subst (λ (e : List NamedPolicy). AppAgainst all e before ms q) (one d has) h)
+    app_to at q l (whole.app before ms n d is stands has h) = (
+      before,
+      ms,
+      subst (λ (m : ℕ). StandsAt (app_tables all) before ms m) (sym (ap number_of_entry is)) stands,
+      subst (λ (e : List NamedPolicy). AppAgainst all e before ms q) (one d has) h,
+    )
     app_to at q l (whole.link before ms n is stands h) = absurd (let e = ap list_of_entry is in omega (arith, e, l))
     app_to at q l (whole.operator before ms n d is stands has h) = absurd (let e = ap list_of_entry is in omega (arith, e, l))
 
@@ -213,8 +221,13 @@ module _ (all : Members) where
     operator_to at q l (whole.policy before ms n T is stands has h) = absurd (let e = ap list_of_entry is in omega (arith, e, l))
     operator_to at q l (whole.app before ms n d is stands has h) = absurd (let e = ap list_of_entry is in omega (arith, e, l))
     operator_to at q l (whole.link before ms n is stands h) = absurd (let e = ap list_of_entry is in omega (arith, e, l))
-    operator_to at q l (whole.operator before ms n d is stands has h) =
-        (before, ms, subst (λ (m : ℕ). StandsAt (operator_tables all) before ms m) (sym (ap number_of_entry is)) stands, subst (λ (e : List NamedPolicy). OperatorAgainst all e before ms q) (one d has) h)
+    operator_to at q l (whole.operator before ms n d is stands has h) = (
+      before,
+      ms,
+      subst (λ (m : ℕ). StandsAt (operator_tables all) before ms m) (sym (ap number_of_entry is))
+          stands,
+      subst (λ (e : List NamedPolicy). OperatorAgainst all e before ms q) (one d has) h,
+    )
 
     pub operators_free : FreeBelow all 5 → AreFree (OperatorAgainst all declared) (operator_tables all) → FreeBelow all 6
     operators_free = list_free all 5 (λ n. entry.Operator n) (operator_tables all) (OperatorAgainst all declared) (λ n. refl) (λ n. refl)

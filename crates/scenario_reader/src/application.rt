@@ -38,7 +38,7 @@ use script_words::one_judgement;
 use std::alloc::Global;
 use toml::Table;
 
-/// What the program of an application says, or the first reason against it.
+// What the program of an application says, or the first reason against it.
 fn role_in(
     alloc: Global,
     role: RoleWord,
@@ -61,14 +61,14 @@ fn role_in(
     }
 }
 
-/// Whether the numbers of an application are in their ranges.
+// Whether the numbers of an application are in their ranges.
 fn has_ranges(entry: &Table) -> bool
     ensures { result ≡ list_all (is_within_at (table_view entry.now)) app_ranges }
 {
     are_within(&[conn(), heap(), receive(), ring(), weight()], entry)
 }
 
-/// The words of its heap, which are in their range.
+// The words of its heap, which are in their range.
 fn heap_in(entry: &Table) -> u32
     requires { list_all (is_within_at (table_view entry.now)) app_ranges ≡ true }
     ensures { result ≡ number_in keys.heap (table_view entry.now) }
@@ -76,7 +76,7 @@ fn heap_in(entry: &Table) -> u32
     heap().number(entry) as u32
 }
 
-/// The number of its connection, which is in its range.
+// The number of its connection, which is in its range.
 fn conn_in(entry: &Table) -> u32
     requires { list_all (is_within_at (table_view entry.now)) app_ranges ≡ true }
     ensures { result ≡ number_in keys.conn (table_view entry.now) }
@@ -84,7 +84,7 @@ fn conn_in(entry: &Table) -> u32
     conn().number(entry) as u32
 }
 
-/// The number of its connection.
+// The number of its connection.
 fn number_of(entry: &Table) -> u64
     ensures { result ≡ number_in keys.conn (table_view entry.now) }
 {
@@ -107,14 +107,14 @@ pub(crate) fn earliest(first: Option<ScenarioReason>, reason: ScenarioReason) ->
     }
 }
 
-/// Whether an application is on the connection.
+// Whether an application is on the connection.
 fn has_port(ports: &[Port], conn: u64) -> bool
     ensures { result ≡ has_port ports.now conn }
 {
     ports.iter().any(|port| port.conn == conn)
 }
 
-/// The first reason against the connection of an application and the policies that it names.
+// The first reason against the connection of an application and the policies that it names.
 fn head_reason(
     declared: &Declarations,
     ports: &[Port],
@@ -128,7 +128,7 @@ fn head_reason(
     earlier(names_reason(declared, names), known)
 }
 
-/// What an application does, and its own schema.
+// What an application does, and its own schema.
 struct Early {
     role: Role,
     own: Option<OwnSchema>,
@@ -145,7 +145,7 @@ impl Drop for Early {
 }
 
 impl Early {
-    /// The application of an entry without a fault.
+    // The application of an entry without a fault.
     fn draft(
         self,
         alloc: Global,
@@ -171,7 +171,7 @@ impl Early {
     }
 }
 
-/// Where the policies stand that are attached to the connection of an application.
+// Where the policies stand that are attached to the connection of an application.
 fn attached_in(
     alloc: Global,
     declared: &Declarations,
@@ -184,7 +184,7 @@ fn attached_in(
     places_in(alloc, declared, names.as_slice())
 }
 
-/// The first of several reasons against an application, where one of its parts has one.
+// The first of several reasons against an application, where one of its parts has one.
 fn early_of(
     head: Option<ScenarioReason>,
     role: Result<Role, ScenarioReason>,
@@ -208,8 +208,8 @@ fn early_of(
     }
 }
 
-/// What an application with its keys and its numbers does, and its own schema, or the first reason against these, its
-/// connection and the policies that it names.
+// What an application with its keys and its numbers does, and its own schema, or the first reason against these, its
+// connection and the policies that it names.
 fn early_in(
     alloc: Global,
     above: Above<'_, '_, '_>,
@@ -232,7 +232,7 @@ fn early_in(
     Ok(early_of(head, said, own))
 }
 
-/// Whether a policy at a place is none that judges what is delivered: access policies alone do.
+// Whether a policy at a place is none that judges what is delivered: access policies alone do.
 fn judges_otherwise(declared: &Declarations, inbound: Option<usize>) -> bool
     ensures { result ≡ judges_otherwise declared.now inbound }
 {
@@ -245,14 +245,14 @@ fn judges_otherwise(declared: &Declarations, inbound: Option<usize>) -> bool
     }
 }
 
-/// Whether a connection is an end of a link.
+// Whether a connection is an end of a link.
 fn is_on_end(ends: &[u64], conn: u64) -> bool
     ensures { result ≡ is_on_end ends.now conn }
 {
     ends.iter().any(|end| *end == conn)
 }
 
-/// How many calls are submitted together; none where a run may not load as much. Each is counted twice, for its reply.
+// How many calls are submitted together; none where a run may not load as much. Each is counted twice, for its reply.
 fn work_in(loads: u64, before: u64, more: u64) -> Option<u64>
     requires from_one { 1 ≤ loads }
     requires few { loads ≤ 16384 }
@@ -270,7 +270,7 @@ fn work_in(loads: u64, before: u64, more: u64) -> Option<u64>
     }
 }
 
-/// How many calls an application submits.
+// How many calls an application submits.
 fn submissions_of(alloc: Global, role: RoleWord, entry: &Table) -> Result<u64, Memory>
     ensures { IfOk result (λ n. role_of (table_view entry.now) ≡ Some role → n ≡ submissions (table_view entry.now)) }
 {
@@ -278,15 +278,15 @@ fn submissions_of(alloc: Global, role: RoleWord, entry: &Table) -> Result<u64, M
     Ok(submissions(role, lines.as_slice()))
 }
 
-/// The chain of an application and the calls that are submitted up to it.
+// The chain of an application and the calls that are submitted up to it.
 #[derive(Drop)]
 struct Late<'a> {
     chain: Chain<'a>,
     submitted: u64,
 }
 
-/// The chain of an application whose policies are declared, or the first reason against that, the policy that judges
-/// what it is delivered, its place among the links and the calls that are submitted up to it.
+// The chain of an application whose policies are declared, or the first reason against that, the policy that judges
+// what it is delivered, its place among the links and the calls that are submitted up to it.
 fn late_in<'a>(
     alloc: Global,
     above: Above<'a, '_, '_>,
@@ -323,7 +323,7 @@ fn late_in<'a>(
     }
 }
 
-/// The application of an entry behind others, or the first reason against it.
+// The application of an entry behind others, or the first reason against it.
 fn read_app<'a>(
     alloc: Global,
     above: Above<'a, '_, '_>,
@@ -372,7 +372,7 @@ fn read_app<'a>(
 }
 
 impl<'a> Apps<'a> {
-    /// No application.
+    // No application.
     fn new(alloc: Global) -> Apps<'a>
         ensures ports { result.ports.items ≡ [] }
         ensures applications { result.applications ≡ [] }
@@ -385,7 +385,7 @@ impl<'a> Apps<'a> {
         }
     }
 
-    /// One more, behind the others.
+    // One more, behind the others.
     fn push(&mut self, port: Port, app: Application, chain: Chain<'a>) -> Result<(), Memory>
         ensures ports { OnOk result (self.new.ports.items ≡ self.old.ports.items ++ port ∷ []) }
         ensures applications { OnOk result (self.new.applications ≡ self.old.applications ++ app ∷ []) }

@@ -43,14 +43,14 @@ use script_words::one_judgement;
 use std::alloc::Global;
 use toml::Table;
 
-/// Whether one of the names is that of no policy.
+// Whether one of the names is that of no policy.
 fn lacks_policy(declared: &Declarations, names: &[&[u8]]) -> bool
     ensures { result ≡ list_any (λ n. is_none (policy_place declared.now n.now)) names.now }
 {
     names.iter().any(|name| declared.policy(name).is_none())
 }
 
-/// Whether one of the operators is on the connection.
+// Whether one of the operators is on the connection.
 fn has_operator(before: &[Operator], conn: u64) -> bool
     ensures { result ≡ is_operated before.now conn }
 {
@@ -59,8 +59,8 @@ fn has_operator(before: &[Operator], conn: u64) -> bool
         .any(|operator| u64::from(operator.conn) == conn)
 }
 
-/// The first reason against the lines of an operator, its connection behind others, and the policies that it names,
-/// apart from schemas.
+// The first reason against the lines of an operator, its connection behind others, and the policies that it names,
+// apart from schemas.
 fn head_reason(
     declared: &Declarations,
     before: &[Operator],
@@ -88,8 +88,8 @@ fn head_reason(
     )
 }
 
-/// What the lines of an operator tell, the policies that they name, and the first reason against these and its
-/// connection, apart from schemas.
+// What the lines of an operator tell, the policies that they name, and the first reason against these and its
+// connection, apart from schemas.
 struct Asked<'a> {
     steps: Steps<'a>,
     names: Vec<&'a [u8]>,
@@ -107,7 +107,7 @@ impl<'a> Drop for Asked<'a> {
     }
 }
 
-/// What an operator asks for, behind others.
+// What an operator asks for, behind others.
 fn asked_in<'a>(
     alloc: Global,
     declared: &Declarations,
@@ -136,7 +136,7 @@ fn asked_in<'a>(
     Ok(Asked { steps, names, head })
 }
 
-/// Where the application on a connection stands.
+// Where the application on a connection stands.
 fn place_on(applications: &[Application], conn: u64) -> Option<usize>
     ensures { result ≡ position (λ app. app.conn == conn) applications.now }
 {
@@ -145,7 +145,7 @@ fn place_on(applications: &[Application], conn: u64) -> Option<usize>
         .position(|app| u64::from(app.conn) == conn)
 }
 
-/// The first reason against the policies that are named, under the schema of an application; none where it has no schema.
+// The first reason against the policies that are named, under the schema of an application; none where it has no schema.
 fn own_reason(
     alloc: Global,
     above: Above<'_, '_, '_>,
@@ -166,7 +166,7 @@ fn own_reason(
     }
 }
 
-/// The operator whose steps are these, on a chain, or why the first of them that is refused is.
+// The operator whose steps are these, on a chain, or why the first of them that is refused is.
 fn take_steps<'a>(
     alloc: Global,
     declared: &'a Declarations,
@@ -186,7 +186,7 @@ fn take_steps<'a>(
     }
 }
 
-/// The number of the connection of an operator, which is in its range.
+// The number of the connection of an operator, which is in its range.
 fn conn_in(entry: &Table) -> u32
     requires { is_out (table_view entry.now) keys.conn ≡ false }
     ensures { result ≡ conn_of (table_view entry.now) }
@@ -194,7 +194,7 @@ fn conn_in(entry: &Table) -> u32
     conn().number(entry) as u32
 }
 
-/// The operator of an entry with its keys and its connection behind others, or the first reason against it.
+// The operator of an entry with its keys and its connection behind others, or the first reason against it.
 fn judge_operator<'a>(
     alloc: Global,
     above: Above<'a, '_, '_>,
@@ -235,7 +235,7 @@ fn judge_operator<'a>(
     )
 }
 
-/// The operator of an entry behind others, or the first reason against it.
+// The operator of an entry behind others, or the first reason against it.
 fn read_operator<'a>(
     alloc: Global,
     above: Above<'a, '_, '_>,

@@ -36,7 +36,7 @@ pub(crate) fn step_names<'a>(alloc: Global, entry: &'a Table) -> Result<Vec<&'a 
     Ok(names)
 }
 
-/// The policies that an application names, and those that the steps on its connection name.
+// The policies that an application names, and those that the steps on its connection name.
 fn used_names<'a>(
     alloc: Global,
     entry: &'a Table,
@@ -56,9 +56,9 @@ fn used_names<'a>(
     Ok(names)
 }
 
-/// The policies that are used, as they are read under the table of the application's own schema, or the first reason
-/// against those that the application names. Policies that steps alone name are no matter of the application: where one
-/// of them fails, its operator is at fault.
+// The policies that are used, as they are read under the table of the application's own schema, or the first reason
+// against those that the application names. Policies that steps alone name are no matter of the application: where one
+// of them fails, its operator is at fault.
 fn own_policies(
     alloc: Global,
     above: Above<'_, '_, '_>,

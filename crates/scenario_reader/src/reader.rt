@@ -32,14 +32,14 @@ use scenario_values::{flag_at, tables_at, word_at};
 use std::alloc::Global;
 use toml::Table;
 
-/// The tenants and the policies, and the entries of the policies.
+// The tenants and the policies, and the entries of the policies.
 #[derive(Drop)]
 struct Declared<'x> {
     declarations: Declarations,
     policies: Vec<&'x Table>,
 }
 
-/// What is read below the declarations.
+// What is read below the declarations.
 #[derive(Drop)]
 struct Below {
     applications: Sequence<Application>,
@@ -47,7 +47,7 @@ struct Below {
     operators: Sequence<Operator>,
 }
 
-/// What is read of a whole under its table.
+// What is read of a whole under its table.
 #[derive(Drop)]
 struct Parts {
     service: Name,
@@ -55,7 +55,7 @@ struct Parts {
     below: Below,
 }
 
-/// The tenants and the policies.
+// The tenants and the policies.
 fn read_declared<'x>(
     alloc: Global,
     all: &'x Table,
@@ -77,7 +77,7 @@ fn read_declared<'x>(
     })
 }
 
-/// The applications, the links of these entries, and the operators.
+// The applications, the links of these entries, and the operators.
 fn read_lists<'x>(
     alloc: Global,
     all: &'x Table,
@@ -104,7 +104,7 @@ fn read_lists<'x>(
     })
 }
 
-/// The applications, the links and the operators.
+// The applications, the links and the operators.
 fn read_below<'x>(
     alloc: Global,
     all: &'x Table,
@@ -131,7 +131,7 @@ fn read_below<'x>(
     read_lists(alloc, all, above, link_entries.as_slice())
 }
 
-/// What a whole without a fault in its own keys says.
+// What a whole without a fault in its own keys says.
 fn read_parts(alloc: Global, all: &Table, table: &Schema) -> Result<Parts, ScenarioFault>
     requires valid { IsValid table.now }
     requires ranges { list_all (is_within_at (table_view all.now)) top_ranges ≡ true }
@@ -154,7 +154,7 @@ fn read_parts(alloc: Global, all: &Table, table: &Schema) -> Result<Parts, Scena
     })
 }
 
-/// The plan of a whole without a fault in its own keys.
+// The plan of a whole without a fault in its own keys.
 fn read_whole(alloc: Global, all: &Table, table: Schema) -> Result<Plan, ScenarioFault>
     requires valid { IsValid table }
     requires ranges { list_all (is_within_at (table_view all.now)) top_ranges ≡ true }

@@ -35,7 +35,7 @@ pub fn count_in(step: &StepText<'_>) -> u64
     }
 }
 
-/// The policy that a step names, if it names one.
+// The policy that a step names, if it names one.
 fn policy_in<'a>(step: &StepText<'a>) -> Option<&'a [u8]>
     ensures { option_copied result ≡ policy_in step.now }
 {
@@ -46,7 +46,7 @@ fn policy_in<'a>(step: &StepText<'a>) -> Option<&'a [u8]>
 }
 
 impl<'a> Steps<'a> {
-    /// Keeps what a line tells behind others.
+    // Keeps what a line tells behind others.
     fn keep(&mut self, step: StepText<'a>) -> Result<(), Memory>
         ensures told { OnOk result (self.new.told.items ≡ self.old.told.items ++ step.entry ∷ []) }
         ensures more { OnOk result (self.old.most ≤ count_in step.entry
@@ -64,7 +64,7 @@ impl<'a> Steps<'a> {
         Ok(())
     }
 
-    /// Reads one line more.
+    // Reads one line more.
     fn read(&mut self, line: &'a [u8]) -> Result<(), Memory>
         ensures { OnOk result ((lines : List (List ℕ)) → HasTold lines self.old.told.items self.old.most self.old.first
             → HasTold (lines ++ line.entry.now ∷ []) self.new.told.items self.new.most self.new.first) }

@@ -40,14 +40,14 @@ pub fn document_in(alloc: Global, text: &[u8]) -> Result<Table, ScenarioFault>
     }
 }
 
-/// Whether the numbers of the whole are in their ranges.
+// Whether the numbers of the whole are in their ranges.
 fn has_top_ranges(all: &Table) -> bool
     ensures { result ≡ list_all (is_within_at (table_view all.now)) top_ranges }
 {
     are_within(&[format(), loads(), workers()], all)
 }
 
-/// A fault of the whole.
+// A fault of the whole.
 fn top_fault(reason: ScenarioReason) -> Result<Schema, ScenarioFault>
     ensures { result ≡ Err (fault.At place.Top reason) }
 {

@@ -30,7 +30,7 @@ pub fn named_in<'a>(declared: &'a Declarations, name: &[u8]) -> Option<&'a Named
     }
 }
 
-/// Takes one step, or tells why the chain refuses it; then it is as before.
+// Takes one step, or tells why the chain refuses it; then it is as before.
 fn take_step<'a>(
     chain: &mut Chain<'a>,
     declared: &'a Declarations,
@@ -76,7 +76,7 @@ pub fn take_all<'a>(
     Ok(None)
 }
 
-/// A position as a plan has it; one of no chain is any.
+// A position as a plan has it; one of no chain is any.
 fn position_in(at: Decimal) -> u32
     ensures { (n : ℕ) → at ≡ in_64_bits n → n < 2 ^ 32 → result ≡ n }
 {
@@ -86,7 +86,7 @@ fn position_in(at: Decimal) -> u32
     }
 }
 
-/// The place of a declared policy; 0 where none has the name.
+// The place of a declared policy; 0 where none has the name.
 fn place_in(declared: &Declarations, name: &[u8]) -> usize
     ensures { (place : ℕ) → policy_place declared.now name.now ≡ Some place → result ≡ place }
 {
@@ -96,7 +96,7 @@ fn place_in(declared: &Declarations, name: &[u8]) -> usize
     }
 }
 
-/// The line of a plan that a step is, where its policy is declared and its position is one of a chain.
+// The line of a plan that a step is, where its policy is declared and its position is one of a chain.
 fn line_of(alloc: Global, declared: &Declarations, step: &StepText<'_>) -> Result<StepLine, Memory>
     ensures { IfOk result (IsLineOf declared.now step.now) }
 {

@@ -1,4 +1,4 @@
--- The order of a plan whose connections are weighed (this project's own).
+-- The code's own: the order of a plan whose connections are weighed (this project's own).
 use Rattle.std.specs.Prelude.{◌≡◌, ℕ, List, map}
 use Rattle.qos_order.specs.Weights.{weight_of}
 use Rattle.qos_order.specs.declared.weights.Weight.{Weight}

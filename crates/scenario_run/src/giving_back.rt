@@ -1,4 +1,4 @@
-// The links of a run go back to its fabric.
+//! The links of a run go back to its fabric.
 
 ghost use Rattle.std.specs.Prelude.{◌≡◌, ◌+◌, ◌≤◌, ◌++◌, ◌∷◌, IsPermutation, length, map};
 ghost use Rattle.scenario_run.specs.Running.{link_of};

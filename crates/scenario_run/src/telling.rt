@@ -1,4 +1,4 @@
-// What a run tells of its connections.
+//! What a run tells of its connections.
 
 ghost use Rattle.std.specs.Prelude.{◌≡◌, ◌++◌, List, All, Contains, IfOk, OnOk, IsTrue, Some, false, flat_map, option_map, option_to_list, true};
 ghost use Rattle.std.specs.List.{AllZip};

@@ -1,5 +1,7 @@
 -- A table's lists and members, as the code walks them and as the definitions see them.
-use Rattle.std.proofs.Common.{◌≡◌, ℕ, List, [], ◌∷◌, Bool, ◌&&◌, map, Option, Some, None, String, Global, is_some, string_bytes, true, false, filter_map, option_to_list, drop, get_or, length, ◌+◌, ◌<◌, ◌++◌, append_assoc, refl, sym, ap, ◌∙◌}
+use Rattle.std.proofs.Common.{◌≡◌, ℕ, List, [], ◌∷◌, Bool, ◌&&◌, map, Option, Some, None, String, Global, is_some}
+use Rattle.std.proofs.Common.{string_bytes, true, false, filter_map, option_to_list, drop, get_or, length, ◌+◌, ◌<◌}
+use Rattle.std.proofs.Common.{◌++◌, append_assoc, refl, sym, ap, ◌∙◌}
 use Rattle.std.specs.List.{list_all, list_any}
 use Rattle.std.proofs.lemmas.List.{drop_more}
 use Rattle.std.proofs.lemmas.Option.{same_Some}

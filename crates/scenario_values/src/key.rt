@@ -65,14 +65,14 @@ impl Key {
         }
     }
 
-    /// Whether it has this name, and this may stand at it.
+    // Whether it has this name, and this may stand at it.
     fn is_for(&self, name: &str, value: &Value) -> bool
         ensures { result ≡ is_for name.now (view value.now) self.now }
     {
         self.name.as_bytes() == name.as_bytes() && self.shape.is_of(value)
     }
 
-    /// Whether it is there, if it has to be.
+    // Whether it is there, if it has to be.
     fn is_there(&self, table: &Table) -> bool
         ensures { result ≡ is_there (table_view table.now) self.now }
     {
@@ -81,7 +81,7 @@ impl Key {
 }
 
 impl Shape {
-    /// Whether a value has it.
+    // Whether a value has it.
     fn is_of(self, value: &Value) -> bool
         ensures { result ≡ has_shape self (view value.now) }
     {
@@ -95,21 +95,21 @@ impl Shape {
     }
 }
 
-/// Whether each item is a text.
+// Whether each item is a text.
 fn all_texts(items: &Array) -> bool
     ensures { result ≡ list_all (λ v. is_some (as_str (view v))) items.now.items }
 {
     items.iter().all(|item| item.is_str())
 }
 
-/// Whether each item is a table.
+// Whether each item is a table.
 fn all_tables(items: &Array) -> bool
     ensures { result ≡ list_all (λ v. is_some (as_table (view v))) items.now.items }
 {
     items.iter().all(|item| item.is_table())
 }
 
-/// Whether the value is a list of texts.
+// Whether the value is a list of texts.
 fn are_texts(value: &Value) -> bool
     ensures { result ≡ has_shape shape.Texts (view value.now) }
 {
@@ -119,7 +119,7 @@ fn are_texts(value: &Value) -> bool
     }
 }
 
-/// Whether the value is a list of tables.
+// Whether the value is a list of tables.
 fn are_tables(value: &Value) -> bool
     ensures { result ≡ has_shape shape.Tables (view value.now) }
 {
@@ -129,14 +129,14 @@ fn are_tables(value: &Value) -> bool
     }
 }
 
-/// Whether one of the keys has this name, and this may stand at it.
+// Whether one of the keys has this name, and this may stand at it.
 fn is_known(keys: &[Key], name: &str, value: &Value) -> bool
     ensures { result ≡ list_any (is_for name.now (view value.now)) keys.now }
 {
     keys.iter().any(|key| key.is_for(name, value))
 }
 
-/// Whether each key of the table is one of these, with what may stand there.
+// Whether each key of the table is one of these, with what may stand there.
 fn are_known(keys: &[Key], table: &Table) -> bool
     ensures { result ≡ list_all (λ e. list_any (is_for (string_bytes e.0) (view e.1)) keys.now) table.now.entries }
 {
@@ -145,7 +145,7 @@ fn are_known(keys: &[Key], table: &Table) -> bool
         .all(|(name, value)| is_known(keys, name.as_str(), value))
 }
 
-/// Whether each of these keys that has to be there is there.
+// Whether each of these keys that has to be there is there.
 fn are_there(keys: &[Key], table: &Table) -> bool
     ensures { result ≡ are_there keys.now (table_view table.now) }
 {

@@ -10,7 +10,7 @@ use mrpc_table::Memory;
 use std::alloc::Global;
 use toml::{Table, Value};
 
-/// The values of the list at a key; none where there is no list.
+// The values of the list at a key; none where there is no list.
 fn items_at<'a>(table: &'a Table, key: &str) -> &'a [Value]
     ensures { map view result.now ≡ items_at key.now (table_view table.now) }
 {
@@ -23,7 +23,7 @@ fn items_at<'a>(table: &'a Table, key: &str) -> &'a [Value]
     }
 }
 
-/// Adds the text that a value is, if it is one.
+// Adds the text that a value is, if it is one.
 fn add_text<'a>(texts: &mut Vec<&'a [u8]>, item: &'a Value) -> Result<(), Memory>
     ensures { OnOk result (map (λ t. t.now) texts.new.items
         ≡ map (λ t. t.now) texts.old.items ++ option_to_list (as_str (view item.now))) }
@@ -37,7 +37,7 @@ fn add_text<'a>(texts: &mut Vec<&'a [u8]>, item: &'a Value) -> Result<(), Memory
     }
 }
 
-/// Adds the table that a value is, if it is one.
+// Adds the table that a value is, if it is one.
 fn add_table<'a>(tables: &mut Vec<&'a Table>, item: &'a Value) -> Result<(), Memory>
     ensures { OnOk result (map (λ t. table_view t.now) tables.new.items
         ≡ map (λ t. table_view t.now) tables.old.items ++ option_to_list (as_table (view item.now))) }

@@ -26,14 +26,14 @@ impl Model for Range {
     ghost view = { λ r. record { key = r.key.now; default = r.default; least = r.least; most = r.most } };
 }
 
-/// Whether an integer is one of these numbers.
+// Whether an integer is one of these numbers.
 fn is_within(least: u64, most: u64, value: i64) -> bool
     ensures { result ≡ is_within least most value }
 {
     value >= 0 && least <= value as u64 && value as u64 <= most
 }
 
-/// The number that an integer is, and 0 of those below.
+// The number that an integer is, and 0 of those below.
 fn natural(value: i64) -> u64
     ensures { result ≡ natural value }
 {

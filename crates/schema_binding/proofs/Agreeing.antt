@@ -37,7 +37,8 @@ pub methods_refusal : (T U : Table) (service : List ℕ) (version : ℕ) (fault 
     → HaveOtherMethods T U service fault → Refuses T U service version fault
 methods_refusal T U service version fault two o p (at, (ours, theirs, d), is) = other_methods at ours theirs two o p d is
 
-pub fields_refusal : (T U : Table) (service : List ℕ) (version : ℕ) (fault : AgreeFault) → version ≡ 2 → Offers T service → Offers U service → methods_of T service ≡ methods_of U service
+pub fields_refusal : (T U : Table) (service : List ℕ) (version : ℕ) (fault : AgreeFault) → version ≡ 2
+    → Offers T service → Offers U service → methods_of T service ≡ methods_of U service
     → (fault ≡ NoMemory) ⊎ HaveOtherFields T U service fault → MayRefuse T U service version fault
 fields_refusal T U service version fault two o p same (inl memory) = inl memory
 fields_refusal T U service version fault two o p same (inr (type, number, d, is)) = inr (other_field type number two o p same d is)

@@ -5,7 +5,9 @@ use Rattle.std.proofs.lemmas.Bool.{cases_order, cases_lt, true≢false}
 use Rattle.mrpc_table.specs.Text.{message_name, table_text}
 use Rattle.mrpc_table.specs.Valid.{IsValid, IsBelow}
 use Rattle.mrpc_table.specs.declared.table.Table.{Table}
-use Rattle.schema_binding.specs.Agreement.{by_text, by_fields, no_service, other_text, other_methods, other_field, Offers, methods_of, Differs, DiffersFirst, NeverAgreeAndRefuse, RefuseOnce, AgreeOrRefuse}
+use Rattle.schema_binding.specs.Agreement.{by_text, by_fields, no_service, other_text, other_methods, other_field}
+use Rattle.schema_binding.specs.Agreement.{Offers, methods_of, Differs, DiffersFirst, NeverAgreeAndRefuse, RefuseOnce}
+use Rattle.schema_binding.specs.Agreement.{AgreeOrRefuse}
 use Rattle.schema_binding.specs.declared.fault.AgreeFault.TheVariants.{NoService, Mismatch, Methods, Field as FieldFault}
 use Rattle.schema_binding.proofs.Differences.{one_place, one_left, one_right, equal_never_differ, differ_or_equal}
 use Rattle.schema_binding.proofs.Order.{never_below_both, below_is_other, names_rise, message_name_is}
@@ -22,7 +24,8 @@ never_both T U service version fault (by_text one o p same) (other_methods place
 never_both T U service version fault (by_text one o p same) (other_field type number two o' p' same' d at) = both_versions version one two
 never_both T U service version fault (by_fields two o p same none) (no_service ours theirs is_o is_p not_both at) = not_both (is_o.1 o) (is_p.1 p)
 never_both T U service version fault (by_fields two o p same none) (other_text byte x y one o' p' d at) = both_versions version one two
-never_both T U service version fault (by_fields two o p same none) (other_methods place x y two' o' p' d at) = equal_never_differ (methods_of T service) (methods_of U service) place x y same d
+never_both T U service version fault (by_fields two o p same none) (other_methods place x y two' o' p' d at) =
+    equal_never_differ (methods_of T service) (methods_of U service) place x y same d
 never_both T U service version fault (by_fields two o p same none) (other_field type number two' o' p' same' d at) = none type number d.differs
 
 -- ---- one refusal
@@ -65,10 +68,14 @@ refuse_once T U service version f g (other_methods place x y two o p d at) (no_s
 refuse_once T U service version f g (other_methods place x y two o p d at) (other_text byte x' y' one o' p' d' at') = absurd (both_versions version one two)
 refuse_once T U service version f g (other_methods place x y two o p d at) (other_methods place' x' y' two' o' p' d' at') =
     at ∙ ap Methods (one_place (methods_of T service) (methods_of U service) place place' x y x' y' d d') ∙ sym at'
-refuse_once T U service version f g (other_methods place x y two o p d at) (other_field type number two' o' p' same d' at') = absurd (equal_never_differ (methods_of T service) (methods_of U service) place x y same d)
+refuse_once T U service version f g (other_methods place x y two o p d at)
+    (other_field type number two' o' p' same d' at') =
+    absurd (equal_never_differ (methods_of T service) (methods_of U service) place x y same d)
 refuse_once T U service version f g (other_field type number two o p same d at) (no_service a b is_a is_b not_both at') = absurd (not_both (is_a.1 o) (is_b.1 p))
 refuse_once T U service version f g (other_field type number two o p same d at) (other_text byte x y one o' p' d' at') = absurd (both_versions version one two)
-refuse_once T U service version f g (other_field type number two o p same d at) (other_methods place x y two' o' p' d' at') = absurd (equal_never_differ (methods_of T service) (methods_of U service) place x y same d')
+refuse_once T U service version f g (other_field type number two o p same d at)
+    (other_methods place x y two' o' p' d' at') =
+    absurd (equal_never_differ (methods_of T service) (methods_of U service) place x y same d')
 refuse_once T U service version f g (other_field type number two o p same d at) (other_field type' number' two' o' p' same' d' at') =
     let one = one_type T U service type type' number number' d d' in
     at ∙ (λ i. FieldFault (one.0 i) (one.1 i)) ∙ sym at'
@@ -97,7 +104,8 @@ place_of_difference T U service type n d =
     (p.known.0, p.known.1, message_name_is T p.known.0 p.message p.known.1 ∙ ap (λ m. m.name) p.known.2 ∙ p.named)
 
 first_difference : (T U : Table) (service : List ℕ) → IsValid T → (i n : ℕ) → i < length T.messages → Differs T U service (message_name T i) n
-    → ((j : ℕ) → j < i → DiffersAt T U service j → ⊥) → ((m : ℕ) → m < n → Differs T U service (message_name T i) m → ⊥) → DiffersFirst T U service (message_name T i) n
+    → ((j : ℕ) → j < i → DiffersAt T U service j → ⊥) → ((m : ℕ) → m < n → Differs T U service (message_name T i) m
+    → ⊥) → DiffersFirst T U service (message_name T i) n
 first_difference T U service valid i n within d none_before none_below = record {
   differs = d;
   least = λ type m e.
@@ -119,7 +127,9 @@ first_difference T U service valid i n within d none_before none_below = record 
 }
 
 -- a number differs, or none does: then there is a first one
-some_or_none : (T U : Table) (service : List ℕ) → IsValid T → ((type : List ℕ) (n : ℕ) → DiffersFirst T U service type n → ⊥) → (type : List ℕ) (n : ℕ) → Differs T U service type n → ⊥
+some_or_none : (T U : Table) (service : List ℕ) → IsValid T
+    → ((type : List ℕ) (n : ℕ) → DiffersFirst T U service type n → ⊥) → (type : List ℕ) (n : ℕ)
+    → Differs T U service type n → ⊥
 some_or_none T U service valid never type n d =
     let at = place_of_difference T U service type n d in
     none_without_least (DiffersAt T U service)

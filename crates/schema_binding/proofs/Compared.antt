@@ -34,7 +34,8 @@ named_enum T i e es all within at =
     ap (λ o. unwrap_or (option_map (λ (n : Choices). n.name) o) []) (slice_get-get_or T.enums i e within)
     ∙ ap (λ (n : Choices). n.name) (ap (λ (ns : List Choices). get_or ns i e) (sym all) ∙ sym at)
 
-pub named_oneof : (os : List (List ℕ)) (o : ℕ) (name : List ℕ) (ns : List (List ℕ)) → ns ≡ os → o < length os → name ≡ get_or ns o name → unwrap_or (slice_get os o) [] ≡ name
+pub named_oneof : (os : List (List ℕ)) (o : ℕ) (name : List ℕ) (ns : List (List ℕ)) → ns ≡ os → o < length os
+    → name ≡ get_or ns o name → unwrap_or (slice_get os o) [] ≡ name
 named_oneof os o name ns all within at =
     ap (λ (p : Option (List ℕ)). unwrap_or p []) (slice_get-get_or os o name within) ∙ ap (λ (ms : List (List ℕ)). get_or ms o name) (sym all) ∙ sym at
 

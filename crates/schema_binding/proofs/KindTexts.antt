@@ -6,7 +6,10 @@ use Rattle.std.proofs.lemmas.List.{append_cancel_left}
 use Rattle.std.proofs.lemmas.Option.{same_Some}
 use Rattle.mrpc_table.specs.Text.{message_name, enum_name, kind_text, label_text}
 use Rattle.mrpc_table.specs.declared.table.Kind.{Kind}
-use Rattle.mrpc_table.specs.declared.table.Kind.TheVariants.{Int32, Int64, Uint32, Uint64, Sint32, Sint64, Bool as TheBool, Fixed32, Fixed64, Sfixed32, Sfixed64, Float, Double, Text, Octets, Message as OfMessage, Choice}
+use Rattle.mrpc_table.specs.declared.table.Kind.TheVariants.{Int32, Int64, Uint32, Uint64, Sint32, Sint64}
+use Rattle.mrpc_table.specs.declared.table.Kind.TheVariants.{Bool as TheBool, Fixed32, Fixed64, Sfixed32, Sfixed64}
+use Rattle.mrpc_table.specs.declared.table.Kind.TheVariants.{Float, Double, Text, Octets, Message as OfMessage}
+use Rattle.mrpc_table.specs.declared.table.Kind.TheVariants.{Choice}
 use Rattle.mrpc_table.specs.declared.table.Label.{Label}
 use Rattle.mrpc_table.specs.declared.table.Label.TheVariants.{Plain, Optional, Repeated, Packed, Map, Member}
 use Rattle.mrpc_table.specs.declared.table.Table.{Table}
@@ -259,7 +262,9 @@ is_simple (Member p) m o = absurd (o p refl)
 pub one_key : (T U : Table) (os ps : List (List ℕ)) (k l : Kind) → label_text T os (Map k) ≡ label_text U ps (Map l) → kind_text T k ≡ kind_text U l
 one_key T U os ps k l e = append_cancel_left (codes "map:") (kind_text T k) (kind_text U l) e
 
-pub one_oneof : (T U : Table) (os ps : List (List ℕ)) (o p : ℕ) → label_text T os (Member o) ≡ label_text U ps (Member p) → unwrap_or (slice_get os o) [] ≡ unwrap_or (slice_get ps p) []
+pub one_oneof : (T U : Table) (os ps : List (List ℕ)) (o p : ℕ)
+    → label_text T os (Member o) ≡ label_text U ps (Member p)
+    → unwrap_or (slice_get os o) [] ≡ unwrap_or (slice_get ps p) []
 one_oneof T U os ps o p e = append_cancel_left (codes "oneof:") (unwrap_or (slice_get os o) []) (unwrap_or (slice_get ps p) []) e
 
 pub not_map : (T U : Table) (os ps : List (List ℕ)) (k : Kind) (l : Label) → ((q : Kind) → l ≡ Map q → ⊥) → label_text T os (Map k) ≡ label_text U ps l → ⊥

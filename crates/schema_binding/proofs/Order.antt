@@ -69,7 +69,8 @@ one_name T valid i j hi hj same = elim (cases_order i j) [
 ]
 
 -- the place of a message that the table has
-pub place_of : (T : Table) → IsValid T → (m : Message) → Contains T.messages m → (i : ℕ) → i < length T.messages → m.name ≡ message_name T i → slice_get T.messages i ≡ Some m
+pub place_of : (T : Table) → IsValid T → (m : Message) → Contains T.messages m → (i : ℕ) → i < length T.messages
+    → m.name ≡ message_name T i → slice_get T.messages i ≡ Some m
 place_of T valid m has i within named =
     let here : message_name T has.0 ≡ m.name = message_name_is T has.0 m has.1 ∙ ap (λ (n : Message). n.name) has.2 in
     let same : has.0 ≡ i = one_name T valid has.0 i has.1 within (here ∙ named) in

@@ -1,5 +1,6 @@
 -- Where the first line of a payload ends, and that a payload says one thing.
-use Rattle.std.proofs.Common.{◌≡◌, ◌≢◌, ℕ, ◌+◌, ◌==◌, ◌&&◌, Bool, true, false, List, [], ◌∷◌, ◌++◌, ◌⊎◌, inl, inr, refl, sym, ap, subst, ◌∙◌, arith}
+use Rattle.std.proofs.Common.{◌≡◌, ◌≢◌, ℕ, ◌+◌, ◌==◌, ◌&&◌, Bool, true, false, List, [], ◌∷◌, ◌++◌, ◌⊎◌, inl, inr}
+use Rattle.std.proofs.Common.{refl, sym, ap, subst, ◌∙◌, arith}
 use Rattle.std.specs.Prelude.{All, IsTrue}
 use Rattle.std.specs.List.{list_all, join_with_byte}
 use Rattle.std.proofs.lemmas.Bool.{cases_eq, cases_Bool, false≢true}
@@ -32,7 +33,12 @@ line_or (b ∷ bytes) = elim (cases_eq b 10) [
   | inl feed ↦ inr (record { first = []; behind = bytes; is_line = All-nil (λ (c : ℕ). c ≢ 10); whole = ap (λ (c : ℕ). c ∷ bytes) feed })
   | inr other ↦ elim (line_or bytes) [
     | inl line ↦ inl (All-cons (λ (c : ℕ). c ≢ 10) b bytes other line)
-    | inr cut ↦ inr (record { first = b ∷ cut.first; behind = cut.behind; is_line = All-cons (λ (c : ℕ). c ≢ 10) b cut.first other cut.is_line; whole = ap (λ (bs : List ℕ). b ∷ bs) cut.whole })
+    | inr cut ↦ inr (record {
+      first = b ∷ cut.first;
+      behind = cut.behind;
+      is_line = All-cons (λ (c : ℕ). c ≢ 10) b cut.first other cut.is_line;
+      whole = ap (λ (bs : List ℕ). b ∷ bs) cut.whole;
+    })
   ]
 ]
 

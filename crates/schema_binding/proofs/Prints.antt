@@ -103,7 +103,8 @@ other_is T U valid_T valid_U service i j n pair d = record {
   other = d.other;
 }
 
-pub is_other : (T U : Table) (service : List ℕ) (i j n : ℕ) → IsPair T U i j → BothReach T U service (message_name T i) → PrintOther T U i j n → Differs T U service (message_name T i) n
+pub is_other : (T U : Table) (service : List ℕ) (i j n : ℕ) → IsPair T U i j
+    → BothReach T U service (message_name T i) → PrintOther T U i j n → Differs T U service (message_name T i) n
 is_other T U service i j n pair reached p = record {
   reached = reached;
   ours = p.ours;
@@ -115,12 +116,14 @@ is_other T U service i j n pair reached p = record {
 
 -- ---- where a pair leads
 
-pub leads_reach : (T U : Table) (service : List ℕ) (i j : ℕ) (type : List ℕ) → IsPair T U i j → BothReach T U service (message_name T i) → LeadsTo T U i j type → BothReach T U service type
+pub leads_reach : (T U : Table) (service : List ℕ) (i j : ℕ) (type : List ℕ) → IsPair T U i j
+    → BothReach T U service (message_name T i) → LeadsTo T U i j type → BothReach T U service type
 leads_reach T U service i j type pair reached l =
     through (message_name T i) type l.number l.ours l.theirs reached (is_prints T i l.number l.ours l.ours_prints)
     (subst (λ (name : List ℕ). Prints U name l.number l.theirs) (sym pair.same) (is_prints U j l.number l.theirs l.theirs_prints)) l.our_type l.their_type
 
-pub shared_leads : (T U : Table) → IsValid T → (i j : ℕ) (m n : Message) → slice_get T.messages i ≡ Some m → slice_get U.messages j ≡ Some n → (k : ℕ) (d : Field) → k < length m.fields
+pub shared_leads : (T U : Table) → IsValid T → (i j : ℕ) (m n : Message) → slice_get T.messages i ≡ Some m
+    → slice_get U.messages j ≡ Some n → (k : ℕ) (d : Field) → k < length m.fields
     → (type : List ℕ) → IsShared T U (get_or m.fields k d) n type → LeadsTo T U i j type
 shared_leads T U valid i j m n at_m at_n k d within type s = record {
   number = (get_or m.fields k d).number;
@@ -132,10 +135,13 @@ shared_leads T U valid i j m n at_m at_n k d within type s = record {
   their_type = s.types.theirs;
 }
 
-pub leads_shared : (T U : Table) → IsValid T → (i j : ℕ) (m n : Message) → slice_get T.messages i ≡ Some m → slice_get U.messages j ≡ Some n → (k : ℕ) (d : Field) → k < length m.fields
+pub leads_shared : (T U : Table) → IsValid T → (i j : ℕ) (m n : Message) → slice_get T.messages i ≡ Some m
+    → slice_get U.messages j ≡ Some n → (k : ℕ) (d : Field) → k < length m.fields
     → (type : List ℕ) (l : LeadsTo T U i j type) → l.number ≡ (get_or m.fields k d).number → IsShared T U (get_or m.fields k d) n type
 leads_shared T U valid i j m n at_m at_n k d within type l numbered =
-    let theirs : IsMapped (field_text U n) (field_at n.fields l.number) l.theirs = mapped (field_text U n) (field_at n.fields l.number) l.theirs (sym (print_of U j l.number n at_n) ∙ l.theirs_prints) in
+    let theirs : IsMapped (field_text U n) (field_at n.fields l.number) l.theirs =
+    mapped (field_text U n) (field_at n.fields l.number) l.theirs (sym (print_of U j l.number n at_n)
+    ∙ l.theirs_prints) in
     let ours : field_text T m (get_or m.fields k d) ≡ l.ours =
     same_Some (field_text T m (get_or m.fields k d)) l.ours (sym (own_print T valid i m at_m k d within) ∙ ap (print_at T i) (sym numbered) ∙ l.ours_prints) in
     record {
@@ -149,7 +155,8 @@ leads_shared T U valid i j m n at_m at_n k d within type l numbered =
 
 -- ---- the walk over the fields of a pair
 
-pub field_other : (T U : Table) → IsValid T → (i j : ℕ) (m n : Message) → slice_get T.messages i ≡ Some m → slice_get U.messages j ≡ Some n → (k : ℕ) (d : Field) → k < length m.fields
+pub field_other : (T U : Table) → IsValid T → (i j : ℕ) (m n : Message) → slice_get T.messages i ≡ Some m
+    → slice_get U.messages j ≡ Some n → (k : ℕ) (d : Field) → k < length m.fields
     → IsOther T U m (get_or m.fields k d) n → PrintOther T U i j (get_or m.fields k d).number
 field_other T U valid i j m n at_m at_n k d within o = record {
   ours = field_text T m (get_or m.fields k d);
@@ -159,7 +166,8 @@ field_other T U valid i j m n at_m at_n k d within o = record {
   other = o.other_text;
 }
 
-pub other_field : (T U : Table) → IsValid T → (i j : ℕ) (m n : Message) → slice_get T.messages i ≡ Some m → slice_get U.messages j ≡ Some n → (k : ℕ) (d : Field) → k < length m.fields
+pub other_field : (T U : Table) → IsValid T → (i j : ℕ) (m n : Message) → slice_get T.messages i ≡ Some m
+    → slice_get U.messages j ≡ Some n → (k : ℕ) (d : Field) → k < length m.fields
     → PrintOther T U i j (get_or m.fields k d).number → IsOther T U m (get_or m.fields k d) n
 other_field T U valid i j m n at_m at_n k d within p =
     let number = (get_or m.fields k d).number in
@@ -172,12 +180,14 @@ other_field T U valid i j m n at_m at_n k d within p =
 abbrev pub AreSameBelow : Table → Table → ℕ → ℕ → List Field → ℕ → Type 0
 AreSameBelow T U i j fs at = (k : ℕ) (d : Field) → k < at → PrintOther T U i j (get_or fs k d).number → ⊥
 
-pub no_other : (T U : Table) (i j : ℕ) (m : Message) → slice_get T.messages i ≡ Some m → AreSameBelow T U i j m.fields (length m.fields) → (n : ℕ) → PrintOther T U i j n → ⊥
+pub no_other : (T U : Table) (i j : ℕ) (m : Message) → slice_get T.messages i ≡ Some m
+    → AreSameBelow T U i j m.fields (length m.fields) → (n : ℕ) → PrintOther T U i j n → ⊥
 no_other T U i j m at same n p =
     let s : StandsIn m n = stands_in T i n m p.ours at p.ours_prints in
     same s.place s.field s.within (subst (PrintOther T U i j) (sym s.numbered ∙ ap (λ (f : Field). f.number) (sym s.is)) p)
 
-pub least_other : (T U : Table) → IsValid T → (i j : ℕ) (m n : Message) → slice_get T.messages i ≡ Some m → slice_get U.messages j ≡ Some n → (k : ℕ) (d : Field) → k < length m.fields
+pub least_other : (T U : Table) → IsValid T → (i j : ℕ) (m n : Message) → slice_get T.messages i ≡ Some m
+    → slice_get U.messages j ≡ Some n → (k : ℕ) (d : Field) → k < length m.fields
     → AreSameBelow T U i j m.fields k → IsOther T U m (get_or m.fields k d) n → IsLeastOther T U i j (get_or m.fields k d).number
 least_other T U valid i j m n at_m at_n k d within same o = record {
   here = field_other T U valid i j m n at_m at_n k d within o;
@@ -193,7 +203,8 @@ least_other T U valid i j m n at_m at_n k d within same o = record {
               omega (arith, same_field, numbered)
           | inr other ↦ elim other [
             | inl lower ↦
-                let rise : (get_or m.fields k s.field).number < (get_or m.fields s.place s.field).number = numbers_rise m.fields (message_at T valid i m at_m).ascend k s.place s.field lower s.within in
+                let rise : (get_or m.fields k s.field).number < (get_or m.fields s.place s.field).number =
+                numbers_rise m.fields (message_at T valid i m at_m).ascend k s.place s.field lower s.within in
                 let same_field : (get_or m.fields k d).number ≡ (get_or m.fields k s.field).number = ap (λ (f : Field). f.number) (get_or_default m.fields k d s.field within) in
                 omega (arith, rise, same_field, numbered)
             | inr higher ↦ absurd (omega (arith, above, higher))
@@ -234,7 +245,8 @@ leads_at T U valid i j m n at_m at_n fs all k f within at type s =
     shared_leads T U valid i j m n at_m at_n k f (omega (arith, within, ap length all)) type (subst (λ (g : Field). IsShared T U g n type) (sym here) s)
 
 pub shared_at : (T U : Table) → IsValid T → (i j : ℕ) (m n : Message) → slice_get T.messages i ≡ Some m → slice_get U.messages j ≡ Some n
-    → (fs : List Field) → fs ≡ m.fields → (k : ℕ) (f : Field) → k < length fs → f ≡ get_or fs k f → (type : List ℕ) (l : LeadsTo T U i j type) → l.number ≡ f.number → IsShared T U f n type
+    → (fs : List Field) → fs ≡ m.fields → (k : ℕ) (f : Field) → k < length fs → f ≡ get_or fs k f
+    → (type : List ℕ) (l : LeadsTo T U i j type) → l.number ≡ f.number → IsShared T U f n type
 shared_at T U valid i j m n at_m at_n fs all k f within at type l numbered =
     let here : get_or m.fields k f ≡ f = field_here m.fields fs k f all at in
     subst (λ (g : Field). IsShared T U g n type) here

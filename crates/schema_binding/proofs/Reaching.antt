@@ -1,5 +1,7 @@
 -- How marks come, and that in the end they're what both tables reach.
-use Rattle.std.proofs.Common.{◌≡◌, ◌≢◌, ℕ, ◌+◌, ◌<◌, ◌≤◌, ◌*◌, cond, List, [], ◌∷◌, ◌++◌, length, get_or, set, replicate, Option, Some, None, inl, inr, refl, sym, ap, subst, ◌∙◌, arith, length-set, get_or-set_same, get_or-set_other, append-nil, append_assoc, length-append}
+use Rattle.std.proofs.Common.{◌≡◌, ◌≢◌, ℕ, ◌+◌, ◌<◌, ◌≤◌, ◌*◌, cond, List, [], ◌∷◌, ◌++◌, length, get_or, set}
+use Rattle.std.proofs.Common.{replicate, Option, Some, None, inl, inr, refl, sym, ap, subst, ◌∙◌, arith, length-set}
+use Rattle.std.proofs.Common.{get_or-set_same, get_or-set_other, append-nil, append_assoc, length-append}
 use Rattle.std.specs.Prelude.{true, false, All, Contains, slice_get, count_by, is_none, is_some, MatchOption}
 use Rattle.std.proofs.lemmas.Bool.{cases_eq, cases_lt, false≢true, true≢false}
 use Rattle.std.proofs.lemmas.List.{get_or_default, get_or-replicate, get_or_past, length-replicate, get_or_append_left, length_push}
@@ -17,7 +19,9 @@ use Rattle.mrpc_table.specs.declared.table.Method.{Method}
 use Rattle.mrpc_table.specs.declared.table.Table.{Table}
 use Rattle.schema_binding.specs.Agreement.{Signature, signature, methods_of, of_type, Prints, BothReach, as_input, as_output, through}
 use Rattle.schema_binding.specs.Places.{method_at, AreOfType, IsPair, IsShared, LeadsTo, PrintOther, IsLeastOther}
-use Rattle.schema_binding.specs.Reach.{partner_of, IsMarked, HasName, HasBoth, IsListed, IsPaired, IsReachedOnly, Grows, Marks, Gains, IsInMethods, HasMethods, HasNext, IsClosed, IsSameIn, IsLeastIn}
+use Rattle.schema_binding.specs.Reach.{partner_of, IsMarked, HasName, HasBoth, IsListed, IsPaired, IsReachedOnly}
+use Rattle.schema_binding.specs.Reach.{Grows, Marks, Gains, IsInMethods, HasMethods, HasNext, IsClosed, IsSameIn}
+use Rattle.schema_binding.specs.Reach.{IsLeastIn}
 use Rattle.schema_binding.specs.declared.reach.Reached.{Reached}
 use Rattle.schema_binding.proofs.KindTexts.{IsMessage, message_of_type}
 use Rattle.schema_binding.proofs.Prints.{prints_is, leads_reach, shared_at, StandsIn, stands_in}
@@ -43,7 +47,8 @@ empty_paired T U r no_partners none_found =
         count =
             let long : length r.partners.items ≡ length T.messages = ap length no_partners ∙ length-replicate (length T.messages) None in
             let none : length r.found.items ≡ 0 = ap length none_found in
-            let all : count_by is_none r.partners.items ≡ length T.messages * 1 = ap (count_by is_none) no_partners ∙ sum_by-replicate (λ o. cond (is_none o) 1 0) (length T.messages) None in
+            let all : count_by is_none r.partners.items ≡ length T.messages * 1 = ap (count_by is_none) no_partners
+            ∙ sum_by-replicate (λ o. cond (is_none o) 1 0) (length T.messages) None in
             omega (arith, long, none, all);
       };
     }
@@ -65,8 +70,11 @@ pub marks_new : (old new : Reached) (our their : ℕ) → our < length old.partn
     → new.partners.items ≡ set old.partners.items our (Some their) → new.found.items ≡ old.found.items ++ (our, their) ∷ [] → Marks old our their new
 marks_new old new our their within free partners found =
     let here : partner_of new our ≡ Some their = ap (λ ps. get_or ps our None) partners ∙ get_or-set_same old.partners.items our (Some their) None within in
-    let others : (i : ℕ) → i ≢ our → partner_of new i ≡ partner_of old i = λ i other. ap (λ ps. get_or ps i None) partners ∙ get_or-set_other old.partners.items our i (Some their) None other in
-    let kept : (i j : ℕ) → partner_of old i ≡ Some j → partner_of new i ≡ Some j = λ i j e. others i (λ same. none-some j (sym free ∙ ap (partner_of old) (sym same) ∙ e)) ∙ e in
+    let others : (i : ℕ) → i ≢ our → partner_of new i ≡ partner_of old i =
+    λ i other. ap (λ ps. get_or ps i None) partners ∙ get_or-set_other old.partners.items our i
+    (Some their) None other in
+    let kept : (i j : ℕ) → partner_of old i ≡ Some j → partner_of new i ≡ Some j =
+    λ i j e. others i (λ same. none-some j (sym free ∙ ap (partner_of old) (sym same) ∙ e)) ∙ e in
     record {
       grows = record { same = kept; front = ((our, their) ∷ [], found) };
       room = ap length partners ∙ length-set old.partners.items our (Some their);
@@ -80,7 +88,8 @@ marks_new old new our their within free partners found =
           | inl same ↦
               let partner : j ≡ their = same_Some j their (sym e ∙ ap (partner_of new) same ∙ here) in
               subst (λ (ps : List (ℕ × ℕ)). Contains ps (i, j)) (sym found)
-              (subst (λ (p : ℕ × ℕ). Contains (old.found.items ++ (our, their) ∷ []) p) (λ x. (sym same x, sym partner x)) (Contains-push {X = ℕ × ℕ} old.found.items (our, their)))
+              (subst (λ (p : ℕ × ℕ). Contains (old.found.items ++ (our, their) ∷ []) p)
+              (λ x. (sym same x, sym partner x)) (Contains-push {X = ℕ × ℕ} old.found.items (our, their)))
           | inr other ↦
               subst (λ (ps : List (ℕ × ℕ)). Contains ps (i, j)) (sym found)
               (Contains-append_left {X = ℕ × ℕ} old.found.items ((our, their) ∷ []) (i, j) (h.listed i j (sym (others i other) ∙ e)))
@@ -90,7 +99,8 @@ marks_new old new our their within free partners found =
             let Q : ℕ × ℕ → Type 0 = λ p. partner_of old p.0 ≡ Some p.1 in
             subst (All (λ (p : ℕ × ℕ). partner_of new p.0 ≡ Some p.1)) (sym found)
             (All-push (λ (p : ℕ × ℕ). partner_of new p.0 ≡ Some p.1) old.found.items (our, their)
-            (All-weaker (λ (p : ℕ × ℕ). partner_of old p.0 ≡ Some p.1) (λ (p : ℕ × ℕ). partner_of new p.0 ≡ Some p.1) (λ p e. kept p.0 p.1 e) old.found.items h.marked) here);
+            (All-weaker (λ (p : ℕ × ℕ). partner_of old p.0 ≡ Some p.1) (λ (p : ℕ × ℕ). partner_of new p.0 ≡ Some p.1)
+            (λ p e. kept p.0 p.1 e) old.found.items h.marked) here);
         count =
             let longer : length new.found.items ≡ length old.found.items + 1 = ap length found ∙ length_push old.found.items (our, their) in
             let room : length new.partners.items ≡ length old.partners.items = ap length partners ∙ length-set old.partners.items our (Some their) in
@@ -176,14 +186,16 @@ not_theirs T U k l type other h = let is : IsMessage U l type = message_of_type 
 
 -- ---- methods
 
-pub input_pair : (T U : Table) (service : List ℕ) → methods_of T service ≡ methods_of U service → (i : ℕ) (m n : Method) → method_at T service i ≡ Some m → method_at U service i ≡ Some n
+pub input_pair : (T U : Table) (service : List ℕ) → methods_of T service ≡ methods_of U service
+    → (i : ℕ) (m n : Method) → method_at T service i ≡ Some m → method_at U service i ≡ Some n
     → IsMethod T m → IsMethod U n → IsPair T U m.input n.input
 input_pair T U service same i m n at_m at_n is_m is_n =
     let h : IsAlso T U service i m = also T U service same i m at_m in
     let e : h.other ≡ n = same_Some h.other n (sym h.is ∙ at_n) in
     record { ours = is_m.input; theirs = is_n.input; same = ap (λ (s : Signature). s.input) h.same ∙ ap (λ (o : Method). message_name U o.input) e }
 
-pub output_pair : (T U : Table) (service : List ℕ) → methods_of T service ≡ methods_of U service → (i : ℕ) (m n : Method) → method_at T service i ≡ Some m → method_at U service i ≡ Some n
+pub output_pair : (T U : Table) (service : List ℕ) → methods_of T service ≡ methods_of U service
+    → (i : ℕ) (m n : Method) → method_at T service i ≡ Some m → method_at U service i ≡ Some n
     → IsMethod T m → IsMethod U n → IsPair T U m.output n.output
 output_pair T U service same i m n at_m at_n is_m is_n =
     let h : IsAlso T U service i m = also T U service same i m at_m in
@@ -196,7 +208,8 @@ input_in T service i m at = (signature T (i, m), at_index T service i m at, inl 
 pub output_in : (T : Table) (service : List ℕ) (i : ℕ) (m : Method) → method_at T service i ≡ Some m → IsInMethods T service (message_name T m.output)
 output_in T service i m at = (signature T (i, m), at_index T service i m at, inr refl)
 
-pub never_alone : (T U : Table) (service : List ℕ) → methods_of T service ≡ methods_of U service → (i : ℕ) (m : Method) → method_at T service i ≡ Some m → method_at U service i ≡ None → ⊥
+pub never_alone : (T U : Table) (service : List ℕ) → methods_of T service ≡ methods_of U service
+    → (i : ℕ) (m : Method) → method_at T service i ≡ Some m → method_at U service i ≡ None → ⊥
 never_alone T U service same i m at none = let h : IsAlso T U service i m = also T U service same i m at in none-some h.other (sym none ∙ h.is)
 
 -- the methods below an index are marked
@@ -206,7 +219,8 @@ HasMethodsBelow T service r at = (k : ℕ) (m : Method) → k < at → method_at
 pub both_stay : (T : Table) (a b : Reached) (m : Method) → Grows a b → HasBoth T a m → HasBoth T b m
 both_stay T a b m h has = record { input = name_stays T a b (message_name T m.input) h has.input; output = name_stays T a b (message_name T m.output) h has.output }
 
-pub methods_more : (T : Table) (service : List ℕ) (a b : Reached) (i : ℕ) → Grows a b → HasMethodsBelow T service a i → ((m : Method) → method_at T service i ≡ Some m → HasBoth T b m)
+pub methods_more : (T : Table) (service : List ℕ) (a b : Reached) (i : ℕ) → Grows a b → HasMethodsBelow T service a i
+    → ((m : Method) → method_at T service i ≡ Some m → HasBoth T b m)
     → HasMethodsBelow T service b (i + 1)
 methods_more T service a b i grows below here k m less e = elim (cases_eq k i) [
   | inl same ↦ here m (ap (method_at T service) (sym same) ∙ e)
@@ -265,7 +279,8 @@ closed_on T U a b at h within closed k d below =
     ap (λ (ps : List (ℕ × ℕ)). get_or ps k d) h.front.1 ∙ get_or_append_left a.found.items h.front.0 d k (omega (arith, below, within)) in
     subst (λ (p : ℕ × ℕ). HasNext T U b p.0 p.1) (sym same) (next_stays T U a b (get_or a.found.items k d).0 (get_or a.found.items k d).1 h (closed k d below))
 
-pub closed_more : (T U : Table) (a b : Reached) (at : ℕ) (p : ℕ × ℕ) → Grows a b → at < length a.found.items → p ≡ get_or a.found.items at p → IsClosedBelow T U a at → HasNext T U b p.0 p.1
+pub closed_more : (T U : Table) (a b : Reached) (at : ℕ) (p : ℕ × ℕ) → Grows a b → at < length a.found.items
+    → p ≡ get_or a.found.items at p → IsClosedBelow T U a at → HasNext T U b p.0 p.1
     → IsClosedBelow T U b (at + 1)
 closed_more T U a b at p h within here closed next k d below = elim (cases_eq k at) [
   | inl equal ↦
@@ -277,7 +292,8 @@ closed_more T U a b at p h within here closed next k d below = elim (cases_eq k 
 ]
 
 -- a pair that stands in the list
-pub listed_at : (T U : Table) (r : Reached) → IsPaired T U r → (k : ℕ) (p : ℕ × ℕ) → k < length r.found.items → p ≡ get_or r.found.items k p → partner_of r p.0 ≡ Some p.1
+pub listed_at : (T U : Table) (r : Reached) → IsPaired T U r → (k : ℕ) (p : ℕ × ℕ) → k < length r.found.items
+    → p ≡ get_or r.found.items k p → partner_of r p.0 ≡ Some p.1
 listed_at T U r paired k p within here =
     All-contains (λ (q : ℕ × ℕ). partner_of r q.0 ≡ Some q.1) r.found.items p paired.listed.marked (k, within, sym here)
 
@@ -290,7 +306,8 @@ closed_all T U r at listed past closed i j e =
     let within : has.0 < length r.found.items = has.1 in
     subst (λ (p : ℕ × ℕ). HasNext T U r p.0 p.1) has.2 (closed has.0 (i, j) (omega (arith, within, past)))
 
-pub reached_on : (T U : Table) (service : List ℕ) (a b : Reached) (i j : ℕ) → IsPair T U i j → IsMarked a i → IsReachedOnly T U service a → Gains T U a b (LeadsTo T U i j) → IsReachedOnly T U service b
+pub reached_on : (T U : Table) (service : List ℕ) (a b : Reached) (i j : ℕ) → IsPair T U i j → IsMarked a i
+    → IsReachedOnly T U service a → Gains T U a b (LeadsTo T U i j) → IsReachedOnly T U service b
 reached_on T U service a b i j pair marked only gains k has = elim (gains.why k has.0 has.1) [
   | inl before ↦ only k (has.0, before)
   | inr why ↦ leads_reach T U service i j (message_name T k) pair (only i marked) why
@@ -342,7 +359,8 @@ pub marked_again : (old : Reached) (our their : ℕ) (o : Option ℕ) → partne
 marked_again old our their None at some = absurd (false≢true some)
 marked_again old our their (Some j) at some = marks_again old our their j at
 
-pub differing_of : (T U : Table) (r : Reached) (i j : ℕ) (o : Option ℕ) → partner_of r i ≡ Some j → MatchOption o ((number : ℕ) → PrintOther T U i j number → ⊥) (IsLeastOther T U i j)
+pub differing_of : (T U : Table) (r : Reached) (i j : ℕ) (o : Option ℕ) → partner_of r i ≡ Some j
+    → MatchOption o ((number : ℕ) → PrintOther T U i j number → ⊥) (IsLeastOther T U i j)
     → MatchOption o (IsSameIn T U r i) (IsLeastIn T U r i)
 differing_of T U r i j None at h = λ k number e p. h number (subst (λ q. PrintOther T U i q number) (same_Some k j (sym e ∙ at)) p)
 differing_of T U r i j (Some n) at h = (j, at, h)

@@ -10,7 +10,9 @@ use Rattle.mrpc_table.specs.declared.table.Label.TheVariants.{Plain}
 use Rattle.mrpc_table.specs.declared.table.Field.{Field}
 use Rattle.mrpc_table.specs.declared.table.Message.{Message}
 use Rattle.mrpc_table.specs.declared.table.Table.{Table}
-use Rattle.schema_binding.specs.Agreement.{Signature, methods_of, Offers, FieldText, field_text, Prints, of_type, BothReach, as_input, as_output, through, Differs, DiffersFirst, DifferAt, Agree, by_fields, Refuses, no_service, other_text, other_field}
+use Rattle.schema_binding.specs.Agreement.{Signature, methods_of, Offers, FieldText, field_text, Prints, of_type}
+use Rattle.schema_binding.specs.Agreement.{BothReach, as_input, as_output, through, Differs, DiffersFirst, DifferAt}
+use Rattle.schema_binding.specs.Agreement.{Agree, by_fields, Refuses, no_service, other_text, other_field}
 use Rattle.schema_binding.specs.declared.fault.AgreeFault.TheVariants.{NoService, Mismatch, Field as FieldFault}
 
 abbrev field_named : ℕ → List ℕ → Field
@@ -125,10 +127,26 @@ only_M fields type (through outer inner number ours theirs reached prints other 
 -- ---- a field of another name
 
 a_prints : Prints (of_fields a_only) (codes "M") 1 a_text
-a_prints = record { message = message_of a_only; field = field_named 1 (codes "a"); known = (0, omega arith, refl); named = refl; has = (0, omega arith, refl); numbered = refl; printed = refl }
+a_prints = record {
+  message = message_of a_only;
+  field = field_named 1 (codes "a");
+  known = (0, omega arith, refl);
+  named = refl;
+  has = (0, omega arith, refl);
+  numbered = refl;
+  printed = refl;
+}
 
 b_prints : Prints (of_fields b_only) (codes "M") 1 b_text
-b_prints = record { message = message_of b_only; field = field_named 1 (codes "b"); known = (0, omega arith, refl); named = refl; has = (0, omega arith, refl); numbered = refl; printed = refl }
+b_prints = record {
+  message = message_of b_only;
+  field = field_named 1 (codes "b");
+  known = (0, omega arith, refl);
+  named = refl;
+  has = (0, omega arith, refl);
+  numbered = refl;
+  printed = refl;
+}
 
 a_is_not_b : a_text ≢ b_text
 a_is_not_b e = let apart : 97 ≡ 98 = ap (λ (t : FieldText). get_or t.name 0 0) e in omega (arith, apart)

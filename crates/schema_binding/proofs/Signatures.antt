@@ -1,5 +1,7 @@
 -- The methods of a service, index by index.
-use Rattle.std.proofs.Common.{◌≡◌, ◌≢◌, ℕ, zero, suc, ◌+◌, ◌<◌, ◌≤◌, ◌↔◌, Bool, true, false, cond, List, [], ◌∷◌, length, Option, Some, None, map, inl, inr, refl, sym, ap, subst, ◌∙◌, arith, add-zero, Bor}
+use Rattle.std.proofs.Common.{◌≡◌, ◌≢◌, ℕ, zero, suc, ◌+◌, ◌<◌, ◌≤◌, ◌↔◌, Bool, true, false, cond, List, [], ◌∷◌}
+use Rattle.std.proofs.Common.{length, Option, Some, None, map, inl, inr, refl, sym, ap, subst, ◌∙◌, arith, add-zero}
+use Rattle.std.proofs.Common.{Bor}
 use Rattle.std.specs.Prelude.{Contains, slice_get, option_map, option_and_then, if◌then◌else◌, is_some, IsTrue}
 use Rattle.std.specs.List.{filter_map, filter, enumerate_from, range_with_len, cons_option}
 use Rattle.std.specs.Option.{option_copied}
@@ -49,7 +51,8 @@ from_first g is a (suc n) s e = at_first (λ t h. from_first g is (a + 1) n t h)
     at_first later (Some t) here e = let at : s.index ≡ a = is.index a s (here ∙ e) in omega arith
 
 -- two lists that differ in the first place
-heads_differ : (o p : Option Signature) (a : ℕ) (xs ys : List Signature) → o ≢ p → ((s : Signature) → o ≡ Some s → s.index ≡ a) → ((s : Signature) → p ≡ Some s → s.index ≡ a)
+heads_differ : (o p : Option Signature) (a : ℕ) (xs ys : List Signature) → o ≢ p
+    → ((s : Signature) → o ≡ Some s → s.index ≡ a) → ((s : Signature) → p ≡ Some s → s.index ≡ a)
     → ((s : Signature) → slice_get xs 0 ≡ Some s → a + 1 ≤ s.index) → ((s : Signature) → slice_get ys 0 ≡ Some s → a + 1 ≤ s.index)
     → slice_get (cons_option o xs) 0 ≢ slice_get (cons_option p ys) 0
 heads_differ None None a xs ys other at_o at_p above_x above_y e = other refl
@@ -64,7 +67,8 @@ heads_differ (Some s) None a xs ys other at_o at_p above_x above_y e =
 heads_differ (Some s) (Some t) a xs ys other at_o at_p above_x above_y e = other e
 
 -- one more in front of both
-shift : (o p : Option Signature) (front xs ys : List Signature) → o ≡ p → DifferFrom xs ys (length front) → DifferFrom (cons_option o xs) (cons_option p ys) (length (cons_option o front))
+shift : (o p : Option Signature) (front xs ys : List Signature) → o ≡ p → DifferFrom xs ys (length front)
+    → DifferFrom (cons_option o xs) (cons_option p ys) (length (cons_option o front))
 shift None None front xs ys same d = d
 shift None (Some t) front xs ys same d = absurd (none-some t same)
 shift (Some s) None front xs ys same d = absurd (none-some s (sym same))
@@ -123,15 +127,18 @@ heads_same (Some s) None a xs ys at_o at_p above_x above_y e =
 heads_same (Some s) (Some t) a xs ys at_o at_p above_x above_y e =
     record { first = ap (λ (zs : List Signature). slice_get zs 0) e; rest = let tails : xs ≡ ys = cc in tails }
 
-same_from : (g h : ℕ → Option Signature) → IsIndexed g → IsIndexed h → (k a n : ℕ) → k < n → filter_map g (range_with_len a n) ≡ filter_map h (range_with_len a n) → g (a + k) ≡ h (a + k)
+same_from : (g h : ℕ → Option Signature) → IsIndexed g → IsIndexed h → (k a n : ℕ) → k < n
+    → filter_map g (range_with_len a n) ≡ filter_map h (range_with_len a n) → g (a + k) ≡ h (a + k)
 same_from g h is_g is_h k a zero below e = absurd (omega (arith, below))
 same_from g h is_g is_h zero a (suc n) below e =
     let parts : AreSame (g a) (h a) (filter_map g (range_with_len (a + 1) n)) (filter_map h (range_with_len (a + 1) n)) =
-    heads_same (g a) (h a) a (filter_map g (range_with_len (a + 1) n)) (filter_map h (range_with_len (a + 1) n)) (is_g.index a) (is_h.index a) (from_first g is_g (a + 1) n) (from_first h is_h (a + 1) n) e in
+    heads_same (g a) (h a) a (filter_map g (range_with_len (a + 1) n)) (filter_map h (range_with_len (a + 1) n))
+    (is_g.index a) (is_h.index a) (from_first g is_g (a + 1) n) (from_first h is_h (a + 1) n) e in
     subst (λ b. g b ≡ h b) (sym (add-zero a)) parts.first
 same_from g h is_g is_h (suc k) a (suc n) below e =
     let parts : AreSame (g a) (h a) (filter_map g (range_with_len (a + 1) n)) (filter_map h (range_with_len (a + 1) n)) =
-    heads_same (g a) (h a) a (filter_map g (range_with_len (a + 1) n)) (filter_map h (range_with_len (a + 1) n)) (is_g.index a) (is_h.index a) (from_first g is_g (a + 1) n) (from_first h is_h (a + 1) n) e in
+    heads_same (g a) (h a) a (filter_map g (range_with_len (a + 1) n)) (filter_map h (range_with_len (a + 1) n))
+    (is_g.index a) (is_h.index a) (from_first g is_g (a + 1) n) (from_first h is_h (a + 1) n) e in
     subst (λ b. g b ≡ h b) (let same : a + 1 + k ≡ a + suc k = omega arith in same) (same_from g h is_g is_h k (a + 1) n (omega arith) parts.rest)
 
 -- an element of the list, and its place
@@ -139,7 +146,8 @@ record IsGiven (g : ℕ → Option Signature) (s : Signature) : Type 0 where
   pub place : ℕ
   pub given : g place ≡ Some s
 
-given_cons : (g : ℕ → Option Signature) (s : Signature) (a : ℕ) (o : Option Signature) (xs : List Signature) → g a ≡ o → (Contains xs s → IsGiven g s) → Contains (cons_option o xs) s → IsGiven g s
+given_cons : (g : ℕ → Option Signature) (s : Signature) (a : ℕ) (o : Option Signature) (xs : List Signature) → g a ≡ o
+    → (Contains xs s → IsGiven g s) → Contains (cons_option o xs) s → IsGiven g s
 given_cons g s a None xs here later has = later has
 given_cons g s a (Some t) xs here later (zero, within, same) = record { place = a; given = here ∙ ap Some same }
 given_cons g s a (Some t) xs here later (suc k, within, same) = later (k, omega (arith, within), same)
@@ -166,7 +174,8 @@ length_cons (Some s) xs n few = omega arith
 
 pub few_given : (g : ℕ → Option Signature) (a n : ℕ) → length (filter_map g (range_with_len a n)) ≤ n
 few_given g a zero = omega arith
-few_given g a (suc n) = let more : length (cons_option (g a) (filter_map g (range_with_len (a + 1) n))) ≤ n + 1 = length_cons (g a) (filter_map g (range_with_len (a + 1) n)) n (few_given g (a + 1) n) in omega (arith, more)
+few_given g a (suc n) = let more : length (cons_option (g a) (filter_map g (range_with_len (a + 1) n))) ≤ n + 1 =
+    length_cons (g a) (filter_map g (range_with_len (a + 1) n)) n (few_given g (a + 1) n) in omega (arith, more)
 
 -- ---- the methods of a service
 
@@ -210,24 +219,31 @@ pub methods_equal : (T U : Table) (service : List ℕ) (n : ℕ) → length T.me
     → ((k : ℕ) → k < n → signature_at T service k ≡ signature_at U service k) → methods_of T service ≡ methods_of U service
 methods_equal T U service n few_T few_U same =
     methods_by_place T service n few_T
-    ∙ equal_from (signature_at T service) (signature_at U service) 0 n (λ k le. subst (λ b. signature_at T service b ≡ signature_at U service b) (let e : k ≡ 0 + k = omega arith in e) (same k le))
+    ∙ equal_from (signature_at T service) (signature_at U service) 0 n
+    (λ k le. subst (λ b. signature_at T service b ≡ signature_at U service b) (let e : k ≡ 0 + k = omega arith in
+    e) (same k le))
     ∙ sym (methods_by_place U service n few_U)
 
 with_first : (o : Option Signature) (xs ys : List Signature) (m : ℕ) → length xs ≡ length ys + m → length (cons_option o xs) ≡ length (cons_option o ys) + m
 with_first None xs ys m e = e
 with_first (Some s) xs ys m e = omega (arith, e)
 
-more_given : (g : ℕ → Option Signature) (a n : ℕ) → length (filter_map g (range_with_len a (suc n))) ≡ length (filter_map g (range_with_len a n)) + length (cons_option (g (a + n)) [])
+more_given : (g : ℕ → Option Signature) (a n : ℕ)
+    → length (filter_map g (range_with_len a (suc n))) ≡ length (filter_map g (range_with_len a n))
+    + length (cons_option (g (a + n)) [])
 more_given g a zero =
     let here : length (cons_option (g (a + 0)) []) ≡ length (cons_option (g a) []) = ap (λ (b : ℕ). length (cons_option (g b) [])) (add-zero a) in
     omega (arith, here)
 more_given g a (suc n) =
-    let later : length (filter_map g (range_with_len (a + 1) (suc n))) ≡ length (filter_map g (range_with_len (a + 1) n)) + length (cons_option (g (a + 1 + n)) []) = more_given g (a + 1) n in
+    let later : length (filter_map g (range_with_len (a + 1) (suc n)))
+    ≡ length (filter_map g (range_with_len (a + 1) n)) + length (cons_option (g (a + 1 + n)) []) =
+    more_given g (a + 1) n in
     let same : a + 1 + n ≡ a + suc n = omega arith in
     with_first (g a) (filter_map g (range_with_len (a + 1) (suc n))) (filter_map g (range_with_len (a + 1) n)) (length (cons_option (g (a + suc n)) []))
     (later ∙ ap (λ (b : ℕ). length (filter_map g (range_with_len (a + 1) n)) + length (cons_option (g b) [])) same)
 
-next_given : (T : Table) (service : List ℕ) (i : ℕ) (o : Option Signature) → signature_at T service i ≡ o → length (given_below T service (i + 1)) ≡ length (given_below T service i) + length (cons_option o [])
+next_given : (T : Table) (service : List ℕ) (i : ℕ) (o : Option Signature) → signature_at T service i ≡ o
+    → length (given_below T service (i + 1)) ≡ length (given_below T service i) + length (cons_option o [])
 next_given T service i o e =
     let one : i + 1 ≡ suc i = omega arith in
     let here : 0 + i ≡ i = omega arith in
@@ -235,7 +251,8 @@ next_given T service i o e =
     ∙ ap (λ (p : Option Signature). length (given_below T service i) + length (cons_option p [])) (ap (signature_at T service) here ∙ e)
 
 -- how many there are below the next index
-pub one_more : (T : Table) (service : List ℕ) (i : ℕ) (m : Method) → method_at T service i ≡ Some m → length (given_below T service (i + 1)) ≡ length (given_below T service i) + 1
+pub one_more : (T : Table) (service : List ℕ) (i : ℕ) (m : Method) → method_at T service i ≡ Some m
+    → length (given_below T service (i + 1)) ≡ length (given_below T service i) + 1
 one_more T service i m e = next_given T service i (Some (signature T (i, m))) (ap (option_map (λ n. signature T (i, n))) e)
 
 pub no_more : (T : Table) (service : List ℕ) (i : ℕ) → method_at T service i ≡ None → length (given_below T service (i + 1)) ≡ length (given_below T service i)
@@ -267,7 +284,8 @@ pub record IsAlso (T U : Table) (service : List ℕ) (i : ℕ) (m : Method) : Ty
   pub is : method_at U service i ≡ Some other
   pub same : signature T (i, m) ≡ signature U (i, other)
 
-also_of : (T U : Table) (service : List ℕ) (i : ℕ) (m : Method) (o : Option Method) → method_at U service i ≡ o → Some (signature T (i, m)) ≡ option_map (λ n. signature U (i, n)) o → IsAlso T U service i m
+also_of : (T U : Table) (service : List ℕ) (i : ℕ) (m : Method) (o : Option Method) → method_at U service i ≡ o
+    → Some (signature T (i, m)) ≡ option_map (λ n. signature U (i, n)) o → IsAlso T U service i m
 also_of T U service i m None here e = absurd (none-some (signature T (i, m)) (sym e))
 also_of T U service i m (Some n) here e = record { other = n; is = here; same = same_Some (signature T (i, m)) (signature U (i, n)) e }
 
@@ -290,7 +308,9 @@ also T U service same i m e =
 -- a method at an index is one of the list
 pub at_index : (T : Table) (service : List ℕ) (i : ℕ) (m : Method) → method_at T service i ≡ Some m → Contains (methods_of T service) (signature T (i, m))
 at_index T service i m e =
-    let here : signature_at T service (0 + i) ≡ Some (signature T (i, m)) = ap (signature_at T service) (let z : 0 + i ≡ i = omega arith in z) ∙ ap (option_map (λ n. signature T (i, n))) e in
+    let here : signature_at T service (0 + i) ≡ Some (signature T (i, m)) =
+    ap (signature_at T service) (let z : 0 + i ≡ i = omega arith in z)
+    ∙ ap (option_map (λ n. signature T (i, n))) e in
     subst (λ (xs : List Signature). Contains xs (signature T (i, m))) (sym (methods_by_place T service (length T.methods) (omega arith)))
     (has_given (signature_at T service) (signature T (i, m)) i 0 (length T.methods) (index_within T service i m e) here)
 
@@ -302,7 +322,8 @@ pub record StandsAt (T : Table) (service : List ℕ) (s : Signature) : Type 0 wh
   pub same : signature T (place, method) ≡ s
   pub within : place < length T.methods
 
-stands_at : (T : Table) (service : List ℕ) (s : Signature) (i : ℕ) (o : Option Method) → method_at T service i ≡ o → option_map (λ n. signature T (i, n)) o ≡ Some s → StandsAt T service s
+stands_at : (T : Table) (service : List ℕ) (s : Signature) (i : ℕ) (o : Option Method) → method_at T service i ≡ o
+    → option_map (λ n. signature T (i, n)) o ≡ Some s → StandsAt T service s
 stands_at T service s i None here e = absurd (none-some s e)
 stands_at T service s i (Some m) here e = record { place = i; method = m; is = here; same = same_Some (signature T (i, m)) s e; within = index_within T service i m here }
 
@@ -314,20 +335,27 @@ index_of T service s has =
 
 -- ---- how many there are
 
-count_step : (T : Table) (a : ℕ) (m : Method) (b : Bool) (xs : List Signature) (ms : List Method) → length xs ≡ length ms → length (cons_option (cond b (Some (signature T (a, m))) None) xs) ≡ length (cond b (m ∷ ms) ms)
+count_step : (T : Table) (a : ℕ) (m : Method) (b : Bool) (xs : List Signature) (ms : List Method)
+    → length xs ≡ length ms → length (cons_option (cond b (Some (signature T (a, m))) None) xs)
+    ≡ length (cond b (m ∷ ms) ms)
 count_step T a m true xs ms e = omega arith
 count_step T a m false xs ms e = e
 
-pub as_many : (T : Table) (service : List ℕ) (a : ℕ) (ms : List Method) → length (filter_map (λ (m : ℕ × Method). if bytes_eq m.1.service service then Some (signature T m) else None) (enumerate_from a ms)) ≡ length (filter (λ m. bytes_eq m.service service) ms)
+pub as_many : (T : Table) (service : List ℕ) (a : ℕ) (ms : List Method)
+    → length (filter_map (λ (m : ℕ × Method). if bytes_eq m.1.service service then Some (signature T m) else None)
+    (enumerate_from a ms)) ≡ length (filter (λ m. bytes_eq m.service service) ms)
 as_many T service a [] = refl
 as_many T service a (m ∷ ms) =
-    count_step T a m (bytes_eq m.service service) (filter_map (λ (m : ℕ × Method). if bytes_eq m.1.service service then Some (signature T m) else None) (enumerate_from (a + 1) ms)) (filter (λ m. bytes_eq m.service service) ms) (as_many T service (a + 1) ms)
+    count_step T a m (bytes_eq m.service service)
+    (filter_map (λ (m : ℕ × Method). if bytes_eq m.1.service service then Some (signature T m) else None)
+    (enumerate_from (a + 1) ms)) (filter (λ m. bytes_eq m.service service) ms) (as_many T service (a + 1) ms)
 
 some_filtered : (service : List ℕ) (ms : List Method) → Contains (map (λ (m : Method). m.service) ms) service → 0 < length (filter (λ m. bytes_eq m.service service) ms)
 some_filtered service [] has = absurd (omega (arith, has.1))
 some_filtered service (m ∷ ms) (zero, within, same) =
     let hit : bytes_eq m.service service ≡ true = (bytes_eq-Decides m.service service).1 same in
-    let e : cond (bytes_eq m.service service) (m ∷ filter (λ m. bytes_eq m.service service) ms) (filter (λ m. bytes_eq m.service service) ms) ≡ m ∷ filter (λ m. bytes_eq m.service service) ms =
+    let e : cond (bytes_eq m.service service) (m ∷ filter (λ m. bytes_eq m.service service) ms)
+    (filter (λ m. bytes_eq m.service service) ms) ≡ m ∷ filter (λ m. bytes_eq m.service service) ms =
     cond-true (bytes_eq m.service service) (m ∷ filter (λ m. bytes_eq m.service service) ms) (filter (λ m. bytes_eq m.service service) ms) hit in
     omega (arith, ap length e)
 some_filtered service (m ∷ ms) (suc k, within, same) =
@@ -343,7 +371,8 @@ filtered_some service [] some = absurd (omega (arith, some))
 filtered_some service (m ∷ ms) some = elim (cases_Bool (bytes_eq m.service service)) [
   | inl hit ↦ (0, omega arith, (bytes_eq-Decides m.service service).0 hit)
   | inr miss ↦
-      let e : cond (bytes_eq m.service service) (m ∷ filter (λ m. bytes_eq m.service service) ms) (filter (λ m. bytes_eq m.service service) ms) ≡ filter (λ m. bytes_eq m.service service) ms =
+      let e : cond (bytes_eq m.service service) (m ∷ filter (λ m. bytes_eq m.service service) ms)
+      (filter (λ m. bytes_eq m.service service) ms) ≡ filter (λ m. bytes_eq m.service service) ms =
       cond-false (bytes_eq m.service service) (m ∷ filter (λ m. bytes_eq m.service service) ms) (filter (λ m. bytes_eq m.service service) ms) miss in
       let later : Contains (map (λ (m : Method). m.service) ms) service = filtered_some service ms (omega (arith, ap length e, some)) in
       let within : later.0 < length (map (λ (m : Method). m.service) ms) = later.1 in
@@ -351,7 +380,8 @@ filtered_some service (m ∷ ms) some = elim (cases_Bool (bytes_eq m.service ser
 ]
 
 pub offers_some : (T : Table) (service : List ℕ) → Offers T service → 0 < length (methods_of T service)
-offers_some T service has = let some : 0 < length (filter (λ m. bytes_eq m.service service) T.methods) = some_filtered service T.methods has in omega (arith, some, as_many T service 0 T.methods)
+offers_some T service has = let some : 0 < length (filter (λ m. bytes_eq m.service service) T.methods) =
+    some_filtered service T.methods has in omega (arith, some, as_many T service 0 T.methods)
 
 pub some_offers : (T : Table) (service : List ℕ) → 0 < length (methods_of T service) → Offers T service
 some_offers T service some = filtered_some service T.methods (omega (arith, some, as_many T service 0 T.methods))

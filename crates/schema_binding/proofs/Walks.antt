@@ -21,7 +21,8 @@ record StandsMarked (T U : Table) (r : Reached) (type : List ℕ) (number : ℕ)
   pub named : message_name T ours ≡ type
   pub other : PrintOther T U ours theirs number
 
-stands_marked : (T U : Table) (service : List ℕ) (r : Reached) → IsValid T → IsValid U → IsReached T U service r → (type : List ℕ) (number : ℕ) → Differs T U service type number
+stands_marked : (T U : Table) (service : List ℕ) (r : Reached) → IsValid T → IsValid U → IsReached T U service r
+    → (type : List ℕ) (number : ℕ) → Differs T U service type number
     → StandsMarked T U r type number
 stands_marked T U service r valid_T valid_U reached type number d =
     let has : HasName T r type = reached.all type d.reached in

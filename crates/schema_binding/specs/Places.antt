@@ -1,4 +1,4 @@
--- What two tables have at a place: the method of an index, the field of a number in the message of a place.
+-- The code's own: what two tables have at a place: the method of an index, the field of a number in the message of a place.
 use Rattle.std.specs.Prelude.{◌≡◌, ◌≢◌, ℕ, ◌<◌, ◌≤◌, List, length, Option, Some, None, option_and_then, option_map, slice_get, if◌then◌else◌}
 use Rattle.std.specs.Str.{bytes_eq}
 use Rattle.mrpc_table.specs.Normal.{field_at}

@@ -1,4 +1,4 @@
--- The marks on the messages of our table, and which of them are right.
+-- The code's own: the marks on the messages of our table, and which of them are right.
 use Rattle.std.specs.Prelude.{◌≡◌, ◌⊎◌, ℕ, ◌+◌, List, ◌++◌, length, count_by, Contains, All, Option, Some, None, is_none, slice_index_or}
 use Rattle.mrpc_table.specs.Text.{message_name}
 use Rattle.mrpc_table.specs.declared.table.Method.{Method}

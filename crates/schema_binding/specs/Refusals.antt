@@ -1,4 +1,4 @@
--- What the parts of an agreement answer where they refuse.
+-- The code's own: what the parts of an agreement answer where they refuse.
 use Rattle.std.specs.Prelude.{◌≡◌, ℕ, List, Option}
 use Rattle.mrpc_table.specs.Text.{table_text}
 use Rattle.mrpc_table.specs.declared.table.Table.{Table}

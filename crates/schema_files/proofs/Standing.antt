@@ -6,7 +6,9 @@ use Rattle.file_bundle.specs.Bundle.{File as PackedFile}
 use Rattle.std.specs.Prelude.{slice_get, Option, Some, None, IsSome, IsNone, IfSome, ◌↔◌}
 use Rattle.proto_file.specs.Joined.{Joined}
 use Rattle.proto_file.specs.Order.{Part as Piece}
-use Rattle.proto_file.specs.Together.{Declaration, StandsAt, IsInFile, package_name, message, field, oneof, enum, value, service, rpc, its_package, in_message_of, in_field_of, in_oneof_of, in_enum_of, in_value_of, in_service_of, in_rpc_of}
+use Rattle.proto_file.specs.Together.{Declaration, StandsAt, IsInFile, package_name, message, field, oneof, enum}
+use Rattle.proto_file.specs.Together.{value, service, rpc, its_package, in_message_of, in_field_of, in_oneof_of}
+use Rattle.proto_file.specs.Together.{in_enum_of, in_value_of, in_service_of, in_rpc_of}
 use Rattle.proto_file.specs.declared.file.Span.{Span}
 use Rattle.proto_join.specs.Joining.{joined, sizes_of, IsInText}
 use Rattle.proto_join.specs.Sound.{AreSound}

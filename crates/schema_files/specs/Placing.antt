@@ -1,4 +1,4 @@
--- The places that files have in an order.
+-- The code's own: the places that files have in an order.
 use Rattle.std.specs.Prelude.{◌≡◌, ℕ, List, length, Some, slice_get}
 
 -- where each of so many stands in an order, of those that do

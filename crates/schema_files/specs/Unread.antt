@@ -1,4 +1,4 @@
--- What a fault says of one text of a set, and of what the files of a set say.
+-- The code's own: what a fault says of one text of a set, and of what the files of a set say.
 use Rattle.std.specs.Prelude.{◌≡◌, ℕ, List}
 use Rattle.file_bundle.specs.Bundle.{File as PackedFile}
 use Rattle.proto_file.specs.declared.file.Span.{Span}

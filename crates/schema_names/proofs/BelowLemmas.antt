@@ -1,5 +1,7 @@
 -- What hangs below scopes.
-use Rattle.std.proofs.Common.{◌≡◌, ℕ, ◌+◌, ◌-◌, ◌<◌, ◌≤◌, ◌⊎◌, ⊎_elim, inl, inr, Bool, true, false, cond, set, length-set, get_or-set_same, get_or-set_other, List, [], ◌∷◌, ◌++◌, length, take, get_or, Some, refl, ap, sym, ◌∙◌, subst, arith, length-append}
+use Rattle.std.proofs.Common.{◌≡◌, ℕ, ◌+◌, ◌-◌, ◌<◌, ◌≤◌, ◌⊎◌, ⊎_elim, inl, inr, Bool, true, false, cond, set}
+use Rattle.std.proofs.Common.{length-set, get_or-set_same, get_or-set_other, List, [], ◌∷◌, ◌++◌, length, take}
+use Rattle.std.proofs.Common.{get_or, Some, refl, ap, sym, ◌∙◌, subst, arith, length-append}
 use Rattle.std.specs.Prelude.{slice_get, ◌==◌, Contains}
 use Rattle.std.proofs.lemmas.Bool.{cases_lt, cases_eq, eqb-true}
 use Rattle.std.proofs.lemmas.List.{append_assoc, take_at, take_all, length-take-le, get_or_default, get_or_append_left, get_or_at, length_push}
@@ -59,7 +61,9 @@ set_cases xs i k b l =
     (λ (ne : k ≡ i → ⊥). inr (get_or-set_other xs i k b Nothing ne))
     (cases_eq k i)
 
-pub grows_set : (xs : List Below) (i : ℕ) (b : Below) → i < length xs → ((s : ℕ) → Has (get_or xs i Nothing) s → Has b s) → (get_or xs i Nothing ≡ Several → b ≡ Several) → Grows xs (set xs i b)
+pub grows_set : (xs : List Below) (i : ℕ) (b : Below) → i < length xs
+    → ((s : ℕ) → Has (get_or xs i Nothing) s → Has b s) → (get_or xs i Nothing ≡ Several → b ≡ Several)
+    → Grows xs (set xs i b)
 grows_set xs i b l has several = record {
   same_length = length-set xs i b;
   has = λ k s h.
@@ -121,7 +125,8 @@ type_home behind (enum i e {outer} at up) = record {
 }
 
 -- the scope of a home is known to have more
-pub home_several : {F : Joined} {below : List Below} → Tells F below → (p : Home) (s : List (List ℕ)) (k : ℕ) → IsPlace F p → IsScope F p s → IsNumber F s k → get_or below k Nothing ≡ Several
+pub home_several : {F : Joined} {below : List Below} → Tells F below → (p : Home) (s : List (List ℕ)) (k : ℕ)
+    → IsPlace F p → IsScope F p s → IsNumber F s k → get_or below k Nothing ≡ Several
 home_several {F} tells (home.File g) s k place up number =
     let e : s ≡ package_at F g = scope_one up (of_file g) in
     (tells.files g place).last k (subst (λ (q : List (List ℕ)). IsNumber F q k) e number)
@@ -150,13 +155,15 @@ module _ (F : Joined) (below : List Below) (file n k w : ℕ) (behind : StandBeh
       (cases_lt n (length (package_at F file)))
 
   -- the next front of a file whose package begins there
-  next_is : (other : ℕ) → other < length F.heads → n < length (package_at F other) → take n (package_at F other) ≡ take n (package_at F file) → IsNumber F (take (n + 1) (package_at F other)) w
+  next_is : (other : ℕ) → other < length F.heads → n < length (package_at F other)
+      → take n (package_at F other) ≡ take n (package_at F file) → IsNumber F (take (n + 1) (package_at F other)) w
   next_is other l long same =
       let v = (tells.files other l).next n k long (subst (λ (q : List (List ℕ)). IsNumber F q k) (sym same) number) in
       let e : w ≡ v.0 = subst (λ (q : Below). Has q v.0) one v.2 in
       subst (IsNumber F (take (n + 1) (package_at F other))) (sym e) v.1
 
-  only_fronts : (other : ℕ) (name : List ℕ) (rest : List (List ℕ)) → other < length F.heads → package_at F other ≡ take n (package_at F file) ++ name ∷ rest → slice_get (package_at F file) n ≡ Some name
+  only_fronts : (other : ℕ) (name : List ℕ) (rest : List (List ℕ)) → other < length F.heads
+      → package_at F other ≡ take n (package_at F file) ++ name ∷ rest → slice_get (package_at F file) n ≡ Some name
   only_fronts other name rest l e =
       let count : length (take n (package_at F file)) ≡ n = length-take-le n (package_at F file) short in
       let long : n < length (package_at F other) = omega (arith, ap length e, length-append (take n (package_at F file)) (name ∷ rest)) in
@@ -194,7 +201,8 @@ busy_skip {F} {file} {n} {busy} some only h = record {
       (cases_lt m n);
 }
 
-pub busy_more : {F : Joined} {file n : ℕ} {busy : List ℕ} → 0 < n → n ≤ length (package_at F file) + 1 → IsBusyFrom F file n busy → IsBusyFrom F file (n - 1) (busy ++ (n - 1) ∷ [])
+pub busy_more : {F : Joined} {file n : ℕ} {busy : List ℕ} → 0 < n → n ≤ length (package_at F file) + 1
+    → IsBusyFrom F file n busy → IsBusyFrom F file (n - 1) (busy ++ (n - 1) ∷ [])
 busy_more {F} {file} {n} {busy} some short h =
     let long : length (busy ++ (n - 1) ∷ []) ≡ length busy + 1 = length_push busy (n - 1) in
     let front : (j : ℕ) → j < length busy → get_or (busy ++ (n - 1) ∷ []) j 0 ≡ get_or busy j 0 = λ j l. get_or_append_left busy ((n - 1) ∷ []) 0 j l in

@@ -1,5 +1,7 @@
 -- What is found.
-use Rattle.std.proofs.Common.{◌≡◌, ◌≢◌, ℕ, zero, suc, ◌+◌, ◌<◌, ◌≤◌, ◌⊎◌, ⊎_elim, Bool, true, false, cond, max, List, [], ◌∷◌, ◌++◌, length, take, get_or, Option, Some, None, refl, ap, sym, ◌∙◌, subst, arith, length-append, add-one}
+use Rattle.std.proofs.Common.{◌≡◌, ◌≢◌, ℕ, zero, suc, ◌+◌, ◌<◌, ◌≤◌, ◌⊎◌, ⊎_elim, Bool, true, false, cond, max, List}
+use Rattle.std.proofs.Common.{[], ◌∷◌, ◌++◌, length, take, get_or, Option, Some, None, refl, ap, sym, ◌∙◌, subst}
+use Rattle.std.proofs.Common.{arith, length-append, add-one}
 use Rattle.std.specs.Prelude.{slice_get, is_some, Contains, MatchOption, nat_le, ◌↔◌}
 use Rattle.std.specs.Global.{Vec}
 use Rattle.std.proofs.lemmas.Bool.{cases_lt, cases_order, leb-true, leb-false}
@@ -13,7 +15,9 @@ use Rattle.proto_file.specs.declared.file.MessageDecl.{MessageDecl}
 use Rattle.proto_file.specs.declared.file.EnumDecl.{EnumDecl}
 use Rattle.proto_file.specs.declared.joined.Home.{Home}
 use Rattle.proto_file.specs.declared.joined.Home.TheVariants as home
-use Rattle.schema_names.specs.Scopes.{IsScope, of_file, a_message, an_enum, is_type, Sort, IsFront, Declares, message as a_message_of, enum as an_enum_of, IsThere, a_type, a_package, Decides, here, outward, Means, absolute, relative, Finds, Names}
+use Rattle.schema_names.specs.Scopes.{IsScope, of_file, a_message, an_enum, is_type, Sort, IsFront, Declares}
+use Rattle.schema_names.specs.Scopes.{message as a_message_of, enum as an_enum_of, IsThere, a_type, a_package}
+use Rattle.schema_names.specs.Scopes.{Decides, here, outward, Means, absolute, relative, Finds, Names}
 use Rattle.schema_names.specs.Numbers.{StandBehind, IsListed, a_front, IsNumber, StandsAt, message, enum, IsOfFile, message_of, enum_of, IsSeen, IsFirstAt, sort_of}
 use Rattle.schema_names.specs.Finding.{IsAnswer, NoType, NamesNothing}
 use Rattle.schema_names.specs.Known.{SeesFront}
@@ -33,10 +37,15 @@ use Rattle.schema_names.proofs.BelowLemmas.{type_home}
 
 -- ---- what is there
 
-pub stands_declared : {F : Joined} {named : Named} {full : List (List ℕ)} {span : Span} {file : ℕ} → StandsAt F named full span → IsOfFile F named file → Declares F file (sort_of named) full span × (is_type (sort_of named) ≡ true)
+pub stands_declared : {F : Joined} {named : Named} {full : List (List ℕ)} {span : Span} {file : ℕ}
+    → StandsAt F named full span → IsOfFile F named file
+    → Declares F file (sort_of named) full span × (is_type (sort_of named) ≡ true)
 stands_declared {F} (message i m {outer} at up) (message_of j n there) =
-    let same : m ≡ n = same_Some m n (sym at ∙ there) in
-    (subst (λ (q : ℕ). Declares F q a_message (outer ++ m.name.name ∷ []) m.name.span) (ap (λ (d : MessageDecl). d.file) same) (a_message_of m (contains_at F.messages i m at) up), refl)
+    let same : m ≡ n = same_Some m n (sym at ∙ there) in (
+      subst (λ (q : ℕ). Declares F q a_message (outer ++ m.name.name ∷ []) m.name.span)
+          (ap (λ (d : MessageDecl). d.file) same) (a_message_of m (contains_at F.messages i m at) up),
+      refl,
+    )
 stands_declared {F} (enum i m {outer} at up) (enum_of j n there) =
     let same : m ≡ n = same_Some m n (sym at ∙ there) in
     (subst (λ (q : ℕ). Declares F q an_enum (outer ++ m.name.name ∷ []) m.name.span) (ap (λ (d : EnumDecl). d.file) same) (an_enum_of m (contains_at F.enums i m at) up), refl)
@@ -81,7 +90,8 @@ not_front some none f =
 pub first_none : (F : Joined) (file : ℕ) → IsFirstOf F file [] None
 first_none F file = λ d c s. omega (arith, c.1)
 
-pub first_skip : {F : Joined} {file : ℕ} (xs : List Declared) (x : Declared) (r : Option Declared) → (Sees F file x.file → ⊥) → IsFirstOf F file xs r → IsFirstOf F file (xs ++ x ∷ []) r
+pub first_skip : {F : Joined} {file : ℕ} (xs : List Declared) (x : Declared) (r : Option Declared)
+    → (Sees F file x.file → ⊥) → IsFirstOf F file xs r → IsFirstOf F file (xs ++ x ∷ []) r
 first_skip {F} {file} xs x None not none = λ d c s.
     ⊎_elim
     (λ (old : Contains xs d). none d old s)
@@ -97,7 +107,8 @@ first_skip {F} {file} xs x (Some b) not h = (
       (Contains-push_cases xs x d c),
 )
 
-take_by : {F : Joined} {file : ℕ} (xs : List Declared) (x b : Declared) (t : Bool) → nat_le b.start x.start ≡ t → Sees F file x.file → IsFirstOf F file xs (Some b) → IsFirstOf F file (xs ++ x ∷ []) (Some (cond t b x))
+take_by : {F : Joined} {file : ℕ} (xs : List Declared) (x b : Declared) (t : Bool) → nat_le b.start x.start ≡ t
+    → Sees F file x.file → IsFirstOf F file xs (Some b) → IsFirstOf F file (xs ++ x ∷ []) (Some (cond t b x))
 take_by xs x b true e sees h = (
   Contains-append_left xs (x ∷ []) b h.0,
   h.1,
@@ -117,7 +128,8 @@ take_by xs x b false e sees h = (
       (Contains-push_cases xs x d c),
 )
 
-pub first_take : {F : Joined} {file : ℕ} (xs : List Declared) (x : Declared) (r : Option Declared) → Sees F file x.file → IsFirstOf F file xs r → IsFirstOf F file (xs ++ x ∷ []) (Some (earlier_of r x))
+pub first_take : {F : Joined} {file : ℕ} (xs : List Declared) (x : Declared) (r : Option Declared)
+    → Sees F file x.file → IsFirstOf F file xs r → IsFirstOf F file (xs ++ x ∷ []) (Some (earlier_of r x))
 first_take xs x None sees none = (
   Contains-push xs x,
   sees,
@@ -129,7 +141,9 @@ first_take xs x None sees none = (
 )
 first_take xs x (Some b) sees h = take_by xs x b (nat_le b.start x.start) refl sees h
 
-pub first_known : {F : Joined} {file k : ℕ} {outer : List (List ℕ)} {at : ℕ → List ℕ → List Declared} (name : List ℕ) (b : Declared) → KnowsTypes F (length F.messages) (length F.enums) at → IsNumber F outer k → IsFirstOf F file (at k name) (Some b) → IsFirstAt F file b.named (outer ++ name ∷ [])
+pub first_known : {F : Joined} {file k : ℕ} {outer : List (List ℕ)} {at : ℕ → List ℕ → List Declared} (name : List ℕ)
+    (b : Declared) → KnowsTypes F (length F.messages) (length F.enums) at → IsNumber F outer k
+    → IsFirstOf F file (at k name) (Some b) → IsFirstAt F file b.named (outer ++ name ∷ [])
 first_known {F} {file} {k} {outer} {at} name b known number h =
     let r = known.sound k name b h.0 in
     let same : r.0 ≡ outer = number_full r.2 number in
@@ -143,14 +157,17 @@ first_known {F} {file} {k} {outer} {at} name b known number h =
           omega (arith, w.3, r.4, h.2 w.0 w.1 sees);
     }
 
-pub none_known : {F : Joined} {file k : ℕ} {outer : List (List ℕ)} {at : ℕ → List ℕ → List Declared} (name : List ℕ) → KnowsTypes F (length F.messages) (length F.enums) at → IsNumber F outer k → IsFirstOf F file (at k name) None → NoType F file (outer ++ name ∷ [])
+pub none_known : {F : Joined} {file k : ℕ} {outer : List (List ℕ)} {at : ℕ → List ℕ → List Declared} (name : List ℕ)
+    → KnowsTypes F (length F.messages) (length F.enums) at → IsNumber F outer k → IsFirstOf F file (at k name) None
+    → NoType F file (outer ++ name ∷ [])
 none_known {F} {file} {k} {outer} {at} name known number none named span seen stands =
     let w = known.whole named outer name span k seen.other (among stands) stands seen.stands_in number in
     none w.0 w.1 (subst (Sees F file) (sym w.2) seen.seen)
 
 -- ---- inward
 
-pub none_inside : {F : Joined} {file : ℕ} (t : List (List ℕ)) (part : List ℕ) (more : List (List ℕ)) → StandBehind F → ((place : ℕ) → IsListed F place (t ++ part ∷ []) → ⊥) → 0 < length more → NoType F file (t ++ part ∷ more)
+pub none_inside : {F : Joined} {file : ℕ} (t : List (List ℕ)) (part : List ℕ) (more : List (List ℕ)) → StandBehind F
+    → ((place : ℕ) → IsListed F place (t ++ part ∷ []) → ⊥) → 0 < length more → NoType F file (t ++ part ∷ more)
 none_inside {F} {file} t part more behind none some named span seen stands =
     let h = type_home behind stands in
     let count : length (t ++ part ∷ []) ≡ length t + 1 = length-append t (part ∷ []) in
@@ -158,13 +175,16 @@ none_inside {F} {file} t part more behind none some named span seen stands =
     omega (arith, count, ap length h.is, length-append t (part ∷ more), length-append h.outer (h.name ∷ [])) in
     let regroup : (t ++ part ∷ []) ++ more ≡ h.outer ++ h.name ∷ [] = append_assoc t (part ∷ []) more ∙ h.is in
     let front : take (length (t ++ part ∷ [])) h.outer ≡ t ++ part ∷ [] =
-    sym (take-append-le (length (t ++ part ∷ [])) h.outer (h.name ∷ []) long) ∙ ap (take (length (t ++ part ∷ []))) (sym regroup) ∙ take_at (t ++ part ∷ []) more (length (t ++ part ∷ [])) refl in
+    sym (take-append-le (length (t ++ part ∷ [])) h.outer (h.name ∷ []) long) ∙ ap (take (length (t ++ part ∷ [])))
+    (sym regroup) ∙ take_at (t ++ part ∷ []) more (length (t ++ part ∷ [])) refl in
     let l = scope_listed behind h.place h.up (length (t ++ part ∷ [])) long in
     none l.0 (subst (IsListed F l.0) front l.1)
 
 -- ---- outward
 
-pub reaches_out : {F : Joined} {file : ℕ} {name : List ℕ} {s : List (List ℕ)} {i : ℕ} {m : MessageDecl} → (r : Reaches F file name s (home.Message i)) → (IsThere F file (r.reached ++ name ∷ []) → ⊥) → slice_get F.messages i ≡ Some m → Reaches F file name s (home_of m)
+pub reaches_out : {F : Joined} {file : ℕ} {name : List ℕ} {s : List (List ℕ)} {i : ℕ} {m : MessageDecl}
+    → (r : Reaches F file name s (home.Message i)) → (IsThere F file (r.reached ++ name ∷ []) → ⊥)
+    → slice_get F.messages i ≡ Some m → Reaches F file name s (home_of m)
 reaches_out {F} {file} {name} {s} {i} {m} r not at =
     let ms = message_scope r.stands in
     let same : ms.decl ≡ m = same_Some ms.decl m (sym ms.at ∙ at) in
@@ -183,7 +203,9 @@ Deciding F file name scope r =
     MatchOption r ((decisive : List (List ℕ)) → Decides F file name scope decisive → ⊥)
     (λ k. (decisive : List (List ℕ)) × IsNumber F decisive k × Decides F file name scope decisive)
 
-pub file_decides : {F : Joined} {file its_file : ℕ} {name : List ℕ} {scope : List (List ℕ)} (r : Option ℕ) → Reaches F file name scope (home.File its_file) → Deciding F file name (package_at F its_file) r → Deciding F file name scope r
+pub file_decides : {F : Joined} {file its_file : ℕ} {name : List ℕ} {scope : List (List ℕ)} (r : Option ℕ)
+    → Reaches F file name scope (home.File its_file) → Deciding F file name (package_at F its_file) r
+    → Deciding F file name scope r
 file_decides {F} {file} {its_file} {name} None h none = λ d x.
     let e : h.reached ≡ package_at F its_file = scope_one h.stands (of_file its_file) in
     none d (subst (λ (q : List (List ℕ)). Decides F file name q d) e (h.inward d x))
@@ -207,7 +229,8 @@ module _ (F : Joined) (file its_file : ℕ) (name : List ℕ) where
       let e : package_at F s.other ≡ take n P ++ name ∷ s.its_front.rest = s.its_front.begins ∙ append_assoc (take n P) (name ∷ []) s.its_front.rest in
       record { its_part = only.fronts s.other name s.its_front.rest l e; seen = s }
 
-  pub deepest_larger : (own busy : Option ℕ) → IsDeepest (IsOwnAt F file its_file name) own → IsDeepestBusy F file its_file name busy → IsDeepest (IsThereAt F file its_file name) (larger_of own busy)
+  pub deepest_larger : (own busy : Option ℕ) → IsDeepest (IsOwnAt F file its_file name) own
+      → IsDeepestBusy F file its_file name busy → IsDeepest (IsThereAt F file its_file name) (larger_of own busy)
   deepest_larger None None none all = λ n h. none n (all n h)
   deepest_larger None (Some m) none h = (h.0, λ p l there. none p (h.1 p l there))
   deepest_larger (Some n) None h all = (own_there n h.0, λ p l there. h.1 p l (all p there))
@@ -268,7 +291,9 @@ module _ (F : Joined) (file its_file : ℕ) (name : List ℕ) (busy : List ℕ) 
       none c.0 (omega (arith, c.1)) (subst (IsThereAt F file its_file name) (sym e) h))
       h
 
-  pub some_busy : (i n : ℕ) → i < length busy → n ≡ get_or busy i 0 → ((j : ℕ) → j < i → IsThereAt F file its_file name (get_or busy j 0) → ⊥) → IsThere F file (take n (package_at F its_file) ++ name ∷ []) → IsDeepestBusy F file its_file name (Some n)
+  pub some_busy : (i n : ℕ) → i < length busy → n ≡ get_or busy i 0
+      → ((j : ℕ) → j < i → IsThereAt F file its_file name (get_or busy j 0) → ⊥)
+      → IsThere F file (take n (package_at F its_file) ++ name ∷ []) → IsDeepestBusy F file its_file name (Some n)
   some_busy i n l is none there = (
     record {
       within = known.within n (i, l, get_or_default busy i n 0 l ∙ sym is);
@@ -292,12 +317,14 @@ module _ (F : Joined) (file its_file : ℕ) (name : List ℕ) (busy : List ℕ) 
 
 -- ---- what a reference means
 
-pub named_stands : {F : Joined} {file : ℕ} {sort : Sort} {full : List (List ℕ)} → Finds F file sort full → (named : Named) × (span : Span) × IsSeen F file named × StandsAt F named full span
+pub named_stands : {F : Joined} {file : ℕ} {sort : Sort} {full : List (List ℕ)} → Finds F file sort full
+    → (named : Named) × (span : Span) × IsSeen F file named × StandsAt F named full span
 named_stands x =
     let t = declared_stands x.declared x.names_type in
     (t.named, x.span, record { other = x.other; stands_in = t.of; seen = x.seen }, t.stands)
 
-pub names_first : {F : Joined} {file : ℕ} {s full : List (List ℕ)} {name : List ℕ} {named : Named} → Means F file s name full → IsFirstAt F file named full → Names F file s name (sort_of named) full
+pub names_first : {F : Joined} {file : ℕ} {s full : List (List ℕ)} {name : List ℕ} {named : Named}
+    → Means F file s name full → IsFirstAt F file named full → Names F file s name (sort_of named) full
 names_first {F} {file} {s} {full} {name} {named} means first =
     let d = stands_declared first.stands first.seen.stands_in in
     record {
@@ -314,7 +341,10 @@ names_first {F} {file} {s} {full} {name} {named} means first =
       };
     }
 
-pub found_outward : (F : Joined) (file : ℕ) (scope d : List (List ℕ)) (name part : List ℕ) (others : List (List ℕ)) (r : Option Named) → parts_of name ≡ part ∷ others → part ≢ [] → Decides F file part scope d → MatchOption r (NoType F file (d ++ parts_of name)) (λ named. IsFirstAt F file named (d ++ parts_of name)) → IsAnswer F file scope name r
+pub found_outward : (F : Joined) (file : ℕ) (scope d : List (List ℕ)) (name part : List ℕ) (others : List (List ℕ))
+    (r : Option Named) → parts_of name ≡ part ∷ others → part ≢ [] → Decides F file part scope d
+    → MatchOption r (NoType F file (d ++ parts_of name)) (λ named. IsFirstAt F file named (d ++ parts_of name))
+    → IsAnswer F file scope name r
 found_outward F file scope d name part others None is apart decides none =
     λ sort full n.
     let m = means_parts part others is apart n.means in
@@ -327,12 +357,17 @@ found_outward F file scope d name part others (Some named) is apart decides firs
     subst (λ (x : List (List ℕ)). Means F file scope name (d ++ x)) (sym is) (relative name part is apart decides) in
     (d ++ parts_of name, names_first means first, first)
 
-pub names_nothing : {F : Joined} {file : ℕ} {scope : List (List ℕ)} {name : List ℕ} (part : List ℕ) (others : List (List ℕ)) → parts_of name ≡ part ∷ others → part ≢ [] → ((d : List (List ℕ)) → Decides F file part scope d → ⊥) → NamesNothing F file scope name
+pub names_nothing : {F : Joined} {file : ℕ} {scope : List (List ℕ)} {name : List ℕ} (part : List ℕ)
+    (others : List (List ℕ)) → parts_of name ≡ part ∷ others → part ≢ []
+    → ((d : List (List ℕ)) → Decides F file part scope d → ⊥) → NamesNothing F file scope name
 names_nothing part others is apart none sort full n =
     let m = means_parts part others is apart n.means in
     none m.0 m.1
 
-pub found_absolute : (F : Joined) (file : ℕ) (scope : List (List ℕ)) (name rest : List ℕ) (r : Option Named) → name ≡ 46 ∷ rest → MatchOption r (NoType F file (parts_of rest)) (λ named. IsFirstAt F file named (parts_of rest)) → IsAnswer F file scope name r
+pub found_absolute : (F : Joined) (file : ℕ) (scope : List (List ℕ)) (name rest : List ℕ) (r : Option Named)
+    → name ≡ 46 ∷ rest
+    → MatchOption r (NoType F file (parts_of rest)) (λ named. IsFirstAt F file named (parts_of rest))
+    → IsAnswer F file scope name r
 found_absolute F file scope name rest None is none =
     λ sort full n.
     let e : full ≡ parts_of rest = absolute_full rest is n.means in
@@ -343,14 +378,17 @@ found_absolute F file scope name rest (Some named) is first =
     subst (λ (x : List ℕ). Means F file scope x (parts_of rest)) (sym is) (absolute rest) in
     (parts_of rest, names_first means first, first)
 
-no_means : {F : Joined} {file : ℕ} {scope : List (List ℕ)} {name other : List ℕ} {f : List (List ℕ)} (others : List (List ℕ)) → ((rest : List ℕ) → name ≢ 46 ∷ rest) → parts_of name ≡ [] ∷ others → Means F file scope other f → other ≡ name → ⊥
+no_means : {F : Joined} {file : ℕ} {scope : List (List ℕ)} {name other : List ℕ} {f : List (List ℕ)}
+    (others : List (List ℕ)) → ((rest : List ℕ) → name ≢ 46 ∷ rest) → parts_of name ≡ [] ∷ others
+    → Means F file scope other f → other ≡ name → ⊥
 no_means others not_dot is (absolute more) e = not_dot more (sym e)
 no_means others not_dot is (relative other first {others = more} cuts apart decides) e =
     let t : first ∷ more ≡ [] ∷ others = sym cuts ∙ ap parts_of e ∙ is in
     let u : first ≡ [] = cc in
     apart u
 
-pub nothing_first : (F : Joined) (file : ℕ) (scope : List (List ℕ)) (name : List ℕ) (others : List (List ℕ)) → ((rest : List ℕ) → name ≢ 46 ∷ rest) → parts_of name ≡ [] ∷ others → NamesNothing F file scope name
+pub nothing_first : (F : Joined) (file : ℕ) (scope : List (List ℕ)) (name : List ℕ) (others : List (List ℕ))
+    → ((rest : List ℕ) → name ≢ 46 ∷ rest) → parts_of name ≡ [] ∷ others → NamesNothing F file scope name
 nothing_first F file scope name others not_dot is sort full n = no_means others not_dot is n.means refl
 
 -- ---- answers
@@ -366,7 +404,8 @@ pub none_first : {X : Type 0} (r : Option X) (P : Type 0) (Q : X → Type 0) →
 none_first None P Q e h = h
 none_first (Some x) P Q e h = absurd cc
 
-pub busy_known : {F : Joined} {all : List (Vec ℕ)} → AreBusy F (length F.heads) all → (file : ℕ) (v : Vec ℕ) → file < length F.heads → v ≡ get_or all file v → IsBusy F file v.items
+pub busy_known : {F : Joined} {all : List (Vec ℕ)} → AreBusy F (length F.heads) all → (file : ℕ) (v : Vec ℕ)
+    → file < length F.heads → v ≡ get_or all file v → IsBusy F file v.items
 busy_known {F} {all} known file v l is = known.each file v (slice_get_read all (length all) file v refl (omega (arith, known.count)) is)
 
 rank_in : (i file : ℕ) (p : Option ℕ) → ((q : ℕ) → p ≡ Some q → q < i) → rank_of (home_in file p) < i + 1
@@ -376,7 +415,9 @@ rank_in i file (Some q) below = omega (arith, below q refl)
 pub home_below : {F : Joined} → StandBehind F → (i : ℕ) (m : MessageDecl) → slice_get F.messages i ≡ Some m → rank_of (home_of m) < i + 1
 home_below behind i m at = rank_in i m.file m.parent (λ q e. behind.messages i q m at e)
 
-pub seen_own : {F : Joined} {file its_file : ℕ} (name : List ℕ) (n : ℕ) → slice_get (package_at F its_file) n ≡ Some name → SeesFront F file (take (n + 1) (package_at F its_file)) → IsOwnAt F file its_file name n
+pub seen_own : {F : Joined} {file its_file : ℕ} (name : List ℕ) (n : ℕ)
+    → slice_get (package_at F its_file) n ≡ Some name → SeesFront F file (take (n + 1) (package_at F its_file))
+    → IsOwnAt F file its_file name n
 seen_own {F} {file} {its_file} name n at s = record {
   its_part = at;
   seen = subst (SeesFront F file) (front_more (package_at F its_file) n name at) s;

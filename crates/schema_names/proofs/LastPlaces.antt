@@ -1,5 +1,7 @@
 -- Where parts stand last.
-use Rattle.std.proofs.Common.{◌≡◌, ◌≢◌, ℕ, zero, suc, ◌+◌, ◌<◌, ◌⊎◌, ⊎_elim, inl, inr, Bool, true, false, cond, List, [], ◌∷◌, ◌++◌, length, take, get_or, Option, Some, None, refl, ap, sym, ◌∙◌, subst, arith}
+use Rattle.std.proofs.Common.{◌≡◌, ◌≢◌, ℕ, zero, suc, ◌+◌, ◌<◌, ◌⊎◌, ⊎_elim, inl, inr, Bool, true, false, cond, List}
+use Rattle.std.proofs.Common.{[], ◌∷◌, ◌++◌, length, take, get_or, Option, Some, None, refl, ap, sym, ◌∙◌, subst}
+use Rattle.std.proofs.Common.{arith}
 use Rattle.std.specs.Prelude.{slice_get, MatchOption}
 use Rattle.std.specs.Borrow.{Bor}
 use Rattle.std.specs.BTreeMap.{BTreeMap}
@@ -46,7 +48,8 @@ newest xs x q same = (
   λ i l e. let w : i < length (xs ++ x ∷ []) = slice_get_within (xs ++ x ∷ []) i q e in omega (arith, length_push xs x),
 )
 
-pick : (b : Bool) (xs : List (List ℕ)) (x q : List ℕ) (i : ℕ) (o p : Option ℕ) → i ≡ length xs → (b ≡ true → x ≡ q) → (b ≡ false → x ≢ q) → p ≡ cond b (Some i) o → Known xs q o → Known (xs ++ x ∷ []) q p
+pick : (b : Bool) (xs : List (List ℕ)) (x q : List ℕ) (i : ℕ) (o p : Option ℕ) → i ≡ length xs → (b ≡ true → x ≡ q)
+    → (b ≡ false → x ≢ q) → p ≡ cond b (Some i) o → Known xs q o → Known (xs ++ x ∷ []) q p
 pick true xs x q i o p count same apart e known =
     subst (Known (xs ++ x ∷ []) q) (sym (e ∙ ap Some count)) (newest xs x q (same refl))
 pick false xs x q i o p count same apart e known = subst (Known (xs ++ x ∷ []) q) (sym e) (carry xs x q o (apart refl) known)
@@ -61,12 +64,17 @@ other_bytes x q e same =
     let z : true ≡ false = sym t ∙ e in
     cc
 
-pub last_push : (xs : List (List ℕ)) (x : List ℕ) (i : ℕ) (m n : BTreeMap (Bor (List ℕ)) ℕ) → i ≡ length xs → KnowsLast xs m → ((q : List ℕ) → last_in n q ≡ cond (is_eq (slice_cmp nat_cmp x q)) (Some i) (last_in m q)) → KnowsLast (xs ++ x ∷ []) n
+pub last_push : (xs : List (List ℕ)) (x : List ℕ) (i : ℕ) (m n : BTreeMap (Bor (List ℕ)) ℕ) → i ≡ length xs
+    → KnowsLast xs m → ((q : List ℕ) → last_in n q ≡ cond (is_eq (slice_cmp nat_cmp x q)) (Some i) (last_in m q))
+    → KnowsLast (xs ++ x ∷ []) n
 last_push xs x i m n count known changed q =
     pick (is_eq (slice_cmp nat_cmp x q)) xs x q i (last_in m q) (last_in n q) count (same_bytes x q) (other_bytes x q) (changed q) (known q)
 
 -- the next part of a list
-pub last_next : (ps : List (Bor (List ℕ))) (i : ℕ) (d : Bor (List ℕ)) (m n : BTreeMap (Bor (List ℕ)) ℕ) → i < length ps → KnowsLast (take i (values_of ps)) m → ((q : List ℕ) → last_in n q ≡ cond (is_eq (slice_cmp nat_cmp (get_or ps i d).now q)) (Some i) (last_in m q)) → KnowsLast (take (i + 1) (values_of ps)) n
+pub last_next : (ps : List (Bor (List ℕ))) (i : ℕ) (d : Bor (List ℕ)) (m n : BTreeMap (Bor (List ℕ)) ℕ)
+    → i < length ps → KnowsLast (take i (values_of ps)) m
+    → ((q : List ℕ) → last_in n q ≡ cond (is_eq (slice_cmp nat_cmp (get_or ps i d).now q)) (Some i) (last_in m q))
+    → KnowsLast (take (i + 1) (values_of ps)) n
 last_next ps i d m n l known changed =
     let is : get_or ps i d ≡ get_or ps i (get_or ps i d) = get_or_default ps i d (get_or ps i d) l in
     let all : length (values_of ps) ≡ length ps = length-map ps (λ (p : Bor (List ℕ)). p.now) in

@@ -15,13 +15,15 @@ use Rattle.schema_names.specs.Parts.{values_of}
 pub some_part : (name : List ℕ) → 0 < length (parts_of name)
 some_part name = omega (arith, length-slice_split (λ (c : ℕ). c == 46) name)
 
-pub part_get : (ps : List (Bor (List ℕ))) (P : List (List ℕ)) → values_of ps ≡ P → (i : ℕ) (b : Bor (List ℕ)) → i < length ps → b ≡ get_or ps i b → slice_get P i ≡ Some b.now
+pub part_get : (ps : List (Bor (List ℕ))) (P : List (List ℕ)) → values_of ps ≡ P → (i : ℕ) (b : Bor (List ℕ))
+    → i < length ps → b ≡ get_or ps i b → slice_get P i ≡ Some b.now
 part_get ps P e i b l is =
     let at : slice_get ps i ≡ Some b = slice_get_read ps (length ps) i b refl l is in
     let there : slice_get (values_of ps) i ≡ Some b.now = slice_get-map (λ (p : Bor (List ℕ)). p.now) ps i ∙ ap (option_map (λ (p : Bor (List ℕ)). p.now)) at in
     ap (λ (x : List (List ℕ)). slice_get x i) (sym e) ∙ there
 
-pub part_at : (ps : List (Bor (List ℕ))) (P : List (List ℕ)) → values_of ps ≡ P → (i : ℕ) (b : Bor (List ℕ)) → i < length ps → b ≡ get_or ps i b → get_or P i [] ≡ b.now
+pub part_at : (ps : List (Bor (List ℕ))) (P : List (List ℕ)) → values_of ps ≡ P → (i : ℕ) (b : Bor (List ℕ))
+    → i < length ps → b ≡ get_or ps i b → get_or P i [] ≡ b.now
 part_at ps P e i b l is = get_or_from_slice_get P i b.now [] (part_get ps P e i b l is)
 
 pub parts_length : (ps : List (Bor (List ℕ))) (P : List (List ℕ)) → values_of ps ≡ P → length ps ≡ length P
@@ -42,7 +44,8 @@ eq_same xs ys e = (bytes_eq-Decides xs ys).0 (not_false (bytes_eq xs ys) e)
 
 -- ---- first parts
 
-other_start : (c : ℕ) (cs : List ℕ) (others : List (List ℕ)) → ((rest : List ℕ) → c ∷ cs ≢ 46 ∷ rest) → (b : Bool) (ps : List (List ℕ)) → (c == 46) ≡ b → cond b ([] ∷ ps) (onto_first c ps) ≡ [] ∷ others → ⊥
+other_start : (c : ℕ) (cs : List ℕ) (others : List (List ℕ)) → ((rest : List ℕ) → c ∷ cs ≢ 46 ∷ rest)
+    → (b : Bool) (ps : List (List ℕ)) → (c == 46) ≡ b → cond b ([] ∷ ps) (onto_first c ps) ≡ [] ∷ others → ⊥
 other_start c cs others not_dot true ps h f = not_dot cs (ap (λ (x : ℕ). x ∷ cs) (eqb-true c 46 h))
 other_start c cs others not_dot false [] h f = absurd cc
 other_start c cs others not_dot false (p ∷ ps) h f = absurd cc

@@ -3,7 +3,8 @@ use Rattle.std.proofs.Common.{◌≡◌, ◌≢◌, ℕ, true, List, [], ◌∷�
 use Rattle.mrpc_table.specs.Names.{parts_of}
 use Rattle.proto_file.specs.Joined.{Joined}
 use Rattle.proto_file.specs.declared.file.Span.{Span}
-use Rattle.schema_names.specs.Scopes.{Sort, is_type, Declares, message as a_message_of, enum as an_enum_of, service, value, field, oneof, IsThere, Decides, here, outward, Means, absolute, relative}
+use Rattle.schema_names.specs.Scopes.{Sort, is_type, Declares, message as a_message_of, enum as an_enum_of, service}
+use Rattle.schema_names.specs.Scopes.{value, field, oneof, IsThere, Decides, here, outward, Means, absolute, relative}
 use Rattle.schema_names.specs.Numbers.{StandsAt, message, enum, IsOfFile, message_of, enum_of, sort_of}
 use Rattle.schema_names.specs.declared.named.Named.{Named}
 use Rattle.schema_names.specs.declared.named.Named.TheVariants.{Message, Enum}
@@ -18,7 +19,8 @@ pub record Standing (F : Joined) (file : ℕ) (its_sort : Sort) (full : List (Li
   pub of : IsOfFile F named file
   pub sort : sort_of named ≡ its_sort
 
-pub declared_stands : {F : Joined} {file : ℕ} {sort : Sort} {full : List (List ℕ)} {span : Span} → Declares F file sort full span → is_type sort ≡ true → Standing F file sort full span
+pub declared_stands : {F : Joined} {file : ℕ} {sort : Sort} {full : List (List ℕ)} {span : Span}
+    → Declares F file sort full span → is_type sort ≡ true → Standing F file sort full span
 declared_stands {F} (a_message_of m c up) typ = record {
   named = Message c.0;
   stands = message c.0 m (contained F.messages m c) up;
@@ -47,14 +49,18 @@ decides_one {F} {file} {name} (outward last {outer} is not rest) (outward last' 
     decides_one rest (subst (λ (o : List (List ℕ)). Decides F file name o e) same rest')
 
 -- one step outward
-pub decides_out : {F : Joined} {file : ℕ} {name : List ℕ} (last : List ℕ) {s outer d : List (List ℕ)} → s ≡ outer ++ last ∷ [] → (IsThere F file (s ++ name ∷ []) → ⊥) → Decides F file name s d → Decides F file name outer d
+pub decides_out : {F : Joined} {file : ℕ} {name : List ℕ} (last : List ℕ) {s outer d : List (List ℕ)}
+    → s ≡ outer ++ last ∷ [] → (IsThere F file (s ++ name ∷ []) → ⊥) → Decides F file name s d
+    → Decides F file name outer d
 decides_out last is not (here t) = absurd (not t)
 decides_out {F} {file} {name} last {s} {outer} {d} is not (outward last' {outer = outer'} is' not' rest) =
     subst (λ (o : List (List ℕ)). Decides F file name o d) (last_same outer' outer last' last (sym is' ∙ is)).0 rest
 
 -- ---- what a reference means
 
-pub means_parts : {F : Joined} {file : ℕ} {scope full : List (List ℕ)} {name : List ℕ} (part : List ℕ) (others : List (List ℕ)) → parts_of name ≡ part ∷ others → part ≢ [] → Means F file scope name full → (d : List (List ℕ)) × Decides F file part scope d × (full ≡ d ++ parts_of name)
+pub means_parts : {F : Joined} {file : ℕ} {scope full : List (List ℕ)} {name : List ℕ} (part : List ℕ)
+    (others : List (List ℕ)) → parts_of name ≡ part ∷ others → part ≢ [] → Means F file scope name full
+    → (d : List (List ℕ)) × Decides F file part scope d × (full ≡ d ++ parts_of name)
 means_parts part others is full (absolute name) = absurd (full (let e : [] ∷ parts_of name ≡ part ∷ others = is in let f : part ≡ [] = cc in f))
 means_parts {F} {file} {scope} part others is full (relative name first {others = more} {decisive = d} cuts apart decides) =
     let e : first ∷ more ≡ part ∷ others = sym cuts ∙ is in
@@ -64,7 +70,8 @@ means_parts {F} {file} {scope} part others is full (relative name first {others 
 same_rest : (rest more : List ℕ) → 46 ∷ more ≡ 46 ∷ rest → more ≡ rest
 same_rest rest more e = cc
 
-pub absolute_full : {F : Joined} {file : ℕ} {scope full : List (List ℕ)} {name : List ℕ} (rest : List ℕ) → name ≡ 46 ∷ rest → Means F file scope name full → full ≡ parts_of rest
+pub absolute_full : {F : Joined} {file : ℕ} {scope full : List (List ℕ)} {name : List ℕ} (rest : List ℕ)
+    → name ≡ 46 ∷ rest → Means F file scope name full → full ≡ parts_of rest
 absolute_full rest is (absolute more) = ap parts_of (same_rest rest more is)
 absolute_full rest is (relative name first {others = more} cuts apart decides) =
     let e : first ∷ more ≡ [] ∷ parts_of rest = sym cuts ∙ ap parts_of is in

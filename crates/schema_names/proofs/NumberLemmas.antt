@@ -1,5 +1,6 @@
 -- How scopes are numbered.
-use Rattle.std.proofs.Common.{◌≡◌, ℕ, ◌+◌, ◌<◌, ◌≤◌, ◌⊎◌, ⊎_elim, inl, inr, true, false, cond, List, [], ◌∷◌, ◌++◌, length, take, get_or, Option, Some, None, refl, ap, sym, ◌∙◌, subst, arith}
+use Rattle.std.proofs.Common.{◌≡◌, ℕ, ◌+◌, ◌<◌, ◌≤◌, ◌⊎◌, ⊎_elim, inl, inr, true, false, cond, List, [], ◌∷◌, ◌++◌}
+use Rattle.std.proofs.Common.{length, take, get_or, Option, Some, None, refl, ap, sym, ◌∙◌, subst, arith}
 use Rattle.std.specs.Prelude.{slice_get}
 use Rattle.std.specs.Option.{unwrap_or}
 use Rattle.std.proofs.lemmas.Bool.{cases_lt}
@@ -41,7 +42,9 @@ module _ (F : Joined) (x y : Numbering) (p k n : ℕ) (s : List (List ℕ)) (nam
   pub number_next : IsNumber F (s ++ name ∷ []) n
   number_next = by_known (child x.inner k name) refl
 
-  sound_at : (l : ℕ) (o : List ℕ) (v : ℕ) → child y.inner l o ≡ Some v → (same_child k name l o ≡ true) ⊎ (same_child k name l o ≡ false) → (t : List (List ℕ)) × IsNumber F t l × IsNumber F (t ++ o ∷ []) v
+  sound_at : (l : ℕ) (o : List ℕ) (v : ℕ) → child y.inner l o ≡ Some v
+      → (same_child k name l o ≡ true) ⊎ (same_child k name l o ≡ false)
+      → (t : List (List ℕ)) × IsNumber F t l × IsNumber F (t ++ o ∷ []) v
   sound_at l o v e (inl t) =
       let ps = same_child_parts k name l o t in
       let is : Some v ≡ Some n = sym e ∙ at_true (same_child k name l o) (Some n) (child x.inner l o) (child y.inner l o) t (changed l o) in
@@ -51,7 +54,9 @@ module _ (F : Joined) (x y : Numbering) (p k n : ℕ) (s : List (List ℕ)) (nam
   sound_at l o v e (inr f) =
       known.inner.sound l o v (sym (at_false (same_child k name l o) (Some n) (child x.inner l o) (child y.inner l o) f (changed l o)) ∙ e)
 
-  whole_at : (place : ℕ) (t : List (List ℕ)) (o : List ℕ) (l : ℕ) → place < p + 1 → IsListed F place (t ++ o ∷ []) → IsNumber F t l → (same_child k name l o ≡ true) ⊎ (same_child k name l o ≡ false) → (v : ℕ) × (child y.inner l o ≡ Some v)
+  whole_at : (place : ℕ) (t : List (List ℕ)) (o : List ℕ) (l : ℕ) → place < p + 1 → IsListed F place (t ++ o ∷ [])
+      → IsNumber F t l → (same_child k name l o ≡ true) ⊎ (same_child k name l o ≡ false)
+      → (v : ℕ) × (child y.inner l o ≡ Some v)
   whole_at place t o l less listed number (inl is) =
       (n, at_true (same_child k name l o) (Some n) (child x.inner l o) (child y.inner l o) is (changed l o))
   whole_at place t o l less listed number (inr f) =
@@ -63,7 +68,9 @@ module _ (F : Joined) (x y : Numbering) (p k n : ℕ) (s : List (List ℕ)) (nam
       let e : place ≡ p = omega arith in
       let same = last_same t s o name (listed_full listed here e) in
       let one : l ≡ k = number_same number (subst (λ (q : List (List ℕ)). IsNumber F q k) (sym same.0) outer) in
-      let is : same_child k name l o ≡ true = subst (λ (q : ℕ). same_child q name l o ≡ true) one (subst (λ (q : List ℕ). same_child l q l o ≡ true) same.1 (same_child_itself l o)) in
+      let is : same_child k name l o ≡ true =
+      subst (λ (q : ℕ). same_child q name l o ≡ true) one
+      (subst (λ (q : List ℕ). same_child l q l o ≡ true) same.1 (same_child_itself l o)) in
       absurd (let z : true ≡ false = sym is ∙ f in cc))
       (cases_lt place p)
 
@@ -100,7 +107,8 @@ root_number F l = record {
   first = λ k less listed. absurd (omega arith);
 }
 
-pub root_numbered : {F : Joined} {x y : Numbering} (p : ℕ) → IsNumbered F p x → IsListed F p [] → 0 < length F.heads → y.numbers.items ≡ x.numbers.items ++ 0 ∷ [] → y.inner ≡ x.inner → IsNumbered F (p + 1) y
+pub root_numbered : {F : Joined} {x y : Numbering} (p : ℕ) → IsNumbered F p x → IsListed F p [] → 0 < length F.heads
+    → y.numbers.items ≡ x.numbers.items ++ 0 ∷ [] → y.inner ≡ x.inner → IsNumbered F (p + 1) y
 root_numbered {F} {x} {y} p known here some items inner = record {
   count = ap length items ∙ length_push x.numbers.items 0 ∙ ap (λ (q : ℕ). q + 1) known.count;
   numbers = record {
@@ -147,7 +155,8 @@ front_more P n part e =
     let l : n < length P = slice_get_within P n part e in
     take_more P n part l ∙ ap (λ (q : List ℕ). take n P ++ q ∷ []) (get_or_from_slice_get P n part part e)
 
-pub depth_next : {F : Joined} (file d : ℕ) (depths : List ℕ) → file < length F.heads → d ≤ length (package_at F file) → AreDepths F (fronts_before F file + d) depths → AreDepths F (fronts_before F file + d + 1) (depths ++ d ∷ [])
+pub depth_next : {F : Joined} (file d : ℕ) (depths : List ℕ) → file < length F.heads → d ≤ length (package_at F file)
+    → AreDepths F (fronts_before F file + d) depths → AreDepths F (fronts_before F file + d + 1) (depths ++ d ∷ [])
 depth_next {F} file d depths l short known = record {
   count = length_push depths d ∙ ap (λ (q : ℕ). q + 1) known.count;
   each = λ other e there within less.
@@ -189,7 +198,9 @@ no_packages = record { count = refl; each = λ file p at. absurd cc }
 
 -- ---- homes
 
-pub number_known : {F : Joined} {packages : List Package} {numbers : List ℕ} (n : ℕ) → ArePackages F (length F.heads) packages → AreNumbers F numbers → (p : Home) (s : List (List ℕ)) → n ≡ fronts F → IsWithin packages n numbers p → IsScope F p s → IsNumber F s (number_at packages n numbers p)
+pub number_known : {F : Joined} {packages : List Package} {numbers : List ℕ} (n : ℕ)
+    → ArePackages F (length F.heads) packages → AreNumbers F numbers → (p : Home) (s : List (List ℕ)) → n ≡ fronts F
+    → IsWithin packages n numbers p → IsScope F p s → IsNumber F s (number_at packages n numbers p)
 number_known {F} {packages} {numbers} n known numbered (home.File k) s e within scope =
     let p = some_at packages k within in
     let is : IsNumber F (package_at F k) (package_number (slice_get packages k)) =
@@ -198,15 +209,20 @@ number_known {F} {packages} {numbers} n known numbered (home.File k) s e within 
 number_known {F} {packages} {numbers} n known numbered (home.Message i) s e within scope =
     numbered.each (n + i) s within (a_message_scope i (ap (λ (q : ℕ). q + i) e) scope)
 
-within_in : (packages : List Package) (n : ℕ) (numbers : List ℕ) (file : ℕ) (p : Option ℕ) → file < length packages → ((q : ℕ) → p ≡ Some q → n + q < length numbers) → IsWithin packages n numbers (home_in file p)
+within_in : (packages : List Package) (n : ℕ) (numbers : List ℕ) (file : ℕ) (p : Option ℕ) → file < length packages
+    → ((q : ℕ) → p ≡ Some q → n + q < length numbers) → IsWithin packages n numbers (home_in file p)
 within_in packages n numbers file None l below = l
 within_in packages n numbers file (Some q) l below = below q refl
 
-pub message_within : {F : Joined} (packages : List Package) (n : ℕ) (numbers : List ℕ) (i : ℕ) (m : MessageDecl) → StandBehind F → length packages ≡ length F.heads → n + i ≤ length numbers → slice_get F.messages i ≡ Some m → IsWithin packages n numbers (home_of m)
+pub message_within : {F : Joined} (packages : List Package) (n : ℕ) (numbers : List ℕ) (i : ℕ) (m : MessageDecl)
+    → StandBehind F → length packages ≡ length F.heads → n + i ≤ length numbers → slice_get F.messages i ≡ Some m
+    → IsWithin packages n numbers (home_of m)
 message_within {F} packages n numbers i m behind all long at =
     within_in packages n numbers m.file m.parent (omega (arith, message_file behind i m at))
     (λ q e. omega (arith, behind.messages i q m at e))
 
-pub place_within : (F : Joined) (packages : List Package) (n : ℕ) (numbers : List ℕ) (p : Home) → length packages ≡ length F.heads → n + length F.messages ≡ length numbers → IsPlace F p → IsWithin packages n numbers p
+pub place_within : (F : Joined) (packages : List Package) (n : ℕ) (numbers : List ℕ) (p : Home)
+    → length packages ≡ length F.heads → n + length F.messages ≡ length numbers → IsPlace F p
+    → IsWithin packages n numbers p
 place_within F packages n numbers (home.File k) all long here = omega arith
 place_within F packages n numbers (home.Message i) all long here = omega arith

@@ -33,7 +33,8 @@ sort_one {F} {file} {a} {b} {f} starts x y =
     let same : s.named ≡ t.named = starts.apart s.named t.named f f x.span y.span s.stands t.stands (omega arith) in
     sym s.sort ∙ ap sort_of same ∙ t.sort
 
-pub name_one : {F : Joined} {file : ℕ} {scope f g : List (List ℕ)} {name : List ℕ} {a b : Sort} → StartApart F → Names F file scope name a f → Names F file scope name b g → (a ≡ b) × (f ≡ g)
+pub name_one : {F : Joined} {file : ℕ} {scope f g : List (List ℕ)} {name : List ℕ} {a b : Sort} → StartApart F
+    → Names F file scope name a f → Names F file scope name b g → (a ≡ b) × (f ≡ g)
 name_one {F} {file} {scope} {f} {g} {name} {a} {b} starts m n =
     let e : f ≡ g = full_one (form_of m.means) m.means n.means in
     (sort_one starts m.finds (subst (Finds F file b) (sym e) n.finds), e)

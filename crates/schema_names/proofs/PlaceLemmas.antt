@@ -1,5 +1,6 @@
 -- What the scopes of files know of their places.
-use Rattle.std.proofs.Common.{◌≡◌, ℕ, suc, ◌+◌, ◌<◌, ◌≤◌, ◌^◌, ⊎_elim, Bool, true, false, List, [], ◌∷◌, ◌++◌, length, take, drop, get_or, Option, Some, None, refl, ap, sym, ◌∙◌, subst, arith, length-append}
+use Rattle.std.proofs.Common.{◌≡◌, ℕ, suc, ◌+◌, ◌<◌, ◌≤◌, ◌^◌, ⊎_elim, Bool, true, false, List, [], ◌∷◌, ◌++◌, length}
+use Rattle.std.proofs.Common.{take, drop, get_or, Option, Some, None, refl, ap, sym, ◌∙◌, subst, arith, length-append}
 use Rattle.std.specs.Prelude.{slice_get, ◌==◌, ◌↔◌, Contains, MatchOption, IfSome, ◌≢◌, nat_lt}
 use Rattle.std.specs.List.{list_any}
 use Rattle.std.proofs.lemmas.Bool.{cases_lt, eqb-true, eq-eqb, or_cases, ltb-true, lt-ltb}
@@ -28,10 +29,13 @@ kept_places p e h = subst (λ (G : Joined). KeepsPlaces G p) e h
 
 -- ---- numbers
 
-pub package_known : {F : Joined} {ps : List Package} → ArePackages F (length F.heads) ps → (file : ℕ) (p : Package) → file < length F.heads → p ≡ get_or ps file p → IsPackage F file p
+pub package_known : {F : Joined} {ps : List Package} → ArePackages F (length F.heads) ps → (file : ℕ) (p : Package)
+    → file < length F.heads → p ≡ get_or ps file p → IsPackage F file p
 package_known {F} {ps} known file p l is = known.each file p (slice_get_read ps (length ps) file p refl (omega (arith, known.count)) is)
 
-pub inner_known : {F : Joined} {x : Numbering} {outer : List (List ℕ)} {k : ℕ} → IsNumbered F (scope_count F) x → IsNumber F outer k → (name : List ℕ) (o : Option ℕ) → o ≡ child x.inner k name → MatchOption o ((place : ℕ) → IsListed F place (outer ++ name ∷ []) → ⊥) (IsNumber F (outer ++ name ∷ []))
+pub inner_known : {F : Joined} {x : Numbering} {outer : List (List ℕ)} {k : ℕ} → IsNumbered F (scope_count F) x
+    → IsNumber F outer k → (name : List ℕ) (o : Option ℕ) → o ≡ child x.inner k name
+    → MatchOption o ((place : ℕ) → IsListed F place (outer ++ name ∷ []) → ⊥) (IsNumber F (outer ++ name ∷ []))
 inner_known {F} {x} {outer} {k} h n name None e = λ place listed.
     let w = h.inner.whole place outer name k (listed_small listed) listed n in
     let z : None ≡ Some w.0 = e ∙ w.1 in
@@ -43,7 +47,9 @@ inner_known {F} {x} {outer} {k} h n name (Some v) e =
 pub package_small : (F : Joined) (file : ℕ) → file < length F.heads → scope_count F < 2 ^ 62 → fronts_before F file + length (package_at F file) < 2 ^ 62
 package_small F file l few = omega (arith, front_small F file (length (package_at F file)) l (omega arith))
 
-pub front_known : {F : Joined} {p : Inside} (file d k : ℕ) → KeepsPlaces F p → file < length F.heads → d ≤ length (package_at F file) → k ≡ fronts_before F file + d → IsNumber F (take d (package_at F file)) (get_or p.numbering.numbers.items k 0)
+pub front_known : {F : Joined} {p : Inside} (file d k : ℕ) → KeepsPlaces F p → file < length F.heads
+    → d ≤ length (package_at F file) → k ≡ fronts_before F file + d
+    → IsNumber F (take d (package_at F file)) (get_or p.numbering.numbers.items k 0)
 front_known {F} {p} file d k h l short e =
     let listed : IsListed F k (take d (package_at F file)) = subst (λ (q : ℕ). IsListed F q (take d (package_at F file))) (sym e) (front_listed F file d l short) in
     h.numbers.numbers.each k (take d (package_at F file)) (omega (arith, front_small F file d l short, h.numbers.count)) listed
@@ -91,22 +97,27 @@ front_first {F} {full} {k} file f n =
 pub front_number : {F : Joined} {full : List (List ℕ)} {k : ℕ} (file : ℕ) → FrontOf F file full → IsNumber F full k → k < fronts F
 front_number {F} {full} {k} file f n = omega (arith, front_first file f n, front_small F file (length full) f.there f.short)
 
-pub is_front_iff : {F : Joined} {full : List (List ℕ)} (k n : ℕ) (b : Bool) → n ≡ fronts F → b ≡ nat_lt k n → 0 < length full → IsNumber F full k → (b ≡ true) ↔ IsFront F full
+pub is_front_iff : {F : Joined} {full : List (List ℕ)} (k n : ℕ) (b : Bool) → n ≡ fronts F → b ≡ nat_lt k n
+    → 0 < length full → IsNumber F full k → (b ≡ true) ↔ IsFront F full
 is_front_iff {F} {full} k n b e is some number = (
   λ h. front_in number.listed (let l : k < n = ltb-true k n (sym is ∙ h) in omega arith),
   λ f. is ∙ lt-ltb k n (let l : k < fronts F = front_number f.file (front_of F f.file full f.rest f.begins some) number in omega arith),
 )
 
-listed_depth : {F : Joined} {k : ℕ} {full : List (List ℕ)} {depths : List ℕ} → AreDepths F (fronts F) depths → IsListed F k full → k < fronts F → get_or depths k 0 ≡ length full
+listed_depth : {F : Joined} {k : ℕ} {full : List (List ℕ)} {depths : List ℕ} → AreDepths F (fronts F) depths
+    → IsListed F k full → k < fronts F → get_or depths k 0 ≡ length full
 listed_depth {F} {k} {full} {depths} h (a_front file n there short at is) less =
     let e : get_or depths k 0 ≡ n = ap (λ (q : ℕ). get_or depths q 0) at ∙ h.each file n there short (omega arith) in
     e ∙ sym (length-take-le n (package_at F file) short) ∙ ap length (sym is)
 listed_depth h (a_message_scope i at up) less = absurd (omega arith)
 
-pub depth_known : {F : Joined} {k : ℕ} {full : List (List ℕ)} {depths : List ℕ} → AreDepths F (fronts F) depths → IsNumber F full k → k < fronts F → get_or depths k 0 ≡ length full
+pub depth_known : {F : Joined} {k : ℕ} {full : List (List ℕ)} {depths : List ℕ} → AreDepths F (fronts F) depths
+    → IsNumber F full k → k < fronts F → get_or depths k 0 ≡ length full
 depth_known h n less = listed_depth h n.listed less
 
-pub has_front_iff : {F : Joined} {full : List (List ℕ)} (file v scope : ℕ) (b : Bool) → file < length F.heads → length full ≤ length (package_at F file) → 0 < length full → IsNumber F full scope → IsNumber F (take (length full) (package_at F file)) v → b ≡ (v == scope) → (b ≡ true) ↔ Begins F file full
+pub has_front_iff : {F : Joined} {full : List (List ℕ)} (file v scope : ℕ) (b : Bool) → file < length F.heads
+    → length full ≤ length (package_at F file) → 0 < length full → IsNumber F full scope
+    → IsNumber F (take (length full) (package_at F file)) v → b ≡ (v == scope) → (b ≡ true) ↔ Begins F file full
 has_front_iff {F} {full} file v scope b there short some number its is = (
   λ h.
       let e : v ≡ scope = eqb-true v scope (sym is ∙ h) in
@@ -137,7 +148,9 @@ any_contains x (y ∷ ys) e =
     (λ (h : list_any (λ z. z == x) ys ≡ true). let r = any_contains x ys h in (suc r.0, omega (arith, r.1), r.2))
     (or_cases (y == x) (list_any (λ z. z == x) ys) e)
 
-pub sees_iff : {F : Joined} (hs : List Head) (file other : ℕ) (h : Head) (b : Bool) → hs ≡ F.heads → file < length F.heads → h ≡ get_or hs file h → b ≡ list_any (λ y. y == other) h.sees → (b ≡ true) ↔ Sees F file other
+pub sees_iff : {F : Joined} (hs : List Head) (file other : ℕ) (h : Head) (b : Bool) → hs ≡ F.heads
+    → file < length F.heads → h ≡ get_or hs file h → b ≡ list_any (λ y. y == other) h.sees → (b ≡ true)
+    ↔ Sees F file other
 sees_iff {F} hs file other h b e l is any =
     let at : slice_get F.heads file ≡ Some h = item_at hs F.heads file h e l is in (
       λ t. record { head = h; at = at; among = any_contains other h.sees (sym any ∙ t) },
@@ -149,7 +162,8 @@ sees_iff {F} hs file other h b e l is any =
 
 -- ---- each front of a scope is listed
 
-pub scope_listed : {F : Joined} {p : Home} {s : List (List ℕ)} → StandBehind F → IsPlace F p → IsScope F p s → (n : ℕ) → n ≤ length s → (place : ℕ) × IsListed F place (take n s)
+pub scope_listed : {F : Joined} {p : Home} {s : List (List ℕ)} → StandBehind F → IsPlace F p → IsScope F p s → (n : ℕ)
+    → n ≤ length s → (place : ℕ) × IsListed F place (take n s)
 scope_listed {F} behind there (of_file k) n short = (fronts_before F k + n, front_listed F k n there short)
 scope_listed {F} behind there (of_message i m {outer} at up) n short =
     ⊎_elim
@@ -171,12 +185,15 @@ no_iff none = (λ h. absurd cc, λ p. absurd (none p))
 pub yes_iff : {P : Type 0} → P → (true ≡ true) ↔ P
 yes_iff p = (λ h. p, λ q. refl)
 
-pub seen_at : {F : Joined} (hs : List Head) (sees : List ℕ) (file i : ℕ) (h : Head) → hs ≡ F.heads → file < length F.heads → h ≡ get_or hs file h → sees ≡ h.sees → i < length sees → Sees F file (get_or sees i 0)
+pub seen_at : {F : Joined} (hs : List Head) (sees : List ℕ) (file i : ℕ) (h : Head) → hs ≡ F.heads
+    → file < length F.heads → h ≡ get_or hs file h → sees ≡ h.sees → i < length sees → Sees F file (get_or sees i 0)
 seen_at {F} hs sees file i h e l is same less =
     let c : Contains sees (get_or sees i 0) = (i, less, get_or_default sees i (get_or sees i 0) 0 less) in
     record { head = h; at = item_at hs F.heads file h e l is; among = subst (λ q. Contains q (get_or sees i 0)) same c }
 
-pub none_seen : {F : Joined} {full : List (List ℕ)} (hs : List Head) (sees : List ℕ) (file n : ℕ) (h : Head) → hs ≡ F.heads → file < length F.heads → h ≡ get_or hs file h → sees ≡ h.sees → length sees ≤ n → ((j : ℕ) → j < n → Begins F (get_or sees j 0) full → ⊥) → SeesFront F file full → ⊥
+pub none_seen : {F : Joined} {full : List (List ℕ)} (hs : List Head) (sees : List ℕ) (file n : ℕ) (h : Head)
+    → hs ≡ F.heads → file < length F.heads → h ≡ get_or hs file h → sees ≡ h.sees → length sees ≤ n
+    → ((j : ℕ) → j < n → Begins F (get_or sees j 0) full → ⊥) → SeesFront F file full → ⊥
 none_seen {F} {full} hs sees file n h e l is same long none s =
     let head : s.seen.head ≡ h = same_Some s.seen.head h (sym s.seen.at ∙ item_at hs F.heads file h e l is) in
     let c : Contains sees s.other = subst (λ q. Contains q s.other) (sym same) (subst (λ (q : Head). Contains q.sees s.other) head s.seen.among) in
@@ -186,7 +203,9 @@ none_seen {F} {full} hs sees file n h e l is same long none s =
 pub no_iff_at : {b : Bool} {P : Type 0} → b ≡ false → (P → ⊥) → (b ≡ true) ↔ P
 no_iff_at e none = (λ h. absurd (let z : true ≡ false = sym h ∙ e in cc), λ p. absurd (none p))
 
-pub last_few : (F : Joined) (file : ℕ) (part : List ℕ) (o : Option ℕ) → file < length F.heads → scope_count F < 2 ^ 62 → MatchOption o ((i : ℕ) → slice_get (package_at F file) i ≢ Some part) (IsLast (package_at F file) part) → IfSome o (λ i. i < 2 ^ 62)
+pub last_few : (F : Joined) (file : ℕ) (part : List ℕ) (o : Option ℕ) → file < length F.heads → scope_count F < 2 ^ 62
+    → MatchOption o ((i : ℕ) → slice_get (package_at F file) i ≢ Some part) (IsLast (package_at F file) part)
+    → IfSome o (λ i. i < 2 ^ 62)
 last_few F file part None l few h = tt
 last_few F file part (Some i) l few h =
     omega (arith, slice_get_within (package_at F file) i part h.0, package_small F file l few)

@@ -1,5 +1,6 @@
 -- The definitions on small files: what a reference names there.
-use Rattle.std.proofs.Common.{◌≡◌, ℕ, zero, suc, ◌+◌, ◌<◌, ◌≤◌, ◌⊎◌, ⊎_elim, inl, inr, false, List, [], ◌∷◌, ◌++◌, length, get_or, Option, Some, None, refl, ap, sym, ◌∙◌, subst, arith}
+use Rattle.std.proofs.Common.{◌≡◌, ℕ, zero, suc, ◌+◌, ◌<◌, ◌≤◌, ◌⊎◌, ⊎_elim, inl, inr, false, List, [], ◌∷◌, ◌++◌}
+use Rattle.std.proofs.Common.{length, get_or, Option, Some, None, refl, ap, sym, ◌∙◌, subst, arith}
 use Rattle.std.specs.Prelude.{codes, Contains}
 use Rattle.std.proofs.lemmas.Option.{same_Some}
 use Rattle.mrpc_table.specs.declared.words.Decimal.TheVariants.{Small}
@@ -12,7 +13,9 @@ use Rattle.proto_file.specs.declared.file.EnumDecl.{EnumDecl}
 use Rattle.proto_file.specs.declared.file.File.{File}
 use Rattle.proto_file.specs.declared.joined.Head.{Head}
 use Rattle.proto_file.specs.declared.joined.Home.TheVariants as home
-use Rattle.schema_names.specs.Scopes.{IsScope, of_file, of_message, a_message, an_enum, no_type, Sort, Declares, message, enum, value, IsThere, a_type, a_package, Decides, here, outward, Means, absolute, relative, Finds}
+use Rattle.schema_names.specs.Scopes.{IsScope, of_file, of_message, a_message, an_enum, no_type, Sort, Declares}
+use Rattle.schema_names.specs.Scopes.{message, enum, value, IsThere, a_type, a_package, Decides, here, outward, Means}
+use Rattle.schema_names.specs.Scopes.{absolute, relative, Finds}
 use Rattle.schema_names.specs.Numbers.{StandsAt, message as message_at, enum as enum_at, IsOfFile, message_of}
 use Rattle.schema_names.specs.declared.named.Named.{Named}
 use Rattle.schema_names.specs.declared.named.Named.TheVariants.{Message}
@@ -99,7 +102,9 @@ user = bare (word (codes "User") 130) 1 None
 -- the second file sees these
 abbrev files : List ℕ → Joined
 files seen = record {
-  heads = (record { «package» = Some (word (codes "base") 8); sees = 0 ∷ [] }) ∷ (record { «package» = Some (word (codes "app") 108); sees = seen }) ∷ (record { «package» = Some (word (codes "app.base") 208); sees = 2 ∷ [] }) ∷ [];
+  heads = (record { «package» = Some (word (codes "base") 8); sees = 0 ∷ [] })
+      ∷ (record { «package» = Some (word (codes "app") 108); sees = seen })
+      ∷ (record { «package» = Some (word (codes "app.base") 208); sees = 2 ∷ [] }) ∷ [];
   messages = id ∷ user ∷ [];
   enums = [];
   services = [];

@@ -1,5 +1,6 @@
 -- The full names of scopes, and their numbers.
-use Rattle.std.proofs.Common.{◌≡◌, ℕ, zero, suc, ◌+◌, ◌<◌, ◌≤◌, ◌⊎◌, ⊎_elim, List, [], ◌∷◌, ◌++◌, length, take, get_or, Option, Some, None, refl, ap, sym, ◌∙◌, subst, arith, length-append}
+use Rattle.std.proofs.Common.{◌≡◌, ℕ, zero, suc, ◌+◌, ◌<◌, ◌≤◌, ◌⊎◌, ⊎_elim, List, [], ◌∷◌, ◌++◌, length, take}
+use Rattle.std.proofs.Common.{get_or, Option, Some, None, refl, ap, sym, ◌∙◌, subst, arith, length-append}
 use Rattle.std.specs.Prelude.{slice_get, sum_by, Contains}
 use Rattle.std.proofs.lemmas.Bool.{cases_order}
 use Rattle.std.proofs.lemmas.List.{take-take, get_or_default}
@@ -55,7 +56,9 @@ pub message_scope : {F : Joined} {i : ℕ} {s : List (List ℕ)} → IsScope F (
 message_scope (of_message i m {outer} at up) = record { decl = m; outer = outer; at = at; up = up; is = refl }
 
 -- each place has a full name
-pub home_scope : {F : Joined} (file : ℕ) (p : Option ℕ) → ((q : ℕ) → p ≡ Some q → (s : List (List ℕ)) × IsScope F (home.Message q) s) → (s : List (List ℕ)) × IsScope F (home_in file p) s
+pub home_scope : {F : Joined} (file : ℕ) (p : Option ℕ)
+    → ((q : ℕ) → p ≡ Some q → (s : List (List ℕ)) × IsScope F (home.Message q) s)
+    → (s : List (List ℕ)) × IsScope F (home_in file p) s
 home_scope {F} file None known = (package_at F file, of_file file)
 home_scope file (Some q) known = known q refl
 
@@ -97,7 +100,8 @@ front_below F file other n l short less = omega (arith, fronts_next F file l, fr
 pub front_small : (F : Joined) (file n : ℕ) → file < length F.heads → n ≤ length (package_at F file) → fronts_before F file + n < fronts F
 front_small F file n l short = front_below F file (length F.heads) n l short l
 
-pub fronts_one : (F : Joined) (a b n m : ℕ) → a < length F.heads → b < length F.heads → n ≤ length (package_at F a) → m ≤ length (package_at F b) → fronts_before F a + n ≡ fronts_before F b + m → a ≡ b
+pub fronts_one : (F : Joined) (a b n m : ℕ) → a < length F.heads → b < length F.heads → n ≤ length (package_at F a)
+    → m ≤ length (package_at F b) → fronts_before F a + n ≡ fronts_before F b + m → a ≡ b
 fronts_one F a b n m la lb sa sb e =
     ⊎_elim
     (λ (same : a ≡ b). same)
@@ -175,7 +179,8 @@ enum_place {F} behind i e at =
     (subst (λ (d : EnumDecl). d.file < length F.heads) (get_or_from_slice_get F.enums i e e at) (behind.enum_files i e l))
     (λ q is. behind.enums e q (contains_at F.enums i e at) is)
 
-pub head_package : (F : Joined) (hs : List Head) (file : ℕ) (h : Head) → hs ≡ F.heads → file < length F.heads → h ≡ get_or hs file h → package_parts h.package ≡ package_at F file
+pub head_package : (F : Joined) (hs : List Head) (file : ℕ) (h : Head) → hs ≡ F.heads → file < length F.heads
+    → h ≡ get_or hs file h → package_parts h.package ≡ package_at F file
 head_package F hs file h e l is = ap package_in (sym (item_at hs F.heads file h e l is))
 
 pub contains_index : (xs : List ℕ) (i d : ℕ) → i < length xs → Contains xs (get_or xs i d)

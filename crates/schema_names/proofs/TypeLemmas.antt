@@ -1,5 +1,6 @@
 -- How types are kept.
-use Rattle.std.proofs.Common.{◌≡◌, ℕ, ◌+◌, ◌<◌, ◌≤◌, ◌⊎◌, ⊎_elim, inl, inr, true, false, cond, List, [], ◌∷◌, ◌++◌, length, Option, Some, None, refl, ap, sym, ◌∙◌, subst, arith}
+use Rattle.std.proofs.Common.{◌≡◌, ℕ, ◌+◌, ◌<◌, ◌≤◌, ◌⊎◌, ⊎_elim, inl, inr, true, false, cond, List, [], ◌∷◌, ◌++◌}
+use Rattle.std.proofs.Common.{length, Option, Some, None, refl, ap, sym, ◌∙◌, subst, arith}
 use Rattle.std.specs.Prelude.{Contains}
 use Rattle.std.specs.Global.{Vec}
 use Rattle.std.specs.Option.{unwrap_or}
@@ -69,14 +70,17 @@ module _ (F : Joined) (a e a' e' : ℕ) (at at' : ℕ → List ℕ → List Decl
       subst (λ (y : List ℕ). Whole l y u file) ps.1 there
 
   -- the new one stands at its key
-  new_key : (other : Named) (t : List (List ℕ)) (o : List ℕ) (u : Span) (l : ℕ) → other ≡ named → StandsAt F other (t ++ o ∷ []) u → IsNumber F t l → (k ≡ l) × (name ≡ o) × (span ≡ u)
+  new_key : (other : Named) (t : List (List ℕ)) (o : List ℕ) (u : Span) (l : ℕ) → other ≡ named
+      → StandsAt F other (t ++ o ∷ []) u → IsNumber F t l → (k ≡ l) × (name ≡ o) × (span ≡ u)
   new_key other t o u l same there n =
       let there2 : StandsAt F named (t ++ o ∷ []) u = subst (λ (x : Named). StandsAt F x (t ++ o ∷ []) u) same there in
       let one = stands_one stands there2 in
       let ps = last_same s t name o one.0 in
       (number_same number (subst (λ (x : List (List ℕ)). IsNumber F x l) (sym ps.0) n), ps.1, one.1)
 
-  type_whole : (other : Named) (t : List (List ℕ)) (o : List ℕ) (u : Span) (l file : ℕ) → (IsAmong a e other) ⊎ (other ≡ named) → StandsAt F other (t ++ o ∷ []) u → IsOfFile F other file → IsNumber F t l → (same_child k name l o ≡ true) ⊎ (same_child k name l o ≡ false) → Whole l o u file
+  type_whole : (other : Named) (t : List (List ℕ)) (o : List ℕ) (u : Span) (l file : ℕ)
+      → (IsAmong a e other) ⊎ (other ≡ named) → StandsAt F other (t ++ o ∷ []) u → IsOfFile F other file
+      → IsNumber F t l → (same_child k name l o ≡ true) ⊎ (same_child k name l o ≡ false) → Whole l o u file
   type_whole other t o u l file (inl old) there of n (inr f) =
       let w = known.whole other t o u l file old there of n in
       (w.0, subst (λ (q : List Declared). Contains q w.0) (sym (adds.others l o f)) w.1, w.2, w.3)
@@ -94,7 +98,9 @@ module _ (F : Joined) (a e a' e' : ℕ) (at at' : ℕ → List ℕ → List Decl
       whole_at l o u file y (v.0, v.1, v.2 ∙ one, omega (arith, v.3, start, starts))
   type_whole other t o u l file (inr same) there of n (inr f) =
       let key = new_key other t o u l same there n in
-      let y : same_child k name l o ≡ true = subst (λ (x : ℕ). same_child k name x o ≡ true) key.0 (subst (λ (x : List ℕ). same_child k name k x ≡ true) key.1 (same_child_itself k name)) in
+      let y : same_child k name l o ≡ true =
+      subst (λ (x : ℕ). same_child k name x o ≡ true) key.0
+      (subst (λ (x : List ℕ). same_child k name k x ≡ true) key.1 (same_child_itself k name)) in
       absurd (let z : true ≡ false = sym y ∙ f in cc)
 
   pub more_types : KnowsTypes F a' e' at'
@@ -131,7 +137,11 @@ pub items_or : (o : Option (Vec Declared)) (v : Vec Declared) → v.items ≡ []
 items_or None v e = sym e
 items_or (Some x) v e = refl
 
-pub adds_first : (old mid new : ℕ → List ℕ → Option (Vec Declared)) (all : Vec Declared) (k : ℕ) (name : List ℕ) (d : Declared) → KeepsFirst (items_of (old k name)) all.items d → ((l : ℕ) (o : List ℕ) → mid l o ≡ cond (same_child k name l o) None (old l o)) → ((l : ℕ) (o : List ℕ) → new l o ≡ cond (same_child k name l o) (Some all) (mid l o)) → Adds (λ l o. items_of (old l o)) (λ l o. items_of (new l o)) k name d
+pub adds_first : (old mid new : ℕ → List ℕ → Option (Vec Declared)) (all : Vec Declared) (k : ℕ) (name : List ℕ)
+    (d : Declared) → KeepsFirst (items_of (old k name)) all.items d
+    → ((l : ℕ) (o : List ℕ) → mid l o ≡ cond (same_child k name l o) None (old l o))
+    → ((l : ℕ) (o : List ℕ) → new l o ≡ cond (same_child k name l o) (Some all) (mid l o))
+    → Adds (λ l o. items_of (old l o)) (λ l o. items_of (new l o)) k name d
 adds_first old mid new all k name d keeps removed inserted = record {
   its_own =
       let e : new k name ≡ Some all = at_true (same_child k name k name) (Some all) (mid k name) (new k name) (same_child_itself k name) (inserted k name) in

@@ -1,4 +1,4 @@
--- What hangs below scopes.
+-- The code's own: what hangs below scopes.
 use Rattle.std.specs.Prelude.{◌≡◌, ℕ, ◌+◌, ◌<◌, ◌≤◌, ◌==◌, Bool, true, false, List, [], ◌∷◌, ◌++◌, length, take, Some, slice_get, Contains, ◌⊎◌, if◌then◌else◌}
 use Rattle.std.specs.Global.{Vec}
 use Rattle.std.proofs.Common.{get_or}

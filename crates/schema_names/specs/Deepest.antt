@@ -1,4 +1,4 @@
--- The longest front of a package that has a name.
+-- The code's own: the longest front of a package that has a name.
 use Rattle.std.specs.Prelude.{◌≡◌, ℕ, ◌+◌, ◌<◌, ◌≤◌, List, [], ◌∷◌, ◌++◌, length, take, Option, Some, None, slice_get, Contains, MatchOption, nat_le, max, if◌then◌else◌}
 use Rattle.proto_file.specs.Joined.{Joined, Sees, package_at}
 use Rattle.proto_file.specs.declared.joined.Home.{Home}

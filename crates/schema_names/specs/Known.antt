@@ -1,4 +1,4 @@
--- Packages that begin with a scope.
+-- The code's own: packages that begin with a scope.
 use Rattle.std.specs.Prelude.{◌≡◌, ℕ, List, ◌++◌}
 use Rattle.proto_file.specs.Joined.{Joined, Sees, package_at}
 

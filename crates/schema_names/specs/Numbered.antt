@@ -1,4 +1,4 @@
--- The numbers of the scopes at the first places, and the packages of the first files.
+-- The code's own: the numbers of the scopes at the first places, and the packages of the first files.
 use Rattle.std.specs.Prelude.{◌≡◌, ℕ, ◌+◌, ◌<◌, ◌≤◌, List, [], ◌∷◌, ◌++◌, length, Option, Some, None, slice_get}
 use Rattle.std.proofs.Common.{get_or}
 use Rattle.proto_file.specs.Joined.{Joined, package_at}

@@ -1,4 +1,4 @@
--- Parts of names, and where each stands last.
+-- The code's own: parts of names, and where each stands last.
 use Rattle.std.specs.Prelude.{◌≡◌, ℕ, ◌<◌, List, Option, Some, slice_get, MatchOption, map, Bool}
 use Rattle.std.specs.Ordering.{nat_cmp, is_eq}
 use Rattle.std.specs.Cmp.Lexicographic.{slice_cmp}

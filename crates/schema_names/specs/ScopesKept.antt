@@ -1,4 +1,4 @@
--- What the names of files keep.
+-- The code's own: what the names of files keep.
 use Rattle.std.specs.Prelude.{length}
 use Rattle.proto_file.specs.Joined.{Joined}
 use Rattle.schema_names.specs.Numbers.{StandBehind}

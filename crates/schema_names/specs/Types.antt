@@ -1,4 +1,4 @@
--- The first declarations of names in scopes, one for each file that has some.
+-- The code's own: the first declarations of names in scopes, one for each file that has some.
 use Rattle.std.specs.Prelude.{◌≡◌, ℕ, ◌<◌, ◌≤◌, false, List, [], ◌∷◌, ◌++◌, Option, Some, None, Contains, ◌⊎◌}
 use Rattle.std.specs.Global.{Vec}
 use Rattle.proto_file.specs.Joined.{Joined}

@@ -1,5 +1,6 @@
 -- What stands against the numbers of fields and values is what their judges meet.
-use Rattle.std.proofs.Common.{◌≡◌, ◌≢◌, ℕ, ◌+◌, ◌^◌, ◌<◌, ◌⊎◌, inl, inr, Bool, true, false, not, ◌||◌, List, [], length, refl, sym, ap, ◌∙◌, eqb-true, subst, arith}
+use Rattle.std.proofs.Common.{◌≡◌, ◌≢◌, ℕ, ◌+◌, ◌^◌, ◌<◌, ◌⊎◌, inl, inr, Bool, true, false, not, ◌||◌, List, []}
+use Rattle.std.proofs.Common.{length, refl, sym, ap, ◌∙◌, eqb-true, subst, arith}
 use Rattle.std.specs.Prelude.{ℤ, pos, ◌==◌, Some, is_some, slice_get, FitsSigned}
 use Rattle.std.specs.Int.{w32}
 use Rattle.std.specs.Ordering.{nat_cmp, is_eq}

@@ -1,5 +1,6 @@
 -- Small files with an offence of each reason, alone and resolved together, and files of which nothing is said.
-use Rattle.std.proofs.Common.{◌≡◌, ℕ, zero, suc, ◌<◌, ◌≤◌, true, false, List, [], ◌∷◌, ◌++◌, length, codes, inr, refl, sym, ap, ◌∙◌, subst, arith, length-append}
+use Rattle.std.proofs.Common.{◌≡◌, ℕ, zero, suc, ◌<◌, ◌≤◌, true, false, List, [], ◌∷◌, ◌++◌, length, codes, inr, refl}
+use Rattle.std.proofs.Common.{sym, ap, ◌∙◌, subst, arith, length-append}
 use Rattle.std.specs.Prelude.{Option, Some, None, Contains, slice_get, pos}
 use Rattle.std.proofs.lemmas.Bool.{false≢true}
 use Rattle.std.proofs.lemmas.Option.{same_Some, none-some}
@@ -25,13 +26,18 @@ use Rattle.proto_file.specs.declared.joined.Home.TheVariants as home
 use Rattle.proto_file.specs.Joined.{Joined, alone, home_of, package_at}
 use Rattle.schema_names.specs.Scopes
 use Rattle.schema_names.specs.Scopes.{text_of, IsScope, of_file, of_message as in_message, Sort, a_message, no_type, is_type, message, Declares, IsFront, Finds}
-use Rattle.schema_offences.specs.Members.{MessageOffends, of_type, of_number, of_name, number_out_of_range, number_met_before, name_reserved, first_not_zero, bad_key, bad_outer_key, scalar_key, misplaced, nested, long_message, no_input, of_value}
+use Rattle.schema_offences.specs.Members.{MessageOffends, of_type, of_number, of_name, number_out_of_range}
+use Rattle.schema_offences.specs.Members.{number_met_before, name_reserved, first_not_zero, bad_key, bad_outer_key}
+use Rattle.schema_offences.specs.Members.{scalar_key, misplaced, nested, long_message, no_input, of_value}
 use Rattle.schema_offences.specs.Lines
 use Rattle.schema_offences.specs.Lines.{HasLine, PassesAt}
 use Rattle.schema_offences.specs.Offences
 use Rattle.schema_offences.specs.Offences.{IsTwice, IsLongInFull, Offends, IsOffence, offends, ComesFirst, HasOffence}
 use Rattle.schema_offences.specs.declared.reason.ResolveReason.{ResolveReason}
-use Rattle.schema_offences.specs.declared.reason.ResolveReason.TheVariants.{UnknownName, NumberRange, DuplicateNumber, DuplicateName, Reserved, FirstEnum, MapKey, MapPlace, Limit, Import as HasImport}
+use Rattle.schema_offences.specs.declared.reason.ResolveReason.TheVariants.{UnknownName, NumberRange, DuplicateNumber}
+use Rattle.schema_offences.specs.declared.reason.ResolveReason.TheVariants.{DuplicateName, Reserved, FirstEnum}
+use Rattle.schema_offences.specs.declared.reason.ResolveReason.TheVariants.{MapKey, MapPlace, Limit}
+use Rattle.schema_offences.specs.declared.reason.ResolveReason.TheVariants.{Import as HasImport}
 use Rattle.schema_offences.proofs.EntryLists.{contains_get}
 
 -- ---- files

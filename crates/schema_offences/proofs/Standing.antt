@@ -26,7 +26,10 @@ use Rattle.schema_offences.specs.Lines.{HasLine, PassesAt}
 use Rattle.schema_offences.specs.Offences
 use Rattle.schema_offences.specs.Offences.{IsTwice, IsLongInFull, Offends, ComesFirst, HasFirst, rank_of}
 use Rattle.schema_offences.specs.declared.reason.ResolveReason.{ResolveReason}
-use Rattle.schema_offences.specs.declared.reason.ResolveReason.TheVariants.{UnknownName, NumberRange, DuplicateNumber, DuplicateName, Reserved, FirstEnum, MapKey, MapPlace, Limit, Import as HasImport}
+use Rattle.schema_offences.specs.declared.reason.ResolveReason.TheVariants.{UnknownName, NumberRange, DuplicateNumber}
+use Rattle.schema_offences.specs.declared.reason.ResolveReason.TheVariants.{DuplicateName, Reserved, FirstEnum}
+use Rattle.schema_offences.specs.declared.reason.ResolveReason.TheVariants.{MapKey, MapPlace, Limit}
+use Rattle.schema_offences.specs.declared.reason.ResolveReason.TheVariants.{Import as HasImport}
 
 -- a name or a number stands here
 abbrev Stands : Joined → Span → Type 0

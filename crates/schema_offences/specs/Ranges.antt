@@ -1,4 +1,4 @@
--- Numbers by their places among those from -2^64 on.
+-- The code's own: numbers by their places among those from -2^64 on.
 use Rattle.std.specs.Prelude.{◌≡◌, ℕ, ℤ, pos, ◌+ℤ◌, ◌^◌, ◌≤◌, max, List, [], ◌∷◌, Option, Some, None, Contains}
 use Rattle.std.specs.List.Sorted.{IsNonDecreasingBy}
 use Rattle.proto_file.specs.declared.file.Number.{Number}

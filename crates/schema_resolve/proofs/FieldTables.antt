@@ -1,5 +1,6 @@
 -- The fields of clean files have forms, and numbers that differ.
-use Rattle.std.proofs.Common.{◌≡◌, ◌≢◌, ℕ, suc, ◌+◌, ◌<◌, ◌≤◌, inl, inr, Bool, true, false, List, [], ◌∷◌, ◌++◌, length, get_or, map, take, Option, Some, None, refl, sym, ap, ◌∙◌, subst, arith}
+use Rattle.std.proofs.Common.{◌≡◌, ◌≢◌, ℕ, suc, ◌+◌, ◌<◌, ◌≤◌, inl, inr, Bool, true, false, List, [], ◌∷◌, ◌++◌}
+use Rattle.std.proofs.Common.{length, get_or, map, take, Option, Some, None, refl, sym, ap, ◌∙◌, subst, arith}
 use Rattle.std.specs.Prelude.{Contains, slice_get, pos, IsTrue}
 use Rattle.mrpc_table.specs.Names.{is_name_form}
 use Rattle.std.specs.Option.{option_map}
@@ -29,7 +30,9 @@ use Rattle.proto_file.specs.Together
 use Rattle.schema_names.specs.Scopes
 use Rattle.schema_names.specs.Scopes.{Sort, a_message, an_enum, no_type, is_type, Names, Finds, text_of, IsScope, of_message}
 use Rattle.schema_offences.specs.Types.{value_of, IsScalar, IsNoScalar, HasType, scalar, message, enum, HasForm, single, a_map}
-use Rattle.schema_offences.specs.Members.{IsUnknown, unknown_key, scalar_key, type_key, nested, labelled, in_oneof, TypeOffends, unknown_type, bad_key, unknown_value, misplaced, IsFieldNumberOf, of_type, of_number, number_out_of_range, number_met_before}
+use Rattle.schema_offences.specs.Members.{IsUnknown, unknown_key, scalar_key, type_key, nested, labelled, in_oneof}
+use Rattle.schema_offences.specs.Members.{TypeOffends, unknown_type, bad_key, unknown_value, misplaced}
+use Rattle.schema_offences.specs.Members.{IsFieldNumberOf, of_type, of_number, number_out_of_range, number_met_before}
 use Rattle.schema_offences.specs.Offences
 use Rattle.schema_offences.specs.declared.reason.ResolveReason.{ResolveReason}
 use Rattle.schema_offences.specs.declared.reason.ResolveReason.TheVariants.{UnknownName, NumberRange, DuplicateNumber, MapKey, MapPlace}

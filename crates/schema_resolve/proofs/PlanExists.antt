@@ -15,7 +15,9 @@ use Rattle.schema_resolve.specs.Placing.{behind, front_of, name_at, AreFronts, I
 use Rattle.schema_resolve.specs.declared.placed.Placed.{Placed}
 use Rattle.schema_resolve.specs.declared.plan.Plan.{Plan}
 use Rattle.schema_resolve.proofs.Orders.{AreKnown, known_none, known_more, number_of, pair_cmp, order_of, order_all, ArePut, put_more, places_of}
-use Rattle.schema_resolve.proofs.CleanFiles.{some_at, AreFirstFronts, fronts_none, fronts_more, fronts_all, messages_more, enums_more, messages_distinct, enums_distinct, few_messages, few_enums}
+use Rattle.schema_resolve.proofs.CleanFiles.{some_at, AreFirstFronts, fronts_none, fronts_more, fronts_all}
+use Rattle.schema_resolve.proofs.CleanFiles.{messages_more, enums_more, messages_distinct, enums_distinct}
+use Rattle.schema_resolve.proofs.CleanFiles.{few_messages, few_enums}
 use Rattle.schema_resolve.proofs.Sorting.{in_order, IsNotAbove, ascends_sorted, either_way}
 use denote.RawPtr.{null_ptr}
 

@@ -1,4 +1,4 @@
--- The values of enums and the methods of services, as a table has them.
+-- The code's own: the values of enums and the methods of services, as a table has them.
 use Rattle.std.specs.Prelude.{◌≡◌, ℕ, ℤ, ◌<◌, List, length, map, slice_get, Some}
 use Rattle.std.specs.Borrow.{Bor}
 use Rattle.mrpc_table.specs.Valid.{Ascends, AreDistinct, IsValueBelow, IsEnum, IsMethod}

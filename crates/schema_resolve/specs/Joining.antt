@@ -1,4 +1,4 @@
--- The oneofs of a message by the order in which they are met, and fields with them.
+-- The code's own: the oneofs of a message by the order in which they are met, and fields with them.
 use Rattle.std.specs.Prelude.{◌≡◌, ℕ, ◌<◌, List, [], ◌∷◌, ◌++◌, length, slice_get, slice_index_or, Option, Some, None}
 use Rattle.mrpc_table.specs.Valid.{IsMessage, OneofsFollow}
 use Rattle.mrpc_table.specs.declared.table.Kind.{Kind}

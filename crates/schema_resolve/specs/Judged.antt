@@ -1,4 +1,4 @@
--- The fields of a message with their numbers and forms.
+-- The code's own: the fields of a message with their numbers and forms.
 use Rattle.std.specs.Prelude.{◌≡◌, ℕ, pos, ◌<◌, List, length, map, slice_get, Some, Contains}
 use Rattle.mrpc_table.specs.Valid.{Ascends, AreDistinct, IsFieldNumber}
 use Rattle.proto_file.specs.declared.file.FieldDecl.{FieldDecl}

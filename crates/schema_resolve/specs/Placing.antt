@@ -1,4 +1,4 @@
--- At which places of a table the names of messages and enums stand.
+-- The code's own: at which places of a table the names of messages and enums stand.
 use Rattle.std.specs.Prelude.{◌≡◌, ℕ, ◌<◌, List, [], ◌∷◌, ◌++◌, length, map, slice_get, slice_index_or, Some, All, Contains}
 use Rattle.mrpc_table.specs.Valid.{Ascends, IsBelow}
 use Rattle.mrpc_table.specs.declared.table.Table.{Table}

@@ -1,5 +1,7 @@
 -- The lines in front of a table's text.
-use Rattle.std.proofs.Common.{◌≡◌, ◌≢◌, ℕ, zero, suc, ◌<◌, ◌==◌, ◌||◌, not, true, List, [], ◌∷◌, ◌++◌, codes, length, get_or, drop, Option, Some, None, Result, Ok, Err, refl, sym, ap, subst, ◌∙◌, append_assoc, arith, inl, inr, eq-eqb}
+use Rattle.std.proofs.Common.{◌≡◌, ◌≢◌, ℕ, zero, suc, ◌<◌, ◌==◌, ◌||◌, not, true, List, [], ◌∷◌, ◌++◌, codes, length}
+use Rattle.std.proofs.Common.{get_or, drop, Option, Some, None, Result, Ok, Err, refl, sym, ap, subst, ◌∙◌}
+use Rattle.std.proofs.Common.{append_assoc, arith, inl, inr, eq-eqb}
 use Rattle.std.specs.Prelude.{option_map}
 use Rattle.std.specs.List.{list_all}
 use Rattle.std.specs.Char.{is_ascii_digit}
@@ -63,7 +65,8 @@ same_tail : (x y : List ℕ) (xs ys : List (List ℕ)) → x ∷ xs ≡ y ∷ ys
 same_tail x y xs ys e = ap (drop 1) e
 
 -- a text begins with one such line at most
-pub one_limit : (word more other rest : List ℕ) (n m : ℕ) → IsNumber word n → IsNumber other m → loads_line word ++ more ≡ loads_line other ++ rest → (word ≡ other) × (n ≡ m) × (more ≡ rest)
+pub one_limit : (word more other rest : List ℕ) (n m : ℕ) → IsNumber word n → IsNumber other m
+    → loads_line word ++ more ≡ loads_line other ++ rest → (word ≡ other) × (n ≡ m) × (more ≡ rest)
 one_limit word more other rest n m number that e =
     let pieces : (codes "loads " ++ word) ∷ pieces_of more ≡ (codes "loads " ++ other) ∷ pieces_of rest =
     sym (limit_pieces word more n number) ∙ ap pieces_of e ∙ limit_pieces other rest m that in
@@ -89,13 +92,15 @@ other_line text line behind cut other word more n number e =
     other word (same_head _ _ (pieces_of behind) (pieces_of more) pieces)
 
 -- its word is no number
-pub no_number : (text line behind word : List ℕ) → pieces_of text ≡ line ∷ pieces_of behind → line ≡ codes "loads " ++ word → None ≡ option_map in_64_bits (number_of word) → IsLimitFault text Word
+pub no_number : (text line behind word : List ℕ) → pieces_of text ≡ line ∷ pieces_of behind
+    → line ≡ codes "loads " ++ word → None ≡ option_map in_64_bits (number_of word) → IsLimitFault text Word
 no_number text line behind word cut is none other more n number e =
     let pieces : line ∷ pieces_of behind ≡ (codes "loads " ++ other) ∷ pieces_of more = sym cut ∙ ap pieces_of e ∙ limit_pieces other more n number in
     let words : word ≡ other = append_cancel_left (codes "loads ") word other (sym is ∙ same_head _ _ (pieces_of behind) (pieces_of more) pieces) in
     (let clash : ◌≡◌ {A = Option Decimal} None (Some (in_64_bits n)) = none ∙ ap (λ w. option_map in_64_bits (number_of w)) words ∙ ap (option_map in_64_bits) number in absurd cc)
 
-pub no_number_of : (text line behind word : List ℕ) → pieces_of text ≡ line ∷ pieces_of behind → line ≡ codes "loads " ++ word → number_of word ≡ None → IsLimitFault text Word
+pub no_number_of : (text line behind word : List ℕ) → pieces_of text ≡ line ∷ pieces_of behind
+    → line ≡ codes "loads " ++ word → number_of word ≡ None → IsLimitFault text Word
 no_number_of text line behind word cut is none = no_number text line behind word cut is (sym (ap (option_map in_64_bits) none))
 
 -- what number its word is
@@ -140,12 +145,16 @@ limit_fault text line behind word d reason cut is number failed =
 -- ---- the head, behind the first line
 
 module _ (first_line : List ℕ) where
-  pub at_second_line : (text second : List ℕ) (reason : ScriptReason) → text ≡ first_line ++ second → ((more : List ℕ) → second ≢ table_line ++ more) → IsLimitFault second reason → IsFrontFault first_line text 2 reason
+  pub at_second_line : (text second : List ℕ) (reason : ScriptReason) → text ≡ first_line ++ second
+      → ((more : List ℕ) → second ≢ table_line ++ more) → IsLimitFault second reason
+      → IsFrontFault first_line text 2 reason
   at_second_line text second Word is other h = no_second_line second is other h refl refl
   at_second_line text second Number is other h = no_limit h.0 h.1 h.2 (is ∙ ap (λ (t : List ℕ). first_line ++ t) h.5) h.3 h.4 refl refl
   at_second_line text second _ is other h = absurd h
 
-  pub at_third_line : (text second third : List ℕ) (loads : ℕ) → text ≡ first_line ++ second → HasLimit second loads third → ((more : List ℕ) → third ≢ table_line ++ more) → IsFrontFault first_line text 3 Word
+  pub at_third_line : (text second third : List ℕ) (loads : ℕ) → text ≡ first_line ++ second
+      → HasLimit second loads third → ((more : List ℕ) → third ≢ table_line ++ more)
+      → IsFrontFault first_line text 3 Word
   at_third_line text second third loads is h other =
       no_third_line h.word third loads (is ∙ ap (λ (t : List ℕ). first_line ++ t) h.text_is) h.number h.limit other refl refl
 

@@ -48,7 +48,8 @@ module _ (first_line : List ℕ) where
   IsFrontFault text line reason = fronts.IsFrontFault first_line text line reason
 
   -- the fault of a table's text is one of the front
-  pub table_fault_of : (text head table : List ℕ) (loads : ℕ) (f : ScriptFault) → IsHead head loads → IsTableBehind head text table → IsTableFault head table f → fronts.IsFaultOf first_line text f
+  pub table_fault_of : (text head table : List ℕ) (loads : ℕ) (f : ScriptFault) → IsHead head loads
+      → IsTableBehind head text table → IsTableFault head table f → fronts.IsFaultOf first_line text f
   table_fault_of text head table loads (fault.At line reason) is_head is (at, why, first, line_is, e) =
       in_table head table loads at why is_head is first line_is e
   table_fault_of text head table loads fault.Memory is_head is h = tt
@@ -61,9 +62,11 @@ module _ (first_line : List ℕ) where
 
   pub data Told (text : List ℕ) (a : Answer) : Type 0 where
     by_head : (line : ℕ) (reason : ScriptReason) → HeadFault text line reason → a ≡ faulty line reason → Told text a
-    by_table : (head : List ℕ) (loads : ℕ) (behind table : List ℕ) (at : ℕ) (why : TableReason) → HasHead text head loads behind → IsTableBehind head text table → IsFirstFault table at why
+    by_table : (head : List ℕ) (loads : ℕ) (behind table : List ℕ) (at : ℕ) (why : TableReason)
+        → HasHead text head loads behind → IsTableBehind head text table → IsFirstFault table at why
         → a ≡ faulty (line_count head + at) (of_table why) → Told text a
-    by_end : (head : List ℕ) (loads : ℕ) (behind : List ℕ) (T : TheTable) → HasHead text head loads behind → IsValid T → text ≡ head ++ table_text T → a ≡ faulty (line_behind text) Word → Told text a
+    by_end : (head : List ℕ) (loads : ℕ) (behind : List ℕ) (T : TheTable) → HasHead text head loads behind → IsValid T
+        → text ≡ head ++ table_text T → a ≡ faulty (line_behind text) Word → Told text a
     by_front : (head : List ℕ) (loads : ℕ) (behind rest : List ℕ) (T : TheTable) → HasHead text head loads behind → IsValid T → HasTableBehind head text (table_text T) rest
         → a ≡ found loads T rest → Told text a
 
@@ -82,22 +85,30 @@ module _ (first_line : List ℕ) where
   whole_table laws head text T valid is = inr (subst (λ (t : List ℕ). IsEndless head t (table_text T)) (sym is) (laws.endless head T valid))
 
   -- two heads of a text are one
-  moved : (text head : List ℕ) (loads : ℕ) (behind other : List ℕ) (limit : ℕ) (more : List ℕ) (P : List ℕ → Type 0) → HasHead text head loads behind → HasHead text other limit more → P head → P other
+  moved : (text head : List ℕ) (loads : ℕ) (behind other : List ℕ) (limit : ℕ) (more : List ℕ) (P : List ℕ → Type 0)
+      → HasHead text head loads behind → HasHead text other limit more → P head → P other
   moved text head loads behind other limit more P h k p = subst P (one.one_head first_line text head loads behind other limit more h k).head_is p
 
-  faults_of_table : (laws : TableLaws) (head text table other : List ℕ) (m n : ℕ) (r q : TableReason) → IsTableBehind head text table → IsTableBehind head text other → IsFirstFault table m r → IsFirstFault other n q → (m ≡ n) × (r ≡ q)
+  faults_of_table : (laws : TableLaws) (head text table other : List ℕ) (m n : ℕ) (r q : TableReason)
+      → IsTableBehind head text table → IsTableBehind head text other → IsFirstFault table m r
+      → IsFirstFault other n q → (m ≡ n) × (r ≡ q)
   faults_of_table laws head text table other m n r q h k first second =
       laws.one_fault other m n r q (subst (λ (t : List ℕ). IsFirstFault t m r) (one_table laws head text table other h k) first) second
 
-  no_table_fault : (laws : TableLaws) (head text table : List ℕ) (T : TheTable) (at : ℕ) (why : TableReason) → IsValid T → IsTableBehind head text (table_text T) → IsTableBehind head text table → IsFirstFault table at why → ⊥
+  no_table_fault : (laws : TableLaws) (head text table : List ℕ) (T : TheTable) (at : ℕ) (why : TableReason)
+      → IsValid T → IsTableBehind head text (table_text T) → IsTableBehind head text table → IsFirstFault table at why
+      → ⊥
   no_table_fault laws head text table T at why valid h k first =
       laws.no_fault T at why valid (subst (λ (t : List ℕ). IsFirstFault t at why) (one_table laws head text table (table_text T) k h) first)
 
   end_or_lines : (laws : TableLaws) (head text rest : List ℕ) (T U : TheTable) → IsValid T → text ≡ head ++ table_text T → HasTableBehind head text (table_text U) rest → ⊥
-  end_or_lines laws head text rest T U valid is h = ended_or_endless head text (table_text U) rest (table_text T) h (subst (λ (t : List ℕ). IsEndless head t (table_text T)) (sym is) (laws.endless head T valid))
+  end_or_lines laws head text rest T U valid is h = ended_or_endless head text (table_text U) rest (table_text T) h
+      (subst (λ (t : List ℕ). IsEndless head t (table_text T)) (sym is) (laws.endless head T valid))
 
   pub one_told : (laws : TableLaws) (text : List ℕ) (a b : Answer) → Told text a → Told text b → a ≡ b
-  one_told laws text a b (by_head m r h e) (by_head n q k f) = let one = one.one_head_fault first_line text m n r q h k in e ∙ ap (λ (l : ℕ). faulty l r) one.0 ∙ ap (faulty n) one.1 ∙ sym f
+  one_told laws text a b (by_head m r h e) (by_head n q k f) = let one =
+      one.one_head_fault first_line text m n r q h k in e ∙ ap (λ (l : ℕ). faulty l r) one.0 ∙ ap (faulty n) one.1
+      ∙ sym f
   one_told laws text a b (by_head m r h e) (by_table head loads behind table at why k is first f) = absurd (one.head_or_fault first_line text head loads behind m r k h)
   one_told laws text a b (by_head m r h e) (by_end head loads behind T k valid is f) = absurd (one.head_or_fault first_line text head loads behind m r k h)
   one_told laws text a b (by_head m r h e) (by_front head loads behind rest T k valid is told) = absurd (one.head_or_fault first_line text head loads behind m r k h)
@@ -105,20 +116,28 @@ module _ (first_line : List ℕ) where
   one_told laws text a b (by_table head loads behind table at why k is first e) (by_table other limit more second place reason h there fault f) =
       let same = one.one_head first_line text head loads behind other limit more k h in
       let one = faults_of_table laws other text table second at place why reason (subst (λ (t : List ℕ). IsTableBehind t text table) same.head_is is) there first fault in
-      e ∙ ap (λ (t : List ℕ). faulty (line_count t + at) (of_table why)) same.head_is ∙ ap (λ (n : ℕ). faulty (line_count other + n) (of_table why)) one.0 ∙ ap (λ (x : TableReason). faulty (line_count other + place) (of_table x)) one.1 ∙ sym f
+      e ∙ ap (λ (t : List ℕ). faulty (line_count t + at) (of_table why)) same.head_is
+      ∙ ap (λ (n : ℕ). faulty (line_count other + n) (of_table why)) one.0
+      ∙ ap (λ (x : TableReason). faulty (line_count other + place) (of_table x)) one.1 ∙ sym f
   one_told laws text a b (by_table head loads behind table at why k is first e) (by_end other limit more T h valid at_end f) =
-      absurd (no_table_fault laws other text table T at why valid (whole_table laws other text T valid at_end) (moved text head loads behind other limit more (λ (t : List ℕ). IsTableBehind t text table) k h is) first)
+      absurd (no_table_fault laws other text table T at why valid (whole_table laws other text T valid at_end)
+      (moved text head loads behind other limit more (λ (t : List ℕ). IsTableBehind t text table) k h is) first)
   one_told laws text a b (by_table head loads behind table at why k is first e) (by_front other limit more rest T h valid there told) =
-      absurd (no_table_fault laws other text table T at why valid (inl (rest, there)) (moved text head loads behind other limit more (λ (t : List ℕ). IsTableBehind t text table) k h is) first)
+      absurd (no_table_fault laws other text table T at why valid (inl (rest, there))
+      (moved text head loads behind other limit more (λ (t : List ℕ). IsTableBehind t text table) k h is) first)
   one_told laws text a b (by_end head loads behind T k valid is e) (by_head m r h f) = absurd (one.head_or_fault first_line text head loads behind m r k h)
   one_told laws text a b (by_end head loads behind T k valid is e) (by_table other limit more table at why h there first f) =
-      absurd (no_table_fault laws head text table T at why valid (whole_table laws head text T valid is) (moved text other limit more head loads behind (λ (t : List ℕ). IsTableBehind t text table) h k there) first)
+      absurd (no_table_fault laws head text table T at why valid (whole_table laws head text T valid is)
+      (moved text other limit more head loads behind (λ (t : List ℕ). IsTableBehind t text table) h k there)
+      first)
   one_told laws text a b (by_end head loads behind T k valid is e) (by_end other limit more U h sound there f) = e ∙ sym f
   one_told laws text a b (by_end head loads behind T k valid is e) (by_front other limit more rest U h sound there told) =
       absurd (end_or_lines laws head text rest T U valid is (moved text other limit more head loads behind (λ (t : List ℕ). HasTableBehind t text (table_text U) rest) h k there))
   one_told laws text a b (by_front head loads behind rest T k valid is told) (by_head m r h f) = absurd (one.head_or_fault first_line text head loads behind m r k h)
   one_told laws text a b (by_front head loads behind rest T k valid is told) (by_table other limit more table at why h there first f) =
-      absurd (no_table_fault laws head text table T at why valid (inl (rest, is)) (moved text other limit more head loads behind (λ (t : List ℕ). IsTableBehind t text table) h k there) first)
+      absurd (no_table_fault laws head text table T at why valid (inl (rest, is))
+      (moved text other limit more head loads behind (λ (t : List ℕ). IsTableBehind t text table) h k there)
+      first)
   one_told laws text a b (by_front head loads behind rest T k valid is told) (by_end other limit more U h sound there f) =
       absurd (end_or_lines laws other text rest U T sound there (moved text head loads behind other limit more (λ (t : List ℕ). HasTableBehind t text (table_text T) rest) k h is))
   one_told laws text a b (by_front head loads behind rest T k valid is told) (by_front other limit more left U h sound there said) =
@@ -129,17 +148,26 @@ module _ (first_line : List ℕ) where
 
   -- ---- what stands at the front, and what is a fault, is told
 
-  canonical_in : (laws : TableLaws) (text head rest : List ℕ) (T : TheTable) → IsValid T → text ≡ head ++ (table_text T ++ (codes "end\n" ++ rest)) → HasTableBehind head text (table_text T) rest
+  canonical_in : (laws : TableLaws) (text head rest : List ℕ) (T : TheTable) → IsValid T
+      → text ≡ head ++ (table_text T ++ (codes "end\n" ++ rest)) → HasTableBehind head text (table_text T) rest
   canonical_in laws text head rest T valid is = subst (λ (t : List ℕ). HasTableBehind head t (table_text T) rest) (sym is) (laws.canonical head rest T valid)
 
   front_told : (laws : TableLaws) (text : List ℕ) (loads : ℕ) (T : TheTable) (behind : List ℕ) → IsFront text loads T behind → Told text (found loads T behind)
   front_told laws text loads T behind h =
-      by_front h.head loads (table_text T ++ (codes "end\n" ++ behind)) behind T (record { is_head = h.is_head; text_is = h.text_is }) h.valid (canonical_in laws text h.head behind T h.valid h.text_is) refl
+      by_front h.head loads (table_text T ++ (codes "end\n" ++ behind)) behind T (record {
+        is_head = h.is_head;
+        text_is = h.text_is;
+      }) h.valid (canonical_in laws text h.head behind T h.valid h.text_is) refl
 
-  table_told : (text head table : List ℕ) (loads at line : ℕ) (why : TableReason) (reason : ScriptReason) → IsHead head loads → IsTableBehind head text table → IsFirstFault table at why → line ≡ line_count head + at → reason ≡ of_table why
+  table_told : (text head table : List ℕ) (loads at line : ℕ) (why : TableReason) (reason : ScriptReason)
+      → IsHead head loads → IsTableBehind head text table → IsFirstFault table at why → line ≡ line_count head + at
+      → reason ≡ of_table why
       → Told text (faulty line reason)
   table_told text head table loads at line why reason is_head (inl h) first e f =
-      by_table head loads (table ++ (codes "end\n" ++ h.0)) table at why (record { is_head = is_head; text_is = h.1.text_is }) (inl h) first (ap (faulty line) f ∙ ap (λ (n : ℕ). faulty n (of_table why)) e)
+      by_table head loads (table ++ (codes "end\n" ++ h.0)) table at why (record {
+        is_head = is_head;
+        text_is = h.1.text_is;
+      }) (inl h) first (ap (faulty line) f ∙ ap (λ (n : ℕ). faulty n (of_table why)) e)
   table_told text head table loads at line why reason is_head (inr k) first e f =
       by_table head loads table table at why (record { is_head = is_head; text_is = k.text_is }) (inr k) first (ap (faulty line) f ∙ ap (λ (n : ℕ). faulty n (of_table why)) e)
 
@@ -208,7 +236,8 @@ module _ (first_line : List ℕ) where
   not_both : (loads : ℕ) (T : TheTable) (x : List ℕ) (line : ℕ) (reason : ScriptReason) → found loads T x ≡ faulty line reason → ⊥
   not_both loads T x line reason e = cc
 
-  pub one_front_each : (laws : TableLaws) (text : List ℕ) (m n : ℕ) (T U : TheTable) (x y : List ℕ) → IsFront text m T x → IsFront text n U y → (m ≡ n) × (T ≡ U) × (x ≡ y)
+  pub one_front_each : (laws : TableLaws) (text : List ℕ) (m n : ℕ) (T U : TheTable) (x y : List ℕ)
+      → IsFront text m T x → IsFront text n U y → (m ≡ n) × (T ≡ U) × (x ≡ y)
   one_front_each laws text m n T U x y h k =
       let e = one_told laws text (found m T x) (found n U y) (front_told laws text m T x h) (front_told laws text n U y k) in
       (same_loads m n T U x y e, same_table m n T U x y e, same_behind m n T U x y e)
@@ -218,14 +247,18 @@ module _ (first_line : List ℕ) where
       let e = one_told laws text (faulty m r) (faulty n q) (fault_told laws text m r h) (fault_told laws text n q k) in
       (same_line m n r q e, same_reason m n r q e)
 
-  pub front_or_fault : (laws : TableLaws) (text : List ℕ) (loads : ℕ) (T : TheTable) (x : List ℕ) (line : ℕ) (reason : ScriptReason) → IsFront text loads T x → IsFrontFault text line reason → ⊥
-  front_or_fault laws text loads T x line reason h k = not_both loads T x line reason (one_told laws text (found loads T x) (faulty line reason) (front_told laws text loads T x h) (fault_told laws text line reason k))
+  pub front_or_fault : (laws : TableLaws) (text : List ℕ) (loads : ℕ) (T : TheTable) (x : List ℕ) (line : ℕ)
+      (reason : ScriptReason) → IsFront text loads T x → IsFrontFault text line reason → ⊥
+  front_or_fault laws text loads T x line reason h k =
+      not_both loads T x line reason (one_told laws text (found loads T x) (faulty line reason)
+      (front_told laws text loads T x h) (fault_told laws text line reason k))
 
 -- what the answer says
 pub only_one : (first text : List ℕ) (r : Result Front ScriptFault)
     → ((f t : List ℕ) (m n : ℕ) (T U : TheTable) (x y : List ℕ) → fronts.IsFront f t m T x → fronts.IsFront f t n U y → (m ≡ n) × (T ≡ U) × (x ≡ y))
     → ((f t : List ℕ) (n : ℕ) (T : TheTable) (x : List ℕ) (line : ℕ) (reason : ScriptReason) → fronts.IsFront f t n T x → fronts.IsFrontFault f t line reason → ⊥)
-    → IfOk r (λ f. fronts.IsFront first text f.loads f.table f.behind.now) → IfErr r (fronts.IsFaultOf first text) → (loads : ℕ) (T : TheTable) (behind : List ℕ) → fronts.IsFront first text loads T behind
+    → IfOk r (λ f. fronts.IsFront first text f.loads f.table f.behind.now) → IfErr r (fronts.IsFaultOf first text)
+    → (loads : ℕ) (T : TheTable) (behind : List ℕ) → fronts.IsFront first text loads T behind
     → MatchResult r (λ f. (f.loads ≡ loads) × (f.table ≡ T) × (f.behind.now ≡ behind)) (λ e. e ≡ fault.Memory)
 only_one first text (Ok f) one either read bad loads T behind h = one first text f.loads loads f.table T f.behind.now behind read h
 only_one first text (Err (fault.At line reason)) one either read bad loads T behind h = absurd (either first text loads T behind line reason h bad)

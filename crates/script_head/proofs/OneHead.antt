@@ -1,5 +1,6 @@
 -- A text has one head, or it is at fault in its first three lines, once.
-use Rattle.std.proofs.Common.{◌≡◌, ◌≢◌, ◌⊎◌, ℕ, List, [], ◌∷◌, ◌++◌, codes, drop, Option, Some, None, refl, sym, ap, subst, ◌∙◌, append_assoc, arith, inl, inr}
+use Rattle.std.proofs.Common.{◌≡◌, ◌≢◌, ◌⊎◌, ℕ, List, [], ◌∷◌, ◌++◌, codes, drop, Option, Some, None, refl, sym, ap}
+use Rattle.std.proofs.Common.{subst, ◌∙◌, append_assoc, arith, inl, inr}
 use Rattle.std.proofs.lemmas.Bool.{cases_lt, cases_eq}
 use Rattle.std.proofs.lemmas.List.{append_cancel_left}
 use Rattle.mrpc_table.specs.Lines.{pieces_of, number_of}
@@ -30,7 +31,8 @@ module _ (first_line : List ℕ) where
         (rest : List ℕ) → text ≡ first_line ++ rest → ((more : List ℕ) → rest ≢ table_line ++ more)
         → ((word more : List ℕ) (n : ℕ) → IsNumber word n → rest ≢ loads_line word ++ more) → line ≡ 2 → reason ≡ Word → HeadFault text line reason
     no_range :
-        (word more : List ℕ) (n : ℕ) → text ≡ first_line ++ (loads_line word ++ more) → IsNumber word n → (IsLimit n → ⊥) → line ≡ 2 → reason ≡ Number → HeadFault text line reason
+        (word more : List ℕ) (n : ℕ) → text ≡ first_line ++ (loads_line word ++ more) → IsNumber word n
+        → (IsLimit n → ⊥) → line ≡ 2 → reason ≡ Number → HeadFault text line reason
     no_third :
         (word rest : List ℕ) (n : ℕ) → text ≡ first_line ++ (loads_line word ++ rest) → IsNumber word n → IsLimit n → ((more : List ℕ) → rest ≢ table_line ++ more)
         → line ≡ 3 → reason ≡ Word → HeadFault text line reason
@@ -40,9 +42,11 @@ module _ (first_line : List ℕ) where
   usual_text : (text head behind : List ℕ) → head ≡ first_line ++ table_line → text ≡ head ++ behind → text ≡ first_line ++ (table_line ++ behind)
   usual_text text head behind e is = is ∙ ap (λ (t : List ℕ). t ++ behind) e ∙ append_assoc first_line table_line behind
 
-  limited_text : (text head behind word : List ℕ) → head ≡ first_line ++ (loads_line word ++ table_line) → text ≡ head ++ behind → text ≡ first_line ++ (loads_line word ++ (table_line ++ behind))
+  limited_text : (text head behind word : List ℕ) → head ≡ first_line ++ (loads_line word ++ table_line)
+      → text ≡ head ++ behind → text ≡ first_line ++ (loads_line word ++ (table_line ++ behind))
   limited_text text head behind word e is =
-      is ∙ ap (λ (t : List ℕ). t ++ behind) e ∙ append_assoc first_line (loads_line word ++ table_line) behind ∙ ap (λ (t : List ℕ). first_line ++ t) (append_assoc (loads_line word) table_line behind)
+      is ∙ ap (λ (t : List ℕ). t ++ behind) e ∙ append_assoc first_line (loads_line word ++ table_line) behind
+      ∙ ap (λ (t : List ℕ). first_line ++ t) (append_assoc (loads_line word) table_line behind)
 
   same_second : (text x y : List ℕ) → text ≡ first_line ++ x → text ≡ first_line ++ y → x ≡ y
   same_second text x y e f = append_cancel_left first_line x y (sym e ∙ f)
@@ -58,7 +62,9 @@ module _ (first_line : List ℕ) where
     pub loads_are : loads ≡ limit
     pub behind_is : behind ≡ more
 
-  one_head_by : (text head : List ℕ) (loads : ℕ) (behind other : List ℕ) (limit : ℕ) (more : List ℕ) → IsHead head loads → IsHead other limit → text ≡ head ++ behind → text ≡ other ++ more → IsSameHead head loads behind other limit more
+  one_head_by : (text head : List ℕ) (loads : ℕ) (behind other : List ℕ) (limit : ℕ) (more : List ℕ)
+      → IsHead head loads → IsHead other limit → text ≡ head ++ behind → text ≡ other ++ more
+      → IsSameHead head loads behind other limit more
   one_head_by text head loads behind other limit more (usual e n) (usual f m) is at = record {
     head_is = e ∙ sym f;
     loads_are = n ∙ sym m;
@@ -69,14 +75,17 @@ module _ (first_line : List ℕ) where
   one_head_by text head loads behind other limit more (limited word e number range) (usual f m) is at =
       absurd (table_or_loads more word (table_line ++ behind) (same_second text _ _ (usual_text text other more f at) (limited_text text head behind word e is)))
   one_head_by text head loads behind other limit more (limited word e number range) (limited spelled f that bound) is at =
-      let one = one_limit word (table_line ++ behind) spelled (table_line ++ more) loads limit number that (same_second text _ _ (limited_text text head behind word e is) (limited_text text other more spelled f at)) in
+      let one = one_limit word (table_line ++ behind) spelled (table_line ++ more) loads limit number that
+      (same_second text _ _ (limited_text text head behind word e is) (limited_text text other more spelled f at))
+      in
       record {
         head_is = e ∙ ap (λ (w : List ℕ). first_line ++ (loads_line w ++ table_line)) one.0 ∙ sym f;
         loads_are = one.1;
         behind_is = append_cancel_left table_line behind more one.2;
       }
 
-  pub one_head : (text head : List ℕ) (loads : ℕ) (behind other : List ℕ) (limit : ℕ) (more : List ℕ) → HasHead text head loads behind → HasHead text other limit more → IsSameHead head loads behind other limit more
+  pub one_head : (text head : List ℕ) (loads : ℕ) (behind other : List ℕ) (limit : ℕ) (more : List ℕ)
+      → HasHead text head loads behind → HasHead text other limit more → IsSameHead head loads behind other limit more
   one_head text head loads behind other limit more h k = one_head_by text head loads behind other limit more h.is_head k.is_head h.text_is k.text_is
 
   -- ---- a head, or a fault
@@ -85,14 +94,16 @@ module _ (first_line : List ℕ) where
   begins_first text head loads behind (usual e n) is = (table_line ++ behind, usual_text text head behind e is)
   begins_first text head loads behind (limited word e number range) is = (loads_line word ++ (table_line ++ behind), limited_text text head behind word e is)
 
-  head_or_second : (text head : List ℕ) (loads : ℕ) (behind rest : List ℕ) → IsHead head loads → text ≡ head ++ behind → text ≡ first_line ++ rest → ((more : List ℕ) → rest ≢ table_line ++ more)
+  head_or_second : (text head : List ℕ) (loads : ℕ) (behind rest : List ℕ) → IsHead head loads → text ≡ head ++ behind
+      → text ≡ first_line ++ rest → ((more : List ℕ) → rest ≢ table_line ++ more)
       → ((word more : List ℕ) (n : ℕ) → IsNumber word n → rest ≢ loads_line word ++ more) → ⊥
   head_or_second text head loads behind rest (usual e n) is at other none = other behind (same_second text rest (table_line ++ behind) at (usual_text text head behind e is))
   head_or_second text head loads behind rest (limited word e number range) is at other none =
       none word (table_line ++ behind) loads number (same_second text rest (loads_line word ++ (table_line ++ behind)) at (limited_text text head behind word e is))
 
   -- the second line of a text with a head, where it says a limit
-  head_and_limit : (text head : List ℕ) (loads : ℕ) (behind word more : List ℕ) (n : ℕ) → IsHead head loads → text ≡ head ++ behind → text ≡ first_line ++ (loads_line word ++ more) → IsNumber word n
+  head_and_limit : (text head : List ℕ) (loads : ℕ) (behind word more : List ℕ) (n : ℕ) → IsHead head loads
+      → text ≡ head ++ behind → text ≡ first_line ++ (loads_line word ++ more) → IsNumber word n
       → (loads ≡ n) × IsLimit loads × (table_line ++ behind ≡ more)
   head_and_limit text head loads behind word more n (usual e m) is at number =
       absurd (table_or_loads behind word more (same_second text (table_line ++ behind) (loads_line word ++ more) (usual_text text head behind e is) at))
@@ -112,11 +123,14 @@ module _ (first_line : List ℕ) where
 
   -- ---- one fault
 
-  same_limits : (text word more other rest : List ℕ) (n m : ℕ) → text ≡ first_line ++ (loads_line word ++ more) → text ≡ first_line ++ (loads_line other ++ rest) → IsNumber word n → IsNumber other m → n ≡ m
+  same_limits : (text word more other rest : List ℕ) (n m : ℕ) → text ≡ first_line ++ (loads_line word ++ more)
+      → text ≡ first_line ++ (loads_line other ++ rest) → IsNumber word n → IsNumber other m → n ≡ m
   same_limits text word more other rest n m is at number that =
       (one_limit word more other rest n m number that (same_second text (loads_line word ++ more) (loads_line other ++ rest) is at)).1
 
-  not_both : (text word rest : List ℕ) (n : ℕ) (second : List ℕ) → text ≡ first_line ++ second → ((spelled more : List ℕ) (m : ℕ) → IsNumber spelled m → second ≢ loads_line spelled ++ more) → text ≡ first_line ++ (loads_line word ++ rest) → IsNumber word n → ⊥
+  not_both : (text word rest : List ℕ) (n : ℕ) (second : List ℕ) → text ≡ first_line ++ second
+      → ((spelled more : List ℕ) (m : ℕ) → IsNumber spelled m → second ≢ loads_line spelled ++ more)
+      → text ≡ first_line ++ (loads_line word ++ rest) → IsNumber word n → ⊥
   not_both text word rest n second is none at number = none word rest n number (same_second text second (loads_line word ++ rest) is at)
 
   pub one_head_fault : (text : List ℕ) (m n : ℕ) (r q : ScriptReason) → HeadFault text m r → HeadFault text n q → (m ≡ n) × (r ≡ q)
@@ -189,7 +203,8 @@ module _ (first_line : List ℕ) where
   abbrev pub IsHeadRead : List ℕ → Type 0
   IsHeadRead text = ((head : List ℕ) × (loads : ℕ) × (behind : List ℕ) × HasHead text head loads behind) ⊎ ((line : ℕ) × (reason : ScriptReason) × HeadFault text line reason)
 
-  second_fault : (text second : List ℕ) (reason : ScriptReason) → text ≡ first_line ++ second → ((more : List ℕ) → second ≢ table_line ++ more) → IsLimitFault second reason → HeadFault text 2 reason
+  second_fault : (text second : List ℕ) (reason : ScriptReason) → text ≡ first_line ++ second
+      → ((more : List ℕ) → second ≢ table_line ++ more) → IsLimitFault second reason → HeadFault text 2 reason
   second_fault text second Word is other h = no_second second is other h refl refl
   second_fault text second Number is other h = no_range h.0 h.1 h.2 (is ∙ ap (λ (t : List ℕ). first_line ++ t) h.5) h.3 h.4 refl refl
   second_fault text second _ is other h = absurd h
@@ -208,7 +223,12 @@ module _ (first_line : List ℕ) where
             table.0,
             record { is_head = limited limit.2.word refl limit.2.number limit.2.limit; text_is = heads.limited_head first_line text first.0 limit.1 table.0 limit.0 first.1 limit.2 table.1 },
           )
-          | inr none ↦ inr (3, Word, no_third limit.2.word limit.1 limit.0 (first.1 ∙ ap (λ (t : List ℕ). first_line ++ t) limit.2.text_is) limit.2.number limit.2.limit none refl refl)
+          | inr none ↦ inr (
+            3,
+            Word,
+            no_third limit.2.word limit.1 limit.0 (first.1 ∙ ap (λ (t : List ℕ). first_line ++ t) limit.2.text_is)
+                limit.2.number limit.2.limit none refl refl,
+          )
         ]
       ]
     ]

@@ -15,7 +15,11 @@ Tests P r x reason = (P × (r ≡ Ok x)) ⊎ ((P → ⊥) × (r ≡ Err reason))
 within_small : (least most n : ℕ) → Tests ((least ≤ n) × (n ≤ most)) (within least most (Small n)) n Number
 within_small least most n =
     elim (cases_Bool (nat_le least n && nat_le n most)) [
-      | inl holds ↦ let parts = and_parts (nat_le least n) (nat_le n most) holds in inl ((leb-true least n parts.0, leb-true n most parts.1), cond-true (nat_le least n && nat_le n most) (Ok n) (Err Number) holds)
+      | inl holds ↦ let parts = and_parts (nat_le least n) (nat_le n most) holds in
+          inl (
+            (leb-true least n parts.0, leb-true n most parts.1),
+            cond-true (nat_le least n && nat_le n most) (Ok n) (Err Number) holds,
+          )
       | inr isnt ↦ inr (
         λ h. false≢true (sym isnt ∙ and_from (nat_le least n) (nat_le n most) (le-leb least n h.0) (le-leb n most h.1)),
         cond-false (nat_le least n && nat_le n most) (Ok n) (Err Number) isnt,

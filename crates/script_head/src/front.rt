@@ -63,7 +63,7 @@ fn front_of<'a>(alloc: Global, text: &'a [u8], first: &[u8]) -> Result<Front<'a>
     })
 }
 
-/// The fault of the line behind these.
+// The fault of the line behind these.
 fn fault_behind(front: &[u8], reason: ScriptReason) -> ScriptFault
     ensures { result ≡ ScriptFault.At (line_behind front.now) reason }
 {
@@ -73,7 +73,7 @@ fn fault_behind(front: &[u8], reason: ScriptReason) -> ScriptFault
     }
 }
 
-/// The table whose text stands behind the head.
+// The table whose text stands behind the head.
 fn table_of(alloc: Global, head: &[u8], text: &[u8]) -> Result<Table, ScriptFault>
     ensures table { IfOk result (λ t. IsValid t × (text.now ≡ table_text t)) }
     ensures fault { IfErr result (IsTableFault head.now text.now) }
@@ -89,7 +89,7 @@ fn table_of(alloc: Global, head: &[u8], text: &[u8]) -> Result<Table, ScriptFaul
     }
 }
 
-/// The fault of a text that has no line `end` behind its head.
+// The fault of a text that has no line `end` behind its head.
 fn endless_fault(alloc: Global, text: &[u8], first: &[u8], head: Head<'_>) -> ScriptFault
     requires head { IsHead first.now head.front.now head.loads }
     requires endless { IsEndless head.front.now text.now head.behind.now }

@@ -8,10 +8,10 @@ use crate::limits::USUAL_LOADS;
 use mrpc_table::{Decimal, MAX_LOADS, cut, number_of};
 use script_words::{ScriptFault, ScriptReason};
 
-/// The line in front of the table's text.
+// The line in front of the table's text.
 const TABLE_LINE: &[u8] = b"table\n";
 
-/// The line that says how many words are loaded for a call at most, up to that number.
+// The line that says how many words are loaded for a call at most, up to that number.
 const LOADS: &[u8] = b"loads ";
 
 /// What stands in front of the table's text.
@@ -47,7 +47,7 @@ pub(crate) fn read_head<'a>(text: &'a [u8], first: &[u8]) -> Result<Head<'a>, Sc
     }
 }
 
-/// The head of a text that has this behind it.
+// The head of a text that has this behind it.
 fn head_before<'a>(text: &'a [u8], loads: u64, behind: &'a [u8]) -> Head<'a>
     requires { length behind.now ≤ length text.now }
     ensures front { (front : List ℕ) → text.now ≡ front ++ behind.now → result.front.now ≡ front }
@@ -67,7 +67,7 @@ fn fault(line: u64, reason: ScriptReason) -> ScriptFault
     ScriptFault::At { line, reason }
 }
 
-/// The limit that a line of its own says, and what stands behind that line.
+// The limit that a line of its own says, and what stands behind that line.
 fn read_limit(text: &[u8]) -> Result<(u64, &[u8]), ScriptReason>
     ensures limit { IfOk result (λ p. HasLimit text.now p.0 p.1.now) }
     ensures fault { IfErr result (IsLimitFault text.now) }
@@ -87,7 +87,7 @@ fn read_limit(text: &[u8]) -> Result<(u64, &[u8]), ScriptReason>
     }
 }
 
-/// The number, where it is in its range.
+// The number, where it is in its range.
 fn within(least: u64, most: u64, number: Decimal) -> Result<u64, ScriptReason>
     ensures { result ≡ within least most number }
 {

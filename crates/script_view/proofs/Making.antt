@@ -1,5 +1,7 @@
 -- What makes one frame after another.
-use Rattle.std.proofs.Common.{◌≡◌, ℕ, ◌+◌, ◌<◌, ◌≤◌, Bool, false, IsTrue, ◌↔◌, inl, inr, arith, List, [], ◌∷◌, ◌++◌, length, drop, codes, refl, sym, ap, subst, ◌∙◌, append_assoc, append-nil, Result, Ok, Err, IfOk, IfErr, Option, Some, IfSome}
+use Rattle.std.proofs.Common.{◌≡◌, ℕ, ◌+◌, ◌<◌, ◌≤◌, Bool, false, IsTrue, ◌↔◌, inl, inr, arith, List, [], ◌∷◌, ◌++◌}
+use Rattle.std.proofs.Common.{length, drop, codes, refl, sym, ap, subst, ◌∙◌, append_assoc, append-nil, Result, Ok}
+use Rattle.std.proofs.Common.{Err, IfOk, IfErr, Option, Some, IfSome}
 use Rattle.std.proofs.lemmas.Bool.{false≢true}
 use Rattle.std.proofs.lemmas.Bool.Decides.{leb_tells}
 use Rattle.mrpc_table.specs.Node.{Node}
@@ -60,7 +62,8 @@ plays_more law T stream from mid to a b c x y p q = record {
 }
 
 -- lines that are too many
-pub large : (T : Table) (before after : Made) (size : ℕ) (f : Frame) (text : List ℕ) (place : ℕ) (word : List ℕ) → PlaysFrame T before f text after → MAX_BODY < size + length text
+pub large : (T : Table) (before after : Made) (size : ℕ) (f : Frame) (text : List ℕ) (place : ℕ) (word : List ℕ)
+    → PlaysFrame T before f text after → MAX_BODY < size + length text
     → place ≡ f.place → word ≡ codes "Size" → IsUnplayable T before size f place word
 large T before after size f text place word (plays_hello kind is same) big at is_word =
     hello_too_large kind (subst (λ (t : List ℕ). MAX_BODY < size + length t) is big) at is_word
@@ -71,13 +74,16 @@ pub plays_on : WalkLaw → (T : Table) (stream : List ℕ) (from mid to : ℕ) (
     → z ≡ x ++ y → Plays T stream from to a z c
 plays_on law T stream from mid to a b c x y z p q is = subst (λ (t : List ℕ). Plays T stream from to a t c) (sym is) (plays_more law T stream from mid to a b c x y p q)
 
-pub if_fault : {A : Type 0} (P Q : ℕ → List ℕ → Type 0) (r : Result A ReadFault) → ((place : ℕ) (word : List ℕ) → P place word → Q place word) → IfErr r (OnFault P) → IfErr r (OnFault Q)
+pub if_fault : {A : Type 0} (P Q : ℕ → List ℕ → Type 0) (r : Result A ReadFault)
+    → ((place : ℕ) (word : List ℕ) → P place word → Q place word) → IfErr r (OnFault P) → IfErr r (OnFault Q)
 if_fault P Q (Ok a) then h = h
 if_fault P Q (Err fault) then h = on_fault P Q fault then h
 
 -- what plays a whole stream, is the script of the input
 pub script_whole : {E : Type 0} → WalkLaw → (text : List ℕ) (T : Table) (stream : List ℕ) (r : Result (List ℕ) E) → Holds text T stream
-    → IfOk r (λ script. (to : ℕ) × (body : List ℕ) × (made : Made) × (length stream ≤ to) × Plays T stream 0 to nothing_made body made × FitsReplay body made × (script ≡ script_text T made.loads body))
+    → IfOk r (λ script. (to : ℕ) × (body : List ℕ) × (made : Made) × (length stream ≤ to)
+    × Plays T stream 0 to nothing_made body made × FitsReplay body made
+    × (script ≡ script_text T made.loads body))
     → IfOk r (IsScriptOf text)
 script_whole law text T stream (Ok script) holds h = record {
   table = T;
@@ -105,7 +111,8 @@ too_many n limit b h failed = elim (leb_tells n limit) [ inl le ↦ absurd (fals
 abbrev pub made_of : List ℕ → ℕ → ℕ → Made
 made_of counts calls loads = record { counts = counts; calls = calls; loads = loads }
 
-pub made_is : {counts counts' : List ℕ} {calls calls' loads loads' : ℕ} → counts ≡ counts' → calls ≡ calls' → loads ≡ loads' → made_of counts calls loads ≡ made_of counts' calls' loads'
+pub made_is : {counts counts' : List ℕ} {calls calls' loads loads' : ℕ} → counts ≡ counts' → calls ≡ calls'
+    → loads ≡ loads' → made_of counts calls loads ≡ made_of counts' calls' loads'
 made_is p q r = λ i. made_of (p i) (q i) (r i)
 
 -- what makes a request or a reply, by what was found of it

@@ -1,5 +1,6 @@
 -- Hexadecimal digits, and the number that they spell.
-use Rattle.std.proofs.Common.{◌≡◌, ℕ, zero, suc, Bool, ◌+◌, ◌*◌, ◌^◌, ◌<◌, ◌≤◌, true, false, cond, List, [], ◌∷◌, length, get_or, take, Some, None, refl, sym, ap, arith}
+use Rattle.std.proofs.Common.{◌≡◌, ℕ, zero, suc, Bool, ◌+◌, ◌*◌, ◌^◌, ◌<◌, ◌≤◌, true, false, cond, List, [], ◌∷◌}
+use Rattle.std.proofs.Common.{length, get_or, take, Some, None, refl, sym, ap, arith}
 use Rattle.std.specs.List.{list_all}
 use Rattle.std.specs.Char.{digit_value}
 use Rattle.std.specs.Str.Parse.{AllDigits, digits_value}
@@ -29,7 +30,8 @@ fifteen_digits ds i all few =
     let is : 16 ^ 15 ≡ 2 ^ 60 = refl in
     omega (arith, value, power, is)
 
-pub word_more : (digits : List ℕ) (i word value : ℕ) → i < length digits → word ≡ digits_value 16 (take i digits) → value ≡ digit_value (get_or digits i 0) → word * 16 + value ≡ digits_value 16 (take (i + 1) digits)
+pub word_more : (digits : List ℕ) (i word value : ℕ) → i < length digits → word ≡ digits_value 16 (take i digits)
+    → value ≡ digit_value (get_or digits i 0) → word * 16 + value ≡ digits_value 16 (take (i + 1) digits)
 word_more digits i word value within so_far here = rw (so_far, here) (sym (digits_value_more 16 digits i within))
 
 -- a byte that is no digit

@@ -5,10 +5,14 @@ use Rattle.std.specs.List.{find}
 use Rattle.std.proofs.lemmas.Option.{same_Some}
 use Rattle.script_words.specs.Keywords.{spelling}
 use Rattle.script_words.specs.declared.keyword.Keyword.{Keyword}
-use Rattle.script_words.specs.declared.keyword.Keyword.TheVariants.{Access, Attach, Burst, Cap, Close, Conn, Count, Deny, Detach, Drain, Hold, Moment, Per, Policy, Quota, Race, Rate, Redact, Send, Store, Submit, Tenant, Turn, Upgrade}
+use Rattle.script_words.specs.declared.keyword.Keyword.TheVariants.{Access, Attach, Burst, Cap, Close, Conn, Count}
+use Rattle.script_words.specs.declared.keyword.Keyword.TheVariants.{Deny, Detach, Drain, Hold, Moment, Per, Policy}
+use Rattle.script_words.specs.declared.keyword.Keyword.TheVariants.{Quota, Race, Rate, Redact, Send, Store, Submit}
+use Rattle.script_words.specs.declared.keyword.Keyword.TheVariants.{Tenant, Turn, Upgrade}
 
 abbrev all_keywords : List Keyword
-all_keywords = Access ∷ Attach ∷ Burst ∷ Cap ∷ Close ∷ Conn ∷ Count ∷ Deny ∷ Detach ∷ Drain ∷ Hold ∷ Moment ∷ Per ∷ Policy ∷ Quota ∷ Race ∷ Rate ∷ Redact ∷ Send ∷ Store ∷ Submit ∷ Tenant ∷ Turn ∷ Upgrade ∷ []
+all_keywords = Access ∷ Attach ∷ Burst ∷ Cap ∷ Close ∷ Conn ∷ Count ∷ Deny ∷ Detach ∷ Drain ∷ Hold ∷ Moment ∷ Per
+    ∷ Policy ∷ Quota ∷ Race ∷ Rate ∷ Redact ∷ Send ∷ Store ∷ Submit ∷ Tenant ∷ Turn ∷ Upgrade ∷ []
 
 abbrev keyword_of : List ℕ → Option Keyword
 keyword_of w = find (λ k. bytes_eq (spelling k) w) all_keywords

@@ -43,7 +43,25 @@ empty_line = refl
 
 rate_said : AreSaid (sorts_of form.Rate) (words_of (codes "policy rl rate 1 per 1000 burst 2 hold"))
     (word keyword.Policy ∷ name (codes "rl") ∷ word keyword.Rate ∷ number 1 ∷ word keyword.Per ∷ number 1000 ∷ word keyword.Burst ∷ number 2 ∷ word keyword.Hold ∷ [])
-rate_said = ((refl, refl), ((refl, record { form = refl; short = omega arith }), ((refl, refl), ((refl, (omega arith, omega arith)), ((refl, refl), ((refl, (omega arith, omega arith)), ((refl, refl), ((refl, (omega arith, omega arith)), ((inl refl, refl), tt)))))))))
+rate_said = (
+  (refl, refl),
+  (
+    (refl, record { form = refl; short = omega arith }),
+    (
+      (refl, refl),
+      (
+        (refl, (omega arith, omega arith)),
+        (
+          (refl, refl),
+          (
+            (refl, (omega arith, omega arith)),
+            ((refl, refl), ((refl, (omega arith, omega arith)), ((inl refl, refl), tt))),
+          ),
+        ),
+      ),
+    ),
+  ),
+)
 
 least_said : Says (Rattle.script_words.specs.declared.sort.Sort.TheVariants.Value) (codes "-9223372036854775808") (number (2 ^ 63))
 least_said = (negative (2 ^ 63), (codes "9223372036854775808", refl, refl), omega arith, refl)

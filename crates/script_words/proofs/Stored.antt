@@ -1,5 +1,6 @@
 -- What the code finds a word to store is what its value is.
-use Rattle.std.proofs.Common.{◌≡◌, ℕ, ◌-◌, ◌%◌, ◌<◌, ◌^◌, ◌==◌, ◌&&◌, Bool, true, false, cond, List, [], ◌∷◌, drop, Option, Some, None, refl, sym, ap, ◌∙◌, subst, eq-eqb, arith}
+use Rattle.std.proofs.Common.{◌≡◌, ℕ, ◌-◌, ◌%◌, ◌<◌, ◌^◌, ◌==◌, ◌&&◌, Bool, true, false, cond, List, [], ◌∷◌, drop}
+use Rattle.std.proofs.Common.{Option, Some, None, refl, sym, ap, ◌∙◌, subst, eq-eqb, arith}
 use Rattle.std.specs.Prelude.{nat_le, nat_lt, option_map}
 use Rattle.std.specs.Str.Parse.{digits_value}
 use Rattle.std.proofs.lemmas.Bool.{and_parts, leb-true, eqb-true, ltb-true, ltb-false, false≢true}
@@ -70,7 +71,8 @@ hexadecimal_found digits = hexadecimal_by digits (are_hexadecimal digits) refl
 
 -- ---- each word
 
-only_plain : (c : ℕ) (cs : List ℕ) → (c ≡ 45 → ⊥) → ((ds : List ℕ) → c ≡ 48 → cs ≡ 120 ∷ ds → ⊥) → (v : Value) → IsValue (c ∷ cs) v → (n : ℕ) × IsNumber (c ∷ cs) n
+only_plain : (c : ℕ) (cs : List ℕ) → (c ≡ 45 → ⊥) → ((ds : List ℕ) → c ≡ 48 → cs ≡ 120 ∷ ds → ⊥) → (v : Value)
+    → IsValue (c ∷ cs) v → (n : ℕ) × IsNumber (c ∷ cs) n
 only_plain c cs minus x (plain n) h = (n, h)
 only_plain c cs minus x (negative n) h = absurd (minus (first_byte c 45 cs h.0 h.1))
 only_plain c cs minus x (hexadecimal ds) h = absurd (x ds (first_byte c 48 cs (120 ∷ ds) h.0) (ap (drop 1) h.0))

@@ -1,5 +1,6 @@
 -- Words of sorts, one after another: what they say, and the first reason against them.
-use Rattle.std.proofs.Common.{◌≡◌, ◌≢◌, ◌⊎◌, ℕ, ◌+◌, ◌<◌, ◌≤◌, Bool, true, false, cond, List, [], ◌∷◌, ◌++◌, length, take, drop, get_or, Option, Some, None, refl, sym, ap, ◌∙◌, subst, inl, inr, arith}
+use Rattle.std.proofs.Common.{◌≡◌, ◌≢◌, ◌⊎◌, ℕ, ◌+◌, ◌<◌, ◌≤◌, Bool, true, false, cond, List, [], ◌∷◌, ◌++◌, length}
+use Rattle.std.proofs.Common.{take, drop, get_or, Option, Some, None, refl, sym, ap, ◌∙◌, subst, inl, inr, arith}
 use Rattle.std.specs.Prelude.{nat_le}
 use Rattle.std.proofs.lemmas.Bool.{leb-true}
 use Rattle.std.proofs.lemmas.List.{map_push, take_all, take_more, length-take}
@@ -108,7 +109,8 @@ offends_front (x ∷ xs) [] s w r h = absurd h
 offends_front (x ∷ xs) (y ∷ ys) s w r (inl here) = inl here
 offends_front (x ∷ xs) (y ∷ ys) s w r (inr more) = inr (offends_front xs ys s w r more)
 
-offends_back : (sorts : List Sort) (ws : List (List ℕ)) (s : Sort) (w : List ℕ) (r : ScriptReason) → length ws ≡ length sorts → Offends s w r → OneOffends (sorts ++ s ∷ []) (ws ++ w ∷ []) r
+offends_back : (sorts : List Sort) (ws : List (List ℕ)) (s : Sort) (w : List ℕ) (r : ScriptReason)
+    → length ws ≡ length sorts → Offends s w r → OneOffends (sorts ++ s ∷ []) (ws ++ w ∷ []) r
 offends_back [] [] s w r e h = inl h
 offends_back [] (y ∷ ys) s w r e h = absurd (omega (arith, e))
 offends_back (x ∷ xs) [] s w r e h = absurd (omega (arith, e))
@@ -135,7 +137,8 @@ abbrev pub IsState : List Sort → List (List ℕ) → List Said → Option Scri
 IsState sorts ws said None = AreSaid sorts ws (meanings_of said)
 IsState sorts ws said (Some r) = IsFirst (OneOffends sorts ws) r
 
-first_here : (sorts : List Sort) (ws : List (List ℕ)) (ms : List Meaning) (s : Sort) (w : List ℕ) (r : ScriptReason) → length ws ≡ length sorts → AreSaid sorts ws ms → Offends s w r
+first_here : (sorts : List Sort) (ws : List (List ℕ)) (ms : List Meaning) (s : Sort) (w : List ℕ) (r : ScriptReason)
+    → length ws ≡ length sorts → AreSaid sorts ws ms → Offends s w r
     → IsFirst (OneOffends (sorts ++ s ∷ []) (ws ++ w ∷ [])) r
 first_here sorts ws ms s w r e h o = record {
   stands = offends_back sorts ws s w r e o;
@@ -145,7 +148,8 @@ first_here sorts ws ms s w r e h o = record {
   ];
 }
 
-first_stays : (sorts : List Sort) (ws : List (List ℕ)) (s : Sort) (w : List ℕ) (m : Meaning) (r : ScriptReason) → length ws ≡ length sorts → IsFirst (OneOffends sorts ws) r → Says s w m
+first_stays : (sorts : List Sort) (ws : List (List ℕ)) (s : Sort) (w : List ℕ) (m : Meaning) (r : ScriptReason)
+    → length ws ≡ length sorts → IsFirst (OneOffends sorts ws) r → Says s w m
     → IsFirst (OneOffends (sorts ++ s ∷ []) (ws ++ w ∷ [])) r
 first_stays sorts ws s w m r e h one = record {
   stands = offends_front sorts ws s w r h.stands;
@@ -155,7 +159,8 @@ first_stays sorts ws s w m r e h one = record {
   ];
 }
 
-first_kept : (sorts : List Sort) (ws : List (List ℕ)) (s : Sort) (w : List ℕ) (r q : ScriptReason) → length ws ≡ length sorts → IsFirst (OneOffends sorts ws) r → Offends s w q → order_of r ≤ order_of q
+first_kept : (sorts : List Sort) (ws : List (List ℕ)) (s : Sort) (w : List ℕ) (r q : ScriptReason)
+    → length ws ≡ length sorts → IsFirst (OneOffends sorts ws) r → Offends s w q → order_of r ≤ order_of q
     → IsFirst (OneOffends (sorts ++ s ∷ []) (ws ++ w ∷ [])) r
 first_kept sorts ws s w r q e h o before = record {
   stands = offends_front sorts ws s w r h.stands;
@@ -165,7 +170,8 @@ first_kept sorts ws s w r q e h o before = record {
   ];
 }
 
-first_new : (sorts : List Sort) (ws : List (List ℕ)) (s : Sort) (w : List ℕ) (r q : ScriptReason) → length ws ≡ length sorts → IsFirst (OneOffends sorts ws) r → Offends s w q → order_of q ≤ order_of r
+first_new : (sorts : List Sort) (ws : List (List ℕ)) (s : Sort) (w : List ℕ) (r q : ScriptReason)
+    → length ws ≡ length sorts → IsFirst (OneOffends sorts ws) r → Offends s w q → order_of q ≤ order_of r
     → IsFirst (OneOffends (sorts ++ s ∷ []) (ws ++ w ∷ [])) q
 first_new sorts ws s w r q e h o before = record {
   stands = offends_back sorts ws s w q e o;
@@ -219,7 +225,8 @@ pub whole_said : (sorts : List Sort) (ws : List (List ℕ)) (said : List Said) (
     → IsState (take i sorts) (take i ws) said first → first ≡ None → AreSaid sorts ws (meanings_of said)
 whole_said sorts ws said first i past few state none = subst (IsState sorts ws said) none (state_of_all sorts ws said first i past few state)
 
-pub whole_first : (sorts : List Sort) (ws : List (List ℕ)) (said : List Said) (first : Option ScriptReason) (i : ℕ) (r : ScriptReason) → length sorts ≤ i → length ws ≤ i → i ≤ length ws → i ≤ length sorts
+pub whole_first : (sorts : List Sort) (ws : List (List ℕ)) (said : List Said) (first : Option ScriptReason) (i : ℕ)
+    (r : ScriptReason) → length sorts ≤ i → length ws ≤ i → i ≤ length ws → i ≤ length sorts
     → IsState (take i sorts) (take i ws) said first → first ≡ Some r → IsFirst (IsAgainst sorts ws) r
 whole_first sorts ws said first i r past few within to state some =
     first_word_at_fault sorts ws r (omega (arith, past, few, within, to)) (subst (IsState sorts ws said) some (state_of_all sorts ws said first i past few state))
@@ -228,7 +235,8 @@ whole_first sorts ws said first i r past few within to state some =
 pub next_sort : (sorts : List Sort) (i : ℕ) (d : Sort) → i < length sorts → take (i + 1) sorts ≡ take i sorts ++ get_or sorts i d ∷ []
 next_sort sorts i d within = take_more sorts i d within
 
-pub state_next : (sorts : List Sort) (ws : List (List ℕ)) (i : ℕ) (s : Sort) (w : List ℕ) (said : List Said) (first : Option ScriptReason) → take (i + 1) sorts ≡ take i sorts ++ s ∷ []
+pub state_next : (sorts : List Sort) (ws : List (List ℕ)) (i : ℕ) (s : Sort) (w : List ℕ) (said : List Said)
+    (first : Option ScriptReason) → take (i + 1) sorts ≡ take i sorts ++ s ∷ []
     → take (i + 1) ws ≡ take i ws ++ w ∷ [] → IsState (take i sorts ++ s ∷ []) (take i ws ++ w ∷ []) said first → IsState (take (i + 1) sorts) (take (i + 1) ws) said first
 state_next sorts ws i s w said first e f h =
     subst (λ (xs : List Sort). IsState xs (take (i + 1) ws) said first) (sym e) (subst (λ (xs : List (List ℕ)). IsState (take i sorts ++ s ∷ []) xs said first) (sym f) h)

@@ -1,5 +1,6 @@
 -- The words of a line, one after another.
-use Rattle.std.proofs.Common.{◌≡◌, ℕ, ◌+◌, ◌<◌, ◌≤◌, ◌==◌, Bool, true, false, cond, not, List, [], ◌∷◌, ◌++◌, length, get_or, take, drop, Option, Some, None, refl, sym, ap, ◌∙◌, inl, inr, arith}
+use Rattle.std.proofs.Common.{◌≡◌, ℕ, ◌+◌, ◌<◌, ◌≤◌, ◌==◌, Bool, true, false, cond, not, List, [], ◌∷◌, ◌++◌, length}
+use Rattle.std.proofs.Common.{get_or, take, drop, Option, Some, None, refl, sym, ap, ◌∙◌, inl, inr, arith}
 use Rattle.std.specs.Borrow.{Bor}
 use Rattle.std.specs.Prelude.{is_some}
 use Rattle.std.specs.List.{onto_first}
@@ -24,7 +25,8 @@ has_word (x ∷ xs) =
 -- ---- the form
 
 -- the words end before the sorts
-pub form_short : (sorts : List Sort) (i : ℕ) (rest : Option (Bor (List ℕ))) (b : Bool) → i < length sorts → rest ≡ None → has_form (drop i sorts) (words_in rest) ≡ b → false ≡ b
+pub form_short : (sorts : List Sort) (i : ℕ) (rest : Option (Bor (List ℕ))) (b : Bool) → i < length sorts
+    → rest ≡ None → has_form (drop i sorts) (words_in rest) ≡ b → false ≡ b
 form_short sorts i rest b within none so_far =
     let front = drop_more sorts i Unbounded within in
     sym (ap (λ (x : List Sort). has_form x (words_in rest)) front ∙ ap (λ r. has_form (get_or sorts i Unbounded ∷ drop (i + 1) sorts) (words_in r)) none) ∙ so_far
@@ -40,7 +42,8 @@ not_not false true e = refl
 not_not false false e = absurd cc
 
 -- the sorts end
-pub form_end : (sorts : List Sort) (i : ℕ) (rest : Option (Bor (List ℕ))) (none b : Bool) → length sorts ≤ i → is_some rest ≡ not none → has_form (drop i sorts) (words_in rest) ≡ b → none ≡ b
+pub form_end : (sorts : List Sort) (i : ℕ) (rest : Option (Bor (List ℕ))) (none b : Bool) → length sorts ≤ i
+    → is_some rest ≡ not none → has_form (drop i sorts) (words_in rest) ≡ b → none ≡ b
 form_end sorts i rest none b past is so_far =
     not_not (is_some rest) none is ∙ form_end_by rest ∙ sym (ap (λ (x : List Sort). has_form x (words_in rest)) (drop_all i sorts past)) ∙ so_far
 

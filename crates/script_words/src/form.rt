@@ -75,10 +75,10 @@ const FORMS: [Form; 19] = [
     Form::Close,
 ];
 
-/// The number of a connection.
+// The number of a connection.
 const CONN: Sort = Sort::Number { least: 1, most: 16 };
 
-/// Any number of 64 bits.
+// Any number of 64 bits.
 const NUMBER: Sort = Sort::Number {
     least: 0,
     most: u64::MAX,
@@ -89,13 +89,13 @@ const METHOD: Sort = Sort::Number {
     most: 65535,
 };
 
-/// The number of the request to which a reply belongs.
+// The number of the request to which a reply belongs.
 const REQUEST: Sort = Sort::Number {
     least: 1,
     most: 0xffff_ffff,
 };
 
-/// A moment in milliseconds.
+// A moment in milliseconds.
 const MOMENT: Sort = Sort::Number {
     least: 0,
     most: 1 << 53,
@@ -106,13 +106,13 @@ const WORDS: Sort = Sort::Number {
     most: MAX_HEAP,
 };
 
-/// The milliseconds of a window, or of a rate.
+// The milliseconds of a window, or of a rate.
 const MILLISECONDS: Sort = Sort::Number {
     least: 1,
     most: 86_400_000,
 };
 
-/// How many calls.
+// How many calls.
 const CALLS: Sort = Sort::Number {
     least: 1,
     most: 1_000_000,
@@ -199,8 +199,8 @@ impl Form {
     }
 }
 
-/// Whether a word may stand where one of this sort stands in a form: it is the one by which the form is known, if it
-/// has to be.
+// Whether a word may stand where one of this sort stands in a form: it is the one by which the form is known, if it
+// has to be.
 fn fits_key(sort: Sort, word: &[u8]) -> bool
     ensures { result ≡ fits_key sort word.now }
 {
@@ -210,7 +210,7 @@ fn fits_key(sort: Sort, word: &[u8]) -> bool
     }
 }
 
-/// Whether a line is of the form of these sorts: it has as many words, and those by which the form is known.
+// Whether a line is of the form of these sorts: it has as many words, and those by which the form is known.
 fn has_form(sorts: &[Sort], line: &[u8]) -> bool
     ensures { result ≡ has_form sorts.now (words_of line.now) }
 {

@@ -93,7 +93,7 @@ fn named<'a>(word: &'a [u8]) -> Result<Said<'a>, ScriptReason>
     }
 }
 
-/// What a word of a sort says, or the reason against it.
+// What a word of a sort says, or the reason against it.
 fn said_by<'a>(sort: Sort, word: &'a [u8]) -> Result<Said<'a>, ScriptReason>
     ensures { MatchResult result (λ s. Says sort word.now (meaning_of s)) (Offends sort word.now) }
 {
@@ -108,7 +108,7 @@ fn said_by<'a>(sort: Sort, word: &'a [u8]) -> Result<Said<'a>, ScriptReason>
     }
 }
 
-/// The first of the reasons so far and one more.
+// The first of the reasons so far and one more.
 fn earlier(so_far: Option<ScriptReason>, reason: ScriptReason) -> ScriptReason
     ensures { result ≡ earlier so_far reason }
 {

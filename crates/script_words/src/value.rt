@@ -7,7 +7,7 @@ ghost use Rattle.script_words.specs.Reading.{negated, hexadecimal_in, value_in};
 
 use mrpc_table::{Decimal, number_of};
 
-/// A number below zero in two's complement, down to -2^63.
+// A number below zero in two's complement, down to -2^63.
 fn negated(number: Decimal) -> Decimal
     ensures { result ≡ negated number }
 {
@@ -17,7 +17,7 @@ fn negated(number: Decimal) -> Decimal
     }
 }
 
-/// The value of a lower-case hexadecimal digit.
+// The value of a lower-case hexadecimal digit.
 fn hexadecimal_digit(byte: u8) -> Option<u64>
     ensures { result ≡ (if is_hexadecimal byte then Some (digit_value byte) else None) }
 {
@@ -28,7 +28,7 @@ fn hexadecimal_digit(byte: u8) -> Option<u64>
     }
 }
 
-/// The number that 1 to 16 hexadecimal digits spell.
+// The number that 1 to 16 hexadecimal digits spell.
 fn hexadecimal(digits: &[u8]) -> Option<Decimal>
     ensures { result ≡ hexadecimal_in digits.now }
 {

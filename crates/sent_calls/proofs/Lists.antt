@@ -35,7 +35,9 @@ none-kept p (x ∷ xs) h =
 pub none-left : {A : Type 0} (p : A → Bool) (xs : List A) → filter p xs ≡ [] → All (λ x. p x ≡ false) xs
 none-left p [] e = All-nil (λ x. p x ≡ false)
 none-left {A} p (x ∷ xs) e =
-    let given : (b : Bool) → p x ≡ b → cond b (x ∷ filter p xs) (filter p xs) ≡ [] → All (λ y. p y ≡ false) (x ∷ xs) = λ b. elim b as (λ b. p x ≡ b → cond b (x ∷ filter p xs) (filter p xs) ≡ [] → All (λ y. p y ≡ false) (x ∷ xs)) [
+    let given : (b : Bool) → p x ≡ b → cond b (x ∷ filter p xs) (filter p xs) ≡ [] → All (λ y. p y ≡ false) (x ∷ xs) =
+    λ b. elim b as (λ b. p x ≡ b → cond b (x ∷ filter p xs) (filter p xs) ≡ []
+    → All (λ y. p y ≡ false) (x ∷ xs)) [
       | true ↦ λ yes some. absurd (omega (arith, ap length some))
       | false ↦ λ no none. All-cons (λ y. p y ≡ false) x xs no (none-left p xs none)
     ] in
@@ -52,7 +54,9 @@ pub first-kept : {A : Type 0} (p : A → Bool) (xs others : List A) (first : A) 
     → First p xs first
 first-kept p [] others first e = absurd (omega (arith, ap length e))
 first-kept {A} p (x ∷ xs) others first e =
-    let given : (b : Bool) → p x ≡ b → cond b (x ∷ filter p xs) (filter p xs) ≡ first ∷ others → First p (x ∷ xs) first = λ b. elim b as (λ b. p x ≡ b → cond b (x ∷ filter p xs) (filter p xs) ≡ first ∷ others → First p (x ∷ xs) first) [
+    let given : (b : Bool) → p x ≡ b → cond b (x ∷ filter p xs) (filter p xs) ≡ first ∷ others
+    → First p (x ∷ xs) first = λ b. elim b as (λ b. p x ≡ b
+    → cond b (x ∷ filter p xs) (filter p xs) ≡ first ∷ others → First p (x ∷ xs) first) [
       | true ↦ λ yes some.
           let same : x ≡ first = cc in
           record { front = []; back = xs; order = ap (λ (y : A). y ∷ xs) same; gone = All-nil (λ y. p y ≡ false) }

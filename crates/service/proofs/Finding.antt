@@ -1,5 +1,6 @@
 -- What is found in a list by a number, and how many distinct numbers there are below another.
-use Rattle.std.proofs.Common.{◌≡◌, ℕ, ◌<◌, ◌≤◌, ◌==◌, zero, suc, Bool, true, false, cond, List, [], ◌∷◌, length, map, Option, Some, refl, subst, sym, ◌∙◌, arith, Contains, inl, inr}
+use Rattle.std.proofs.Common.{◌≡◌, ℕ, ◌<◌, ◌≤◌, ◌==◌, zero, suc, Bool, true, false, cond, List, [], ◌∷◌, length, map}
+use Rattle.std.proofs.Common.{Option, Some, refl, subst, sym, ◌∙◌, arith, Contains, inl, inr}
 use Rattle.mrpc_table.specs.Valid.{AreDistinct}
 use Rattle.std.specs.List.{AllByRecursion, IsDistinct, find}
 use Rattle.std.proofs.Math.Dec.{eqb}

@@ -1,4 +1,4 @@
-// Lists that have two items of each pair.
+//! Lists that have two items of each pair.
 
 ghost use Rattle.std.specs.Prelude.{◌≡◌, [], ◌∷◌, ◌++◌, OnOk};
 

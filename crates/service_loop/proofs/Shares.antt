@@ -1,5 +1,6 @@
 -- The share of a connection behind a visit.
-use Rattle.std.proofs.Common.{◌≡◌, ◌≤◌, ◌<◌, ◌+◌, ◌-◌, ◌^◌, ◌⊎◌, inl, inr, ℕ, Bool, true, false, nat_lt, Option, None, Some, ap, refl, sym, subst, ◌∙◌, arith}
+use Rattle.std.proofs.Common.{◌≡◌, ◌≤◌, ◌<◌, ◌+◌, ◌-◌, ◌^◌, ◌⊎◌, inl, inr, ℕ, Bool, true, false, nat_lt, Option, None}
+use Rattle.std.proofs.Common.{Some, ap, refl, sym, subst, ◌∙◌, arith}
 use Rattle.std.proofs.lemmas.Bool.{lt-ltb}
 use Rattle.std.specs.Prelude.{IfSome}
 use Rattle.qos_order.specs.Account.{Fits, IsBalanced, IsWeight, Visit, granted, kept_of, new_account, visited}

@@ -1,5 +1,6 @@
 -- What holds of a connection holds again behind each part of a round.
-use Rattle.std.proofs.Common.{◌≡◌, ◌≢◌, ◌≤◌, ◌<◌, ◌^◌, ◌⊎◌, inl, inr, ℕ, Bool, true, false, List, [], ◌++◌, length, refl, sym, subst, ◌∙◌, append-nil}
+use Rattle.std.proofs.Common.{◌≡◌, ◌≢◌, ◌≤◌, ◌<◌, ◌^◌, ◌⊎◌, inl, inr, ℕ, Bool, true, false, List, [], ◌++◌, length}
+use Rattle.std.proofs.Common.{refl, sym, subst, ◌∙◌, append-nil}
 use Rattle.std.specs.Prelude.{All, IsTrue}
 use Rattle.mrpc_base.specs.Faults.{HasCause}
 use Rattle.mrpc_base.specs.declared.clock.Clock.{Ghosts as ClockMembers}

@@ -1,5 +1,7 @@
 -- The steps on a connection: what lines stand for, and what follows from the plan.
-use Rattle.std.proofs.Common.{◌≡◌, ℕ, suc, ◌+◌, ◌<◌, ◌≤◌, ◌^◌, Bool, true, false, List, [], ◌∷◌, ◌++◌, map, length, drop, get_or, add-one, Option, Some, None, cond, refl, sym, ap, subst, ◌∙◌, arith, append_assoc, append-nil, length-append}
+use Rattle.std.proofs.Common.{◌≡◌, ℕ, suc, ◌+◌, ◌<◌, ◌≤◌, ◌^◌, Bool, true, false, List, [], ◌∷◌, ◌++◌, map, length}
+use Rattle.std.proofs.Common.{drop, get_or, add-one, Option, Some, None, cond, refl, sym, ap, subst, ◌∙◌, arith}
+use Rattle.std.proofs.Common.{append_assoc, append-nil, length-append}
 use Rattle.std.specs.Prelude.{◌==◌, All, IsSome, IfSome, slice_get, unwrap_or, option_map, option_and_then}
 use Rattle.std.specs.List.{find}
 use Rattle.std.proofs.lemmas.List.{drop_all, length-map, map-append}
@@ -17,7 +19,9 @@ use Rattle.engine_core.specs.declared.policy.Policy.TheVariants.{Access, Redact}
 use Rattle.conn_core.specs.Steps.{IfPolicy}
 use Rattle.policy_blocks.specs.Declarations.{IsSound}
 use Rattle.policy_blocks.specs.declared.item.NamedPolicy.{NamedPolicy}
-use Rattle.run_plan.specs.Chains.{Changing, SaysTheSame, attaching, attachment_of, chained, empty_chain, label_at, lines_on, op_of, operator_in, own_policy_in, policy_at, policy_by, policy_of, steps_in, steps_on, with_policy}
+use Rattle.run_plan.specs.Chains.{Changing, SaysTheSame, attaching, attachment_of, chained, empty_chain, label_at}
+use Rattle.run_plan.specs.Chains.{lines_on, op_of, operator_in, own_policy_in, policy_at, policy_by, policy_of}
+use Rattle.run_plan.specs.Chains.{steps_in, steps_on, with_policy}
 use Rattle.run_plan.specs.Plans.{IsApplication, IsOperator, IsOwnPolicy, IsOwnSchema, IsPlan}
 use Rattle.run_plan.specs.declared.application.Application.{Application}
 use Rattle.run_plan.specs.declared.application.OwnPolicy.{OwnPolicy}

@@ -1,4 +1,4 @@
-// The rings between an application and the service.
+//! The rings between an application and the service.
 
 ghost use Rattle.std.specs.Prelude.{◌≤◌, IfOk};
 ghost use Rattle.descriptor_ring.specs.declared.limits.TheConstants.{MAX_CAPACITY};

@@ -1,4 +1,4 @@
-// The port of an application, and the service's ends of it.
+//! The port of an application, and the service's ends of it.
 
 ghost use Rattle.std.specs.Prelude.{IfOk};
 ghost use Rattle.run_plan.specs.Ports.{IsPort};

@@ -1,4 +1,4 @@
-// How many blocks an application gives back by its program.
+//! How many blocks an application gives back by its program.
 
 ghost use Rattle.std.specs.Prelude.{◌≡◌, ◌<◌, ◌≤◌, ◌^◌, ℕ, length};
 ghost use Rattle.app_program.specs.Programs.{line_reclaims, reclaims_of};

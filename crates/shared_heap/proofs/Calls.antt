@@ -26,7 +26,8 @@ has_loaded old new (load ∷ loads) h =
     let next = h.0 in
     let one = h.1 in
     let rest = has_loaded next new loads h.2 in
-    let first : map word_of next.loads ≡ map word_of old.loads ++ load ∷ [] = ap (map word_of) one.loads ∙ map-append word_of old.loads (load_of load.0 load.1 (length old.known) ∷ []) in
+    let first : map word_of next.loads ≡ map word_of old.loads ++ load ∷ [] =
+    ap (map word_of) one.loads ∙ map-append word_of old.loads (load_of load.0 load.1 (length old.known) ∷ []) in
     record {
       heap = rest.heap ∙ one.heap;
       loads = rest.loads ∙ ap (λ l. l ++ loads) first ∙ append_assoc (map word_of old.loads) (load ∷ []) loads;
@@ -39,7 +40,8 @@ abbrev at : ℕ → ℕ × ℕ → Load
 at after word = load_of word.0 word.1 after
 
 -- the loads of one more call, made one after the other
-numbered_call : (made : List Load) (after : ℕ) (old new : Reading) (loads : List (ℕ × ℕ)) → AreNumbered made old.known → after ≤ length old.known → AfterLoads AfterLoad old loads new
+numbered_call : (made : List Load) (after : ℕ) (old new : Reading) (loads : List (ℕ × ℕ)) → AreNumbered made old.known
+    → after ≤ length old.known → AfterLoads AfterLoad old loads new
     → AreNumbered (made ++ map (at after) loads) new.known
 numbered_call made after old new [] f knew h =
     subst (λ l. AreNumbered l new.known) (sym (append-nil made)) (subst (λ (r : Reading). AreNumbered made r.known) (sym h) f)
@@ -48,7 +50,8 @@ numbered_call made after old new (load ∷ loads) f knew h =
     let one = h.1 in
     let first : AreNumbered (made ++ at after load ∷ []) next.known = numbered_load old.known next.known made load.0 load.1 after one.grows knew one.last f in
     let knew' : after ≤ length next.known = omega (arith, knew, length_of next.known old.known one.grows) in
-    subst (λ l. AreNumbered l new.known) (append_assoc made (at after load ∷ []) (map (at after) loads)) (numbered_call (made ++ at after load ∷ []) after next new loads first knew' h.2)
+    subst (λ l. AreNumbered l new.known) (append_assoc made (at after load ∷ []) (map (at after) loads))
+    (numbered_call (made ++ at after load ∷ []) after next new loads first knew' h.2)
 
 one_call : (after : ℕ) (loads : List (ℕ × ℕ)) → loads_of ((record { after = after; loads = loads }) ∷ []) ≡ map (at after) loads
 one_call after loads = append-nil (map (at after) loads)
@@ -56,7 +59,8 @@ one_call after loads = append-nil (map (at after) loads)
 pub fresh_none : (stores : List (ℕ × ℕ)) → Fresh [] stores
 fresh_none stores = numbered_none stores
 
-pub fresh_one_more : (calls : List CallLoads) (after : ℕ) (loads : List (ℕ × ℕ)) (old new : Reading) → Fresh calls old.known → after ≤ length old.known → AfterLoads AfterLoad old loads new
+pub fresh_one_more : (calls : List CallLoads) (after : ℕ) (loads : List (ℕ × ℕ)) (old new : Reading)
+    → Fresh calls old.known → after ≤ length old.known → AfterLoads AfterLoad old loads new
     → Fresh (calls ++ (record { after = after; loads = loads }) ∷ []) new.known
 fresh_one_more calls after loads old new f knew h =
     let one : CallLoads = record { after = after; loads = loads } in
@@ -64,7 +68,8 @@ fresh_one_more calls after loads old new f knew h =
     let both : loads_of (calls ++ one ∷ []) ≡ loads_of calls ++ map (at after) loads = split ∙ ap (λ l. loads_of calls ++ l) (one_call after loads) in
     subst (λ l. AreNumbered l new.known) (sym both) (numbered_call (loads_of calls) after old new loads f knew h)
 
-pub fresh_after_note : (calls : List CallLoads) (noted loads : List (ℕ × ℕ)) (old new : Reading) → Fresh calls old.known → BeginsWith old.known noted → AfterLoads AfterLoad old loads new
+pub fresh_after_note : (calls : List CallLoads) (noted loads : List (ℕ × ℕ)) (old new : Reading)
+    → Fresh calls old.known → BeginsWith old.known noted → AfterLoads AfterLoad old loads new
     → Fresh (calls ++ (record { after = length noted; loads = loads }) ∷ []) new.known
 fresh_after_note calls noted loads old new f met h = fresh_one_more calls (length noted) loads old new f (length_of old.known noted met) h
 

@@ -1,5 +1,6 @@
 -- Loads stay fresh when more stores are known, and when one more load comes.
-use Rattle.std.proofs.Common.{◌≡◌, ℕ, zero, suc, ◌-◌, ◌<◌, ◌≤◌, List, [], ◌∷◌, ◌++◌, length, take, drop, get_or, ◌≢◌, All, sym, ap, ◌∙◌, subst, arith, length-append}
+use Rattle.std.proofs.Common.{◌≡◌, ℕ, zero, suc, ◌-◌, ◌<◌, ◌≤◌, List, [], ◌∷◌, ◌++◌, length, take, drop, get_or, ◌≢◌}
+use Rattle.std.proofs.Common.{All, sym, ap, ◌∙◌, subst, arith, length-append}
 use Rattle.std.specs.List.{AllZip}
 use Rattle.std.proofs.lemmas.List.{take-append-le, take_all, take-append-drop, drop-append-le}
 use Rattle.std.proofs.lemmas.List.Elements.{All-nil, All-cons, All-head, All-tail}
@@ -25,13 +26,16 @@ all_later old new [] (n ∷ numbers) h f = absurd f
 all_later old new (l ∷ loads) [] h f = absurd f
 all_later old new (l ∷ loads) (n ∷ numbers) h f = (later old new l n h f.0, all_later old new loads numbers h f.1)
 
-one_more : (stores : List (ℕ × ℕ)) (loads : List Load) (numbers : List ℕ) (load : Load) (number : ℕ) → AllZip (IsNumberOf stores) loads numbers → IsNumberOf stores load number → AllZip (IsNumberOf stores) (loads ++ load ∷ []) (numbers ++ number ∷ [])
+one_more : (stores : List (ℕ × ℕ)) (loads : List Load) (numbers : List ℕ) (load : Load) (number : ℕ)
+    → AllZip (IsNumberOf stores) loads numbers → IsNumberOf stores load number
+    → AllZip (IsNumberOf stores) (loads ++ load ∷ []) (numbers ++ number ∷ [])
 one_more stores [] [] load number f g = (g, tt)
 one_more stores [] (n ∷ numbers) load number f g = absurd f
 one_more stores (l ∷ loads) [] load number f g = absurd f
 one_more stores (l ∷ loads) (n ∷ numbers) load number f g = (f.0, one_more stores loads numbers load number f.1 g)
 
-each_made : (stores : List (ℕ × ℕ)) (loads : List Load) (numbers : List ℕ) (k d : ℕ) → AllZip (IsNumberOf stores) loads numbers → k < length numbers → get_or numbers k d ≤ length stores
+each_made : (stores : List (ℕ × ℕ)) (loads : List Load) (numbers : List ℕ) (k d : ℕ)
+    → AllZip (IsNumberOf stores) loads numbers → k < length numbers → get_or numbers k d ≤ length stores
 each_made stores [] [] k d f below = absurd (omega arith)
 each_made stores [] (n ∷ numbers) k d f below = absurd f
 each_made stores (l ∷ loads) [] k d f below = absurd f
@@ -42,7 +46,8 @@ pub numbered_later : (old new : List (ℕ × ℕ)) (loads : List Load) → Begin
 numbered_later old new loads h f = (f.0, f.1, all_later old new loads f.0 h f.2)
 
 -- the number of the new load is that of all stores
-pub numbered_load : (old new : List (ℕ × ℕ)) (loads : List Load) (place value after : ℕ) → BeginsWith new old → after ≤ length old → value ≡ word_after new place → AreNumbered loads old
+pub numbered_load : (old new : List (ℕ × ℕ)) (loads : List Load) (place value after : ℕ) → BeginsWith new old
+    → after ≤ length old → value ≡ word_after new place → AreNumbered loads old
     → AreNumbered (loads ++ load_of place value after ∷ []) new
 numbered_load old new loads place value after h knew is f =
     let number = length new in
@@ -51,11 +56,16 @@ numbered_load old new loads place value after h knew is f =
       made = omega arith;
       value = is ∙ ap (λ stores. word_after stores place) (sym (take_all number new (omega arith)));
     } in
-    let all = all_later old new loads f.0 h f.2 in
-    (f.0 ++ number ∷ [], IsNonDecreasingBy-push (λ x. x) f.0 number f.1 (λ d some. each_made new loads f.0 (length f.0 - 1) d all (omega arith)), one_more new loads f.0 (load_of place value after) number all mine)
+    let all = all_later old new loads f.0 h f.2 in (
+      f.0 ++ number ∷ [],
+      IsNonDecreasingBy-push (λ x. x) f.0 number f.1 (λ d some. each_made new loads f.0 (length f.0 - 1) d all
+          (omega arith)),
+      one_more new loads f.0 (load_of place value after) number all mine,
+    )
 
 -- the numbers of what a reader made are those of the loads of calls
-of_calls : (stores : List (ℕ × ℕ)) (loads made : List Load) (numbers : List ℕ) → AllZip IsMade loads made → AllZip (IsNumberOf stores) made numbers → AllZip (IsNumberOf stores) loads numbers
+of_calls : (stores : List (ℕ × ℕ)) (loads made : List Load) (numbers : List ℕ) → AllZip IsMade loads made
+    → AllZip (IsNumberOf stores) made numbers → AllZip (IsNumberOf stores) loads numbers
 of_calls stores [] [] [] m f = tt
 of_calls stores [] [] (n ∷ numbers) m f = absurd f
 of_calls stores [] (y ∷ made) numbers m f = absurd m
@@ -74,7 +84,8 @@ All-front P [] ys a = All-nil P
 All-front P (x ∷ xs) ys a = All-cons P x xs (All-head P x (xs ++ ys) a) (All-front P xs ys (All-tail P x (xs ++ ys) a))
 
 -- a place to which no store goes after so many keeps the word that those gave it
-pub untouched : (old new all : List (ℕ × ℕ)) (place after : ℕ) → BeginsWith new old → BeginsWith all new → after ≤ length old → NoneTo place (drop after all) → word_after new place ≡ word_after (take after all) place
+pub untouched : (old new all : List (ℕ × ℕ)) (place after : ℕ) → BeginsWith new old → BeginsWith all new
+    → after ≤ length old → NoneTo place (drop after all) → word_after new place ≡ word_after (take after all) place
 untouched old new all place after grew goes_on known none =
     let within : after ≤ length new = omega (arith, known, length_of new old grew) in
     let rest : drop after all ≡ drop after new ++ goes_on.0 = ap (drop after) goes_on.1 ∙ drop-append-le after new goes_on.0 within in

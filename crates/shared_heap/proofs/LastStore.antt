@@ -1,5 +1,7 @@
 -- The word at a place after a list of stores: what one more store does, and what stores elsewhere leave.
-use Rattle.std.proofs.Common.{◌≡◌, ◌≢◌, ◌<◌, ℕ, nat_eq, true, false, List, [], ◌∷◌, ◌++◌, length, filter, map, All, replicate, set, get_or, arith, refl, sym, ap, ◌∙◌, subst, get_or-set_same, get_or-set_other, ⊎_elim}
+use Rattle.std.proofs.Common.{◌≡◌, ◌≢◌, ◌<◌, ℕ, nat_eq, true, false, List, [], ◌∷◌, ◌++◌, length, filter, map, All}
+use Rattle.std.proofs.Common.{replicate, set, get_or, arith, refl, sym, ap, ◌∙◌, subst, get_or-set_same}
+use Rattle.std.proofs.Common.{get_or-set_other, ⊎_elim}
 use Rattle.std.proofs.lemmas.Bool.{cond-true, cond-false, cases_eq}
 use Rattle.std.proofs.lemmas.Bool.Decides.{nat_tests}
 use Rattle.std.proofs.lemmas.List.{map-append, get_or-replicate}
@@ -15,7 +17,9 @@ values_at place stores = map (λ store. store.1) (filter (λ store. nat_eq store
 
 values_at-append : (place : ℕ) (stores more : List (ℕ × ℕ)) → values_at place (stores ++ more) ≡ values_at place stores ++ values_at place more
 values_at-append place stores more =
-    ap (map (λ store. store.1)) (filter-append (λ store. nat_eq store.0 place) stores more) ∙ map-append (λ store. store.1) (filter (λ store. nat_eq store.0 place) stores) (filter (λ store. nat_eq store.0 place) more)
+    ap (map (λ store. store.1)) (filter-append (λ store. nat_eq store.0 place) stores more)
+    ∙ map-append (λ store. store.1) (filter (λ store. nat_eq store.0 place) stores)
+    (filter (λ store. nat_eq store.0 place) more)
 
 values_at-elsewhere : (place : ℕ) (stores : List (ℕ × ℕ)) → All (λ store. store.0 ≢ place) stores → values_at place stores ≡ []
 values_at-elsewhere place [] apart = refl
@@ -38,7 +42,8 @@ word_after-append stores more place =
 pub word_after-same : (stores : List (ℕ × ℕ)) (place value : ℕ) → word_after (stores ++ (place, value) ∷ []) place ≡ value
 word_after-same stores place value =
     word_after-append stores ((place, value) ∷ []) place
-    ∙ ap (λ kept. last_or (word_after stores place) (map (λ s. s.1) kept)) (let test : nat_eq place place ≡ true = grind (arith, nat_tests) in cond-true (nat_eq place place) ((place, value) ∷ []) [] test)
+    ∙ ap (λ kept. last_or (word_after stores place) (map (λ s. s.1) kept)) (let test : nat_eq place place ≡ true =
+    grind (arith, nat_tests) in cond-true (nat_eq place place) ((place, value) ∷ []) [] test)
 
 -- stores elsewhere leave a word as it was
 pub word_after-elsewhere : (stores more : List (ℕ × ℕ)) (place : ℕ) → All (λ store. store.0 ≢ place) more → word_after (stores ++ more) place ≡ word_after stores place
@@ -48,7 +53,8 @@ word_after-elsewhere stores more place apart =
 pub word_after-other : (stores : List (ℕ × ℕ)) (place value other : ℕ) → place ≢ other → word_after (stores ++ (place, value) ∷ []) other ≡ word_after stores other
 word_after-other stores place value other apart =
     word_after-append stores ((place, value) ∷ []) other
-    ∙ ap (λ kept. last_or (word_after stores other) (map (λ s. s.1) kept)) (let test : nat_eq place other ≡ false = grind (arith, nat_tests) in cond-false (nat_eq place other) ((place, value) ∷ []) [] test)
+    ∙ ap (λ kept. last_or (word_after stores other) (map (λ s. s.1) kept)) (let test : nat_eq place other ≡ false =
+    grind (arith, nat_tests) in cond-false (nat_eq place other) ((place, value) ∷ []) [] test)
 
 -- ---- the words that stand
 
@@ -58,7 +64,9 @@ StandsAfter stores size words = (place : ℕ) → place < size → get_or words 
 pub stands_at_first : (words : List ℕ) (n : ℕ) → words ≡ replicate n 0 → StandsAfter [] n words
 stands_at_first words n zeros = λ place below. ap (λ ws. get_or ws place 0) zeros ∙ get_or-replicate n place 0 0 below ∙ sym (word_after-nil place)
 
-pub stands_after_store : (stores : List (ℕ × ℕ)) (words : List ℕ) (size place value : ℕ) → place < size → length words ≡ size → StandsAfter stores size words → StandsAfter (stores ++ (place, value) ∷ []) size (set words place value)
+pub stands_after_store : (stores : List (ℕ × ℕ)) (words : List ℕ) (size place value : ℕ) → place < size
+    → length words ≡ size → StandsAfter stores size words
+    → StandsAfter (stores ++ (place, value) ∷ []) size (set words place value)
 stands_after_store stores words size place value inside sized stands = λ other in'.
     ⊎_elim
     (λ (same : place ≡ other).

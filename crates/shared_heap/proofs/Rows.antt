@@ -15,7 +15,10 @@ one_early_one_late : Fresh (call_of 0 ((2, 0) ∷ []) ∷ call_of 1 ((2, 9) ∷ 
 unfolding word_after
 one_early_one_late = (
   0 ∷ 2 ∷ 2 ∷ [],
-  IsNonDecreasingBy-push (λ x. x) (0 ∷ 2 ∷ []) 2 (IsNonDecreasingBy-push (λ x. x) (0 ∷ []) 2 (IsNonDecreasingBy-push (λ x. x) [] 0 (λ i j d le below. absurd (omega arith)) (λ d some. absurd (omega arith))) (λ d some. omega arith)) (λ d some. omega arith),
+  IsNonDecreasingBy-push (λ x. x) (0 ∷ 2 ∷ []) 2
+      (IsNonDecreasingBy-push (λ x. x) (0 ∷ []) 2
+      (IsNonDecreasingBy-push (λ x. x) [] 0 (λ i j d le below. absurd (omega arith)) (λ d some. absurd (omega arith)))
+      (λ d some. omega arith)) (λ d some. omega arith),
   (of_first, (of_second, (of_third, tt))),
 )
   where

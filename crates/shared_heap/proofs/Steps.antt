@@ -1,5 +1,6 @@
 -- Each step keeps the rule of a heap.
-use Rattle.std.proofs.Common.{◌≡◌, ◌≢◌, ℕ, zero, suc, ◌<◌, List, [], ◌∷◌, ◌++◌, length, set, get_or, replicate, Bool, true, false, ◌||◌, refl, sym, ap, ◌∙◌, subst, append_assoc, append-nil, length-set}
+use Rattle.std.proofs.Common.{◌≡◌, ◌≢◌, ℕ, zero, suc, ◌<◌, List, [], ◌∷◌, ◌++◌, length, set, get_or, replicate, Bool}
+use Rattle.std.proofs.Common.{true, false, ◌||◌, refl, sym, ap, ◌∙◌, subst, append_assoc, append-nil, length-set}
 use mathlib.Core.Option.{some, none, some-injective, some-ne-none}
 use lib.ListN.{get_elem?}
 use Rattle.std.proofs.lemmas.List.{length-replicate}
@@ -22,7 +23,15 @@ pub from_nothing : {X : Type 0} (whole : List X) → BeginsWith whole []
 from_nothing whole = (whole, refl)
 
 -- a view that claims nothing but a front of the stores
-front_fits : (holder : ℕ) (stores front : Stores) (over : Bool) (j : ℕ) → BeginsWith stores front → Fits holder stores over j (record { known = front; told = front; writes = false; last = false; told_last = false; loads = [] })
+front_fits : (holder : ℕ) (stores front : Stores) (over : Bool) (j : ℕ) → BeginsWith stores front
+    → Fits holder stores over j (record {
+      known = front;
+      told = front;
+      writes = false;
+      last = false;
+      told_last = false;
+      loads = [];
+    })
 front_fits holder stores front over j h = record { known = h; told = h; writes = λ e. absurd (cc); last = λ e. absurd (cc); told_last = λ e. absurd (cc) }
 
 keeper_fits : (holder : ℕ) (stores : Stores) → Fits holder stores false holder (keeper stores)
@@ -68,7 +77,9 @@ stores_it size slots id known i new inside s h sized at fits =
         ended = false;
         sized = length-set s.words i new ∙ h.sized;
         words = stands_after_store h.stores s.words size i new inside h.sized h.words;
-        views = each_set (Fits h.holder after false) s.views id (keeper now) (subst (λ (y : Stores × ℕ). Fits h.holder after false y.1 (keeper y.0)) (λ k. (sym all k, sym mine.0 k)) (keeper_fits h.holder after))
+        views = each_set (Fits h.holder after false) s.views id (keeper now)
+            (subst (λ (y : Stores × ℕ). Fits h.holder after false y.1 (keeper y.0)) (λ k. (sym all k, sym mine.0 k))
+            (keeper_fits h.holder after))
             (λ j u apart e. later_fits h.holder h.stores (i, new) j u (λ same. apart (same ∙ sym mine.0)) (subst (λ over. Fits h.holder h.stores over j u) mine.1 (h.views j u e)));
       },
       (refl, refl),
@@ -88,7 +99,8 @@ set_own (x ∷ xs) (suc i) = ap (λ l. x ∷ l) (set_own xs i)
 abbrev seen : View → Bool → Bool → Stores → List Load → View
 seen v last told_last stores loads = record { known = stores; told = stores; writes = v.writes; last = last; told_last = told_last; loads = loads }
 
-seen_learns : (holder : ℕ) (stores : Stores) (over : Bool) (j : ℕ) (v : View) (last told_last : Bool) (loads : List Load) → Fits holder stores over j v → Learns v (seen v last told_last stores loads)
+seen_learns : (holder : ℕ) (stores : Stores) (over : Bool) (j : ℕ) (v : View) (last told_last : Bool)
+    (loads : List Load) → Fits holder stores over j v → Learns v (seen v last told_last stores loads)
 seen_learns holder stores over j v last told_last loads f = record { known = f.known; told = f.told; last = λ e. sym (f.last e).1; told_last = λ e. sym (f.told_last e).1 }
 
 seen_fits : (holder : ℕ) (stores : Stores) (over : Bool) (j : ℕ) (v : View) (last told_last : Bool) (loads : List Load) → Fits holder stores over j v
@@ -138,7 +150,9 @@ module _ (size slots id : ℕ) (me : Seated) (i : ℕ) where
         w,
         keeps,
         tt,
-        stays s h w (seen_fits h.holder h.stores h.ended id me.0 last false me.0.loads f (either_one me.0.last me.0.told_last (h.ended ≡ true) (λ e. (f.last e).0) (λ e. (f.told_last e).0)) (λ e. absurd (cc))),
+        stays s h w (seen_fits h.holder h.stores h.ended id me.0 last false me.0.loads f
+            (either_one me.0.last me.0.told_last (h.ended ≡ true) (λ e. (f.last e).0) (λ e. (f.told_last e).0))
+            (λ e. absurd (cc))),
         record { learns = seen_learns h.holder h.stores h.ended id me.0 last false me.0.loads f; loads = refl; last = refl; slots = refl },
       )
 
@@ -194,7 +208,8 @@ nobody_fits : (holder : ℕ) (stores : Stores) (over : Bool) (j : ℕ) → Fits 
 nobody_fits holder stores over j = front_fits holder stores [] over j (from_nothing stores)
 
 -- the seat that takes in what another knows
-taken_in : (holder : ℕ) (stores : Stores) (over : Bool) (id other : ℕ) (v u : View) → Fits holder stores over id v → Fits holder stores over other u → Fits holder stores over id (informed v u)
+taken_in : (holder : ℕ) (stores : Stores) (over : Bool) (id other : ℕ) (v u : View) → Fits holder stores over id v
+    → Fits holder stores over other u → Fits holder stores over id (informed v u)
 taken_in holder stores over id other v u mine theirs = record {
   known = mine.known;
   told = theirs.known;

@@ -1,4 +1,4 @@
--- What the fields of a heap's ends keep.
+-- The code's own: what the fields of a heap's ends keep.
 use Rattle.std.specs.Prelude.{◌≡◌, ℕ, ◌≤◌, [], length}
 use Rattle.atomic_table.specs.Seated.{TableId}
 use Rattle.mrpc_table.specs.declared.limits.TheConstants.{MIN_HEAP}

@@ -7,10 +7,19 @@ use std::marker::Model;
 /// What a writer had stored when it made the note, which a reader can be told. It has no lifetime and may go to any
 /// thread. Contracts see it as a `Noting`: of which heap it is, the stores that it knows, and whether they are all
 /// that there will ever be.
-#[derive(Drop)]
 pub struct Note {
     pub(crate) seat: Seat<(), View>,
     pub(crate) stores: u64,
+}
+
+// By hand, so that a drop is one call where it is needed, and not a drop of each part.
+impl Drop for Note {
+    fn drop(self) {
+        let Note {
+            seat: _seat,
+            stores: _,
+        } = self;
+    }
 }
 
 impl Model for Note {

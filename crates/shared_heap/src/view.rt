@@ -1,4 +1,5 @@
-// What each seat of a heap's table knows, and what its steps tell. No value of these types but the table is made.
+//! What each seat of a heap's table knows, and what its steps tell. No value of these types but the table is made.
+
 use atomic_table::{Join, Play, Split, TableRule};
 use std::alloc::Global;
 use std::collections::LinkedList;

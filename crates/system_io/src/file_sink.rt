@@ -12,7 +12,7 @@ use std::io;
 use std::marker::Model;
 use std::rt::Files;
 
-/// The file's name, in the current folder.
+// The file's name, in the current folder.
 const WIRE: &str = "mrpc.wire";
 
 /// The file `mrpc.wire` of the current folder as a sink. It is made, or emptied, at the first write; where nothing

@@ -1,4 +1,5 @@
-// Having an open file alone.
+//! Having an open file alone.
+
 ghost use Rattle.std.specs.Prelude.{OnOk};
 
 use std::fs::File;

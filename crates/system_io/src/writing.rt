@@ -1,4 +1,5 @@
-// Writing to a writer of the system.
+//! Writing to a writer of the system.
+
 ghost use Rattle.std.specs.Prelude.{◌≡◌, ◌<◌, ◌≤◌, length, take};
 ghost use Rattle.std.specs.Io.KnownBytes.{Appends, Keeps};
 ghost use Rattle.mrpc_base.specs.Writing.{OnTook};

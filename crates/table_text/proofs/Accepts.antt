@@ -1,5 +1,7 @@
 -- The whole lines of a text without a fault make a valid table, and are its canonical text.
-use Rattle.std.proofs.Common.{◌≡◌, ◌≢◌, ℕ, zero, suc, ◌+◌, ◌-◌, ◌<◌, ◌≤◌, ◌==◌, ◌||◌, not, Bool, true, false, cond, List, [], ◌∷◌, ◌++◌, codes, length, map, get_or, Option, Some, None, refl, ap, sym, subst, ◌∙◌, append_assoc, arith, inl, inr, length-append}
+use Rattle.std.proofs.Common.{◌≡◌, ◌≢◌, ℕ, zero, suc, ◌+◌, ◌-◌, ◌<◌, ◌≤◌, ◌==◌, ◌||◌, not, Bool, true, false, cond}
+use Rattle.std.proofs.Common.{List, [], ◌∷◌, ◌++◌, codes, length, map, get_or, Option, Some, None, refl, ap, sym}
+use Rattle.std.proofs.Common.{subst, ◌∙◌, append_assoc, arith, inl, inr, length-append}
 use Rattle.std.specs.Prelude.{slice_get, nat_lt, IsTrue}
 use Rattle.std.specs.List.{Contains}
 use Rattle.std.specs.Option.{option_map_or}
@@ -11,7 +13,10 @@ use Rattle.table_text.specs.Judged.{Types, Before, is_among, is_empty, falls, la
 use Rattle.table_text.specs.Places.{place}
 use Rattle.table_text.specs.Drafts.{open_part, enum_names, message_names, method_names, before, method_of, with_message, with_value, with_field, with_part, table_of, added}
 use Rattle.mrpc_table.specs.declared.table.Kind.{Kind}
-use Rattle.mrpc_table.specs.declared.table.Kind.TheVariants.{Int32, Int64, Uint32, Uint64, Sint32, Sint64, Bool as TheBool, Fixed32, Fixed64, Sfixed32, Sfixed64, Float, Double, Text, Octets, Message as OfMessage, Choice}
+use Rattle.mrpc_table.specs.declared.table.Kind.TheVariants.{Int32, Int64, Uint32, Uint64, Sint32, Sint64}
+use Rattle.mrpc_table.specs.declared.table.Kind.TheVariants.{Bool as TheBool, Fixed32, Fixed64, Sfixed32, Sfixed64}
+use Rattle.mrpc_table.specs.declared.table.Kind.TheVariants.{Float, Double, Text, Octets, Message as OfMessage}
+use Rattle.mrpc_table.specs.declared.table.Kind.TheVariants.{Choice}
 use Rattle.mrpc_table.specs.declared.table.Label.{Label}
 use Rattle.mrpc_table.specs.declared.table.Label.TheVariants.{Plain, Optional, Repeated, Packed, Map, Member}
 use Rattle.mrpc_table.specs.declared.table.Field.{Field as TheField}
@@ -82,7 +87,10 @@ in_range t b bytes (Enum n) h = tt
 in_range t b bytes (Value z n) h = not_no (is_within z) h.number
 in_range t b bytes (Message n) h = tt
 in_range t b bytes (Field f) h = some_number f.number (not_no (has_field_number f.number) h.number)
-in_range t b bytes (Method m) h = some_index m.index (length b.methods) (not_no (is_index m.index (length b.methods)) (right_no (lacks_zero b.open_part) (not (is_index m.index (length b.methods))) h.number))
+in_range t b bytes (Method m) h =
+    some_index m.index (length b.methods)
+    (not_no (is_index m.index (length b.methods))
+    (right_no (lacks_zero b.open_part) (not (is_index m.index (length b.methods))) h.number))
 
 -- the draft with one more line, and its text
 pub record Steps (t : Types) (d e : Draft) (text : List ℕ) : Type 0 where
@@ -92,24 +100,36 @@ pub record Steps (t : Types) (d e : Draft) (text : List ℕ) : Type 0 where
 as_line : (text : List ℕ) (ws vs : List (List ℕ)) → text ≡ spaced ws → ws ≡ vs → line vs ≡ text ++ 10 ∷ []
 as_line text ws vs e f = ap (λ (x : List ℕ). x ++ 10 ∷ []) (ap spaced (sym f) ∙ sym e)
 
-value_step : (t : Types) (d : Draft) (o : Open) (bytes : ℕ) (z : Whole) (n w text : List ℕ) (ws : List (List ℕ)) → IsSound t (with_part d o) → IsClean t (before (with_part d o)) bytes (Value z n) → WholeIs w z → IsTrue (is_name_form n)
+value_step : (t : Types) (d : Draft) (o : Open) (bytes : ℕ) (z : Whole) (n w text : List ℕ) (ws : List (List ℕ))
+    → IsSound t (with_part d o) → IsClean t (before (with_part d o)) bytes (Value z n) → WholeIs w z
+    → IsTrue (is_name_form n)
     → text ≡ spaced ws → ws ≡ codes "value" ∷ w ∷ n ∷ [] → Steps t (with_part d o) (with_part d (with_value o z n)) text
 value_step t d (open_parts.Enum c) bytes (Within z) n w text ws s h whole form e f = record {
   sound = sound_value t d c bytes z n s whole.1 form h;
-  more = text_value (names_table t) d c z n s.ordered.0 s.ordered.1 ∙ ap (λ (x : List ℕ). text_by (names_table t) (table_of (with_part d (open_parts.Enum c))) ++ x) (as_line text ws (codes "value" ∷ signed_decimal z ∷ n ∷ []) e (f ∙ ap (λ (x : List ℕ). codes "value" ∷ x ∷ n ∷ []) whole.0));
+  more = text_value (names_table t) d c z n s.ordered.0 s.ordered.1
+      ∙ ap (λ (x : List ℕ). text_by (names_table t) (table_of (with_part d (open_parts.Enum c))) ++ x)
+      (as_line text ws (codes "value" ∷ signed_decimal z ∷ n ∷ []) e
+      (f ∙ ap (λ (x : List ℕ). codes "value" ∷ x ∷ n ∷ []) whole.0));
 }
 value_step t d (open_parts.Enum c) bytes Low n w text ws s h whole form e f = absurd whole
 value_step t d (open_parts.Enum c) bytes High n w text ws s h whole form e f = absurd whole
 value_step t d (open_parts.Message m) bytes z n w text ws s h whole form e f = let clash = h.syntax in absurd cc
 value_step t d open_parts.Nothing bytes z n w text ws s h whole form e f = let clash = h.syntax in absurd cc
 
-field_step : (t : Types) (d : Draft) (o : Open) (bytes : ℕ) (number : Option ℕ) (f : FieldLine) (nw lw kw text : List ℕ) (ws : List (List ℕ)) → f.number ≡ number → IsSmall t → IsSound t (with_part d o) → IsClean t (before (with_part d o)) bytes (Field f)
+field_step : (t : Types) (d : Draft) (o : Open) (bytes : ℕ) (number : Option ℕ) (f : FieldLine)
+    (nw lw kw text : List ℕ) (ws : List (List ℕ)) → f.number ≡ number → IsSmall t → IsSound t (with_part d o)
+    → IsClean t (before (with_part d o)) bytes (Field f)
     → NumberIs nw number → LabelIs lw f.label → KindIs kw f.kind → IsTrue (is_name_form f.name)
     → text ≡ spaced ws → ws ≡ codes "field" ∷ nw ∷ lw ∷ kw ∷ f.name ∷ [] → Steps t (with_part d o) (with_part d (with_field t o number f)) text
 field_step t d (open_parts.Message m) bytes (Some n) f nw lw kw text ws is small s h num label kind form e g = record {
   sound = sound_field t d m bytes n f lw kw s small is label kind form h;
-  more = text_field t d m n f lw kw small s.ordered (few_oneofs (names_table t) m s.part) (placed_all (names_table t) m s.part) label kind (left_no (is_unknown_label t f.label) (is_unknown_kind t f.kind) h.unknown) (right_no (is_unknown_label t f.label) (is_unknown_kind t f.kind) h.unknown)
-      ∙ ap (λ (x : List ℕ). text_by (names_table t) (table_of (with_part d (open_parts.Message m))) ++ x) (as_line text ws (codes "field" ∷ decimal n ∷ lw ∷ kw ∷ f.name ∷ []) e (g ∙ ap (λ (x : List ℕ). codes "field" ∷ x ∷ lw ∷ kw ∷ f.name ∷ []) num.0));
+  more = text_field t d m n f lw kw small s.ordered (few_oneofs (names_table t) m s.part)
+      (placed_all (names_table t) m s.part) label kind
+      (left_no (is_unknown_label t f.label) (is_unknown_kind t f.kind) h.unknown)
+      (right_no (is_unknown_label t f.label) (is_unknown_kind t f.kind) h.unknown)
+      ∙ ap (λ (x : List ℕ). text_by (names_table t) (table_of (with_part d (open_parts.Message m))) ++ x)
+      (as_line text ws (codes "field" ∷ decimal n ∷ lw ∷ kw ∷ f.name ∷ []) e
+      (g ∙ ap (λ (x : List ℕ). codes "field" ∷ x ∷ lw ∷ kw ∷ f.name ∷ []) num.0));
 }
 field_step t d (open_parts.Message m) bytes None f nw lw kw text ws is small s h num label kind form e g = absurd num
 field_step t d (open_parts.Enum c) bytes number f nw lw kw text ws is small s h num label kind form e g = let clash = right_no (clashes f.label f.kind) true h.syntax in absurd cc
@@ -119,7 +139,8 @@ index_is : (w : List ℕ) (o : Option ℕ) (n : ℕ) → NumberIs w o → is_ind
 index_is w (Some i) n h e = h.0 ∙ ap decimal (eqb-true i n e)
 index_is w None n h e = absurd h
 
-line_step : (t : Types) (d : Draft) (bytes : ℕ) (text : List ℕ) (ws : List (List ℕ)) (l : Line) → IsSmall t → IsSound t d → IsClean t (before d) bytes l → LineIs ws l → text ≡ spaced ws → Steps t d (added t d l) text
+line_step : (t : Types) (d : Draft) (bytes : ℕ) (text : List ℕ) (ws : List (List ℕ)) (l : Line) → IsSmall t
+    → IsSound t d → IsClean t (before d) bytes l → LineIs ws l → text ≡ spaced ws → Steps t d (added t d l) text
 line_step t d bytes text ws (Enum n) small s h is e =
     let o = d.open_part in
     let front = left_no ((lacks_value (open_part o) || not (is_empty (message_names d))) || not (is_empty (method_names d))) (falls n (enum_names d)) h.syntax in
@@ -128,7 +149,9 @@ line_step t d bytes text ws (Enum n) small s h is e =
     let no_messages : message_names d ≡ [] = empty_is (message_names d) (right_no (lacks_value (open_part o)) (not (is_empty (message_names d))) parts) in
     record {
       sound = sound_enum t d bytes n s is.1 h;
-      more = text_enum (names_table t) d n (no_names (λ m. m.name) (with_message o d.messages) (closed_messages o d.messages ∙ no_messages)) (no_names (λ m. m.service ++ 32 ∷ m.name) d.methods no_methods)
+      more = text_enum (names_table t) d n
+          (no_names (λ m. m.name) (with_message o d.messages) (closed_messages o d.messages ∙ no_messages))
+          (no_names (λ m. m.service ++ 32 ∷ m.name) d.methods no_methods)
           ∙ ap (λ (x : List ℕ). text_by (names_table t) (table_of d) ++ x) (as_line text ws (codes "enum" ∷ n ∷ []) e is.0);
     }
 line_step t d bytes text ws (Value z n) small s h is e = value_step t d d.open_part bytes z n is.0 text ws s h is.2 is.3 e is.1
@@ -146,17 +169,28 @@ line_step t d bytes text ws (Method m) small s h is e =
     let index = not_no (is_index m.index (length (method_names d))) (right_no (lacks_zero (open_part d.open_part)) (not (is_index m.index (length (method_names d)))) h.number) in
     let count : length (method_names d) ≡ length d.methods = length-map d.methods (λ (m : TheMethod). m.service ++ 32 ∷ m.name) in
     let number : is.0 ≡ decimal (length d.methods) = index_is is.0 m.index (length (method_names d)) is.2 index ∙ ap decimal count in
-    let input = message_named t (place m.input t.messages) m.input (place_known m.input t.messages small.messages (not_no (is_among m.input t.messages) (left_no (not (is_among m.input t.messages)) (not (is_among m.output t.messages)) h.unknown))).1 in
-    let output = message_named t (place m.output t.messages) m.output (place_known m.output t.messages small.messages (not_no (is_among m.output t.messages) (right_no (not (is_among m.input t.messages)) (not (is_among m.output t.messages)) h.unknown))).1 in
-    let spelled : method_line (names_table t) (length d.methods, method_of t m) ≡ line (codes "method" ∷ decimal (length d.methods) ∷ m.service ∷ m.name ∷ m.input ∷ m.output ∷ []) =
+    let input = message_named t (place m.input t.messages) m.input
+    (place_known m.input t.messages small.messages
+    (not_no (is_among m.input t.messages)
+    (left_no (not (is_among m.input t.messages)) (not (is_among m.output t.messages)) h.unknown))).1 in
+    let output = message_named t (place m.output t.messages) m.output
+    (place_known m.output t.messages small.messages
+    (not_no (is_among m.output t.messages)
+    (right_no (not (is_among m.input t.messages)) (not (is_among m.output t.messages)) h.unknown))).1 in
+    let spelled : method_line (names_table t) (length d.methods, method_of t m)
+    ≡ line (codes "method" ∷ decimal (length d.methods) ∷ m.service ∷ m.name ∷ m.input ∷ m.output ∷ []) =
     ap (λ (x : List ℕ). line (codes "method" ∷ decimal (length d.methods) ∷ m.service ∷ m.name ∷ x ∷ message_name (names_table t) (place m.output t.messages) ∷ [])) input
     ∙ ap (λ (x : List ℕ). line (codes "method" ∷ decimal (length d.methods) ∷ m.service ∷ m.name ∷ m.input ∷ x ∷ [])) output in
     record {
       sound = sound_method t d bytes m s small is.3 is.4 h;
-      more = text_method (names_table t) d (method_of t m) ∙ ap (λ (x : List ℕ). text_by (names_table t) (table_of d) ++ x) (spelled ∙ as_line text ws (codes "method" ∷ decimal (length d.methods) ∷ m.service ∷ m.name ∷ m.input ∷ m.output ∷ []) e (is.1 ∙ ap (λ (x : List ℕ). codes "method" ∷ x ∷ m.service ∷ m.name ∷ m.input ∷ m.output ∷ []) number));
+      more = text_method (names_table t) d (method_of t m) ∙ ap (λ (x : List ℕ). text_by (names_table t) (table_of d)
+          ++ x) (spelled ∙ as_line text ws (codes "method" ∷ decimal (length d.methods) ∷ m.service ∷ m.name ∷ m.input
+          ∷ m.output ∷ []) e (is.1 ∙ ap (λ (x : List ℕ). codes "method" ∷ x ∷ m.service ∷ m.name ∷ m.input ∷ m.output
+          ∷ []) number));
     }
 
-pub text_step : (t : Types) (d : Draft) (bytes : ℕ) (text : List ℕ) → IsSmall t → IsSound t d → line_fault t (before d) bytes (line_of text) ≡ None → Steps t d (added_line t d (line_of text)) text
+pub text_step : (t : Types) (d : Draft) (bytes : ℕ) (text : List ℕ) → IsSmall t → IsSound t d
+    → line_fault t (before d) bytes (line_of text) ≡ None → Steps t d (added_line t d (line_of text)) text
 text_step t d bytes text small s none = taken (line_of text) refl none
   where
     taken : (o : Option Line) → line_of text ≡ o → line_fault t (before d) bytes o ≡ None → Steps t d (added_line t d o) text
@@ -179,9 +213,12 @@ some_line text k within =
     (get_or (whole_lines text) k [], drop (suc k) (whole_lines text), e)
 
 clean_line : (text : List ℕ) (k : ℕ) (l : List ℕ) (more : List (List ℕ)) → IsFaultless text → drop k (whole_lines text) ≡ l ∷ more
-    → line_fault (types_of (whole_lines text)) (before (draft_of (types_of (whole_lines text)) (take k (whole_lines text)))) (bytes_of (take k (whole_lines text)) + length l + 1) (line_of l) ≡ None
+    → line_fault (types_of (whole_lines text))
+    (before (draft_of (types_of (whole_lines text)) (take k (whole_lines text))))
+    (bytes_of (take k (whole_lines text)) + length l + 1) (line_of l) ≡ None
 clean_line text k l more clean e =
-    ap (λ (b : Before). line_fault (types_of (whole_lines text)) b (bytes_of (take k (whole_lines text)) + length l + 1) (line_of l)) (before_draft (types_of (whole_lines text)) (take k (whole_lines text)))
+    ap (λ (b : Before). line_fault (types_of (whole_lines text)) b (bytes_of (take k (whole_lines text)) + length l
+    + 1) (line_of l)) (before_draft (types_of (whole_lines text)) (take k (whole_lines text)))
     ∙ sym (here_is (whole_lines text) (rest_of text) k l more e) ∙ clean k
 
 pub few_bytes : (t : Types) (b : Before) (bytes : ℕ) (o : Option Line) → line_fault t b bytes o ≡ None → bytes ≤ 65536
@@ -197,7 +234,9 @@ all_bytes text clean =
       | inl some ↦
           let k = length ls - 1 in
           let line = some_line text k (omega arith) in
-          let le = few_bytes (types_of ls) (before (draft_of (types_of ls) (take k ls))) (bytes_of (take k ls) + length line.0 + 1) (line_of line.0) (clean_line text k line.0 line.1 clean line.2) in
+          let le = few_bytes (types_of ls) (before (draft_of (types_of ls) (take k ls)))
+          (bytes_of (take k ls) + length line.0 + 1) (line_of line.0)
+          (clean_line text k line.0 line.1 clean line.2) in
           let next : suc k ≡ length ls = omega arith in
           let whole : take (suc k) ls ≡ ls = ap (λ (n : ℕ). take n ls) next ∙ take_all (length ls) ls (omega arith) in
           omega (arith, le, bytes_push (take k ls) line.0, ap bytes_of (sym (take_drop ls k line.0 line.1 line.2) ∙ whole))
@@ -210,7 +249,9 @@ fold_le n (l ∷ ls) = omega (arith, fold_le (n + (length l + 1)) ls)
 
 filtered_le : {X Y : Type 0} (h : X → Option Y) (xs : List X) → length (filter_map h xs) ≤ length xs
 filtered_le h [] = omega arith
-filtered_le {X = X} {Y = Y} h (x ∷ xs) = elim (h x) as (λ (o : Option Y). length (cons_option o (filter_map h xs)) ≤ suc (length xs)) [ None ↦ omega (arith, filtered_le h xs) | Some y ↦ omega (arith, filtered_le h xs) ]
+filtered_le {X = X} {Y = Y} h (x ∷ xs) =
+    elim (h x) as (λ (o : Option Y). length (cons_option o (filter_map h xs)) ≤ suc (length xs))
+    [ None ↦ omega (arith, filtered_le h xs) | Some y ↦ omega (arith, filtered_le h xs) ]
 
 pub is_small : (text : List ℕ) → IsFaultless text → IsSmall (types_of (whole_lines text))
 is_small text clean =
@@ -262,7 +303,9 @@ message_behind text ws (Method m) e h = ap (behind (codes "message ")) (e ∙ ap
 
 filter_push : {X Y : Type 0} (h : X → Option Y) (xs : List X) (x : X) → filter_map h (xs ++ x ∷ []) ≡ filter_map h xs ++ option_to_list (h x)
 filter_push {Y = Y} h [] x = elim (h x) as (λ (o : Option Y). cons_option o [] ≡ option_to_list o) [ None ↦ refl | Some y ↦ refl ]
-filter_push {Y = Y} h (z ∷ zs) x = elim (h z) as (λ (o : Option Y). cons_option o (filter_map h (zs ++ x ∷ [])) ≡ cons_option o (filter_map h zs) ++ option_to_list (h x)) [ None ↦ filter_push h zs x | Some y ↦ ap (λ ys. y ∷ ys) (filter_push h zs x) ]
+filter_push {Y = Y} h (z ∷ zs) x =
+    elim (h z) as (λ (o : Option Y). cons_option o (filter_map h (zs ++ x ∷ [])) ≡ cons_option o (filter_map h zs)
+    ++ option_to_list (h x)) [ None ↦ filter_push h zs x | Some y ↦ ap (λ ys. y ∷ ys) (filter_push h zs x) ]
 
 enums_after : (b : Before) (l : Line) → (after b l).enums ≡ b.enums ++ option_to_list (enum_in l)
 enums_after b (Enum n) = refl
@@ -293,8 +336,12 @@ names_step t d bytes text none = taken (line_of text) refl none
         let is = line_is text l e (in_range t (before d) bytes l h) in
         let next : before (added_line t d (line_of text)) ≡ after (before d) l = ap (λ (o : Option Line). before (added_line t d o)) e ∙ before_line t d (Some l) in
         record {
-          enums = ap (λ (b : Before). b.enums) next ∙ enums_after (before d) l ∙ ap (λ (o : Option (List ℕ)). enum_names d ++ option_to_list o) (sym (enum_behind text (words_of text) l (text_is text) is));
-          messages = ap (λ (b : Before). b.messages) next ∙ messages_after (before d) l ∙ ap (λ (o : Option (List ℕ)). message_names d ++ option_to_list o) (sym (message_behind text (words_of text) l (text_is text) is));
+          enums = ap (λ (b : Before). b.enums) next ∙ enums_after (before d) l
+              ∙ ap (λ (o : Option (List ℕ)). enum_names d ++ option_to_list o)
+              (sym (enum_behind text (words_of text) l (text_is text) is));
+          messages = ap (λ (b : Before). b.messages) next ∙ messages_after (before d) l
+              ∙ ap (λ (o : Option (List ℕ)). message_names d ++ option_to_list o)
+              (sym (message_behind text (words_of text) l (text_is text) is));
         }
 
 -- the first k lines
@@ -315,7 +362,8 @@ walk text (suc k) clean le =
     let d = draft_of t (take k ls) in
     let none = clean_line text k line.0 line.1 clean line.2 in
     let front : take (suc k) ls ≡ take k ls ++ line.0 ∷ [] = take_drop ls k line.0 line.1 line.2 in
-    let drafted : draft_of t (take (suc k) ls) ≡ added_line t d (line_of line.0) = ap (draft_of t) front ∙ fold_push (λ d l. added_line t d (line_of l)) empty_draft (take k ls) line.0 in
+    let drafted : draft_of t (take (suc k) ls) ≡ added_line t d (line_of line.0) =
+    ap (draft_of t) front ∙ fold_push (λ d l. added_line t d (line_of l)) empty_draft (take k ls) line.0 in
     let s = text_step t d (bytes_of (take k ls) + length line.0 + 1) line.0 (is_small text clean) w.sound none in
     let n = names_step t d (bytes_of (take k ls) + length line.0 + 1) line.0 none in
     let flat : flat_map lf (take (suc k) ls) ≡ flat_map lf (take k ls) ++ lf line.0 = ap (flat_map lf) front ∙ flat_push lf (take k ls) line.0 in
@@ -323,8 +371,14 @@ walk text (suc k) clean le =
       sound = subst (IsSound t) (sym drafted) s.sound;
       spelled = ap (λ (e : Draft). text_by (names_table t) (table_of e)) drafted ∙ s.more ∙ ap (λ (x : List ℕ). x ++ lf line.0) w.spelled ∙ sym flat;
       long = omega (arith, ap length flat, length-append (flat_map lf (take k ls)) (lf line.0), length-append line.0 (10 ∷ []), w.long, bytes_push (take k ls) line.0, ap bytes_of front);
-      enums = ap enum_names drafted ∙ n.enums ∙ ap (λ (x : List (List ℕ)). x ++ option_to_list (behind (codes "enum ") line.0)) w.enums ∙ sym (filter_push (behind (codes "enum ")) (take k ls) line.0) ∙ ap (filter_map (behind (codes "enum "))) (sym front);
-      messages = ap message_names drafted ∙ n.messages ∙ ap (λ (x : List (List ℕ)). x ++ option_to_list (behind (codes "message ") line.0)) w.messages ∙ sym (filter_push (behind (codes "message ")) (take k ls) line.0) ∙ ap (filter_map (behind (codes "message "))) (sym front);
+      enums = ap enum_names drafted ∙ n.enums
+          ∙ ap (λ (x : List (List ℕ)). x ++ option_to_list (behind (codes "enum ") line.0)) w.enums
+          ∙ sym (filter_push (behind (codes "enum ")) (take k ls) line.0) ∙ ap (filter_map (behind (codes "enum ")))
+          (sym front);
+      messages = ap message_names drafted ∙ n.messages
+          ∙ ap (λ (x : List (List ℕ)). x ++ option_to_list (behind (codes "message ") line.0)) w.messages
+          ∙ sym (filter_push (behind (codes "message ")) (take k ls) line.0)
+          ∙ ap (filter_map (behind (codes "message "))) (sym front);
     }
 
 -- ---- the text of the lines, and the names of the table that they make
@@ -336,7 +390,9 @@ joined_lines (p ∷ q ∷ qs) some =
     let rest = joined_lines (q ∷ qs) (λ e. cc) in
     let lines : flat_map lf (take (length (p ∷ q ∷ qs) - 1) (p ∷ q ∷ qs)) ≡ lf p ++ flat_map lf (take (length (q ∷ qs) - 1) (q ∷ qs)) = ap (flat_map lf) (init_first p q qs) in
     let last = ap (λ (o : Option (List ℕ)). unwrap_or o []) (end_first p q qs) in
-    ap (λ (x : List ℕ). p ++ 10 ∷ x) rest ∙ sym (append_assoc p (10 ∷ []) (flat_map lf (take (length (q ∷ qs) - 1) (q ∷ qs)) ++ unwrap_or (slice_get (q ∷ qs) (length (q ∷ qs) - 1)) []))
+    ap (λ (x : List ℕ). p ++ 10 ∷ x) rest
+    ∙ sym (append_assoc p (10 ∷ []) (flat_map lf (take (length (q ∷ qs) - 1) (q ∷ qs))
+    ++ unwrap_or (slice_get (q ∷ qs) (length (q ∷ qs) - 1)) []))
     ∙ sym (append_assoc (lf p) (flat_map lf (take (length (q ∷ qs) - 1) (q ∷ qs))) (unwrap_or (slice_get (q ∷ qs) (length (q ∷ qs) - 1)) []))
     ∙ ap (λ (x : List ℕ). x ++ unwrap_or (slice_get (q ∷ qs) (length (q ∷ qs) - 1)) []) (sym lines)
     ∙ ap (λ (x : List ℕ). flat_map lf (take (length (p ∷ q ∷ qs) - 1) (p ∷ q ∷ qs)) ++ x) (sym last)
@@ -431,7 +487,9 @@ end_clean text clean =
     let le : length ls ≤ length ls = omega arith in
     let all : (length ls == length ls) ≡ true = eq-eqb (length ls) (length ls) refl in
     let here : fault_at text (length ls) ≡ end_fault (before_of ls) (rest_of text) =
-    ap (λ (o : Option (List ℕ)). option_map_or (λ x. line_fault (types_of ls) (before_of (take (length ls) ls)) (bytes_of (take (length ls + 1) ls)) (line_of x)) o (cond (length ls == length ls) (end_fault (before_of ls) (rest_of text)) None)) (get_end ls (length ls) le)
+    ap (λ (o : Option (List ℕ)). option_map_or (λ x. line_fault (types_of ls) (before_of (take (length ls) ls))
+    (bytes_of (take (length ls + 1) ls)) (line_of x)) o
+    (cond (length ls == length ls) (end_fault (before_of ls) (rest_of text)) None)) (get_end ls (length ls) le)
     ∙ ap (λ (b : Bool). cond b (end_fault (before_of ls) (rest_of text)) None) all in
     let none : end_fault b (rest_of text) ≡ None = ap (λ (b : Before). end_fault b (rest_of text)) (before_draft (types_of ls) ls) ∙ sym here ∙ clean (length ls) in
     let tests = end_passes (not (is_empty (rest_of text)) || lacks_value b.open_part) (lacks_zero b.open_part) Syntax Number none in
@@ -497,7 +555,8 @@ pair_key : (ms : List TheMethod) (m : TheMethod) → Contains (map pair_of ms) (
 pair_key [] m h = absurd (contains_nothing (pair_of m) h)
 pair_key (k ∷ ks) m h =
     elim (contains_cases (pair_of k) (pair_of m) (map pair_of ks) h) [
-      | inl same ↦ subst (λ (x : List ℕ). Contains (key_in k ∷ map key_in ks) x) (ap (λ (p : List ℕ × List ℕ). p.0 ++ 32 ∷ p.1) same) (contains_first (key_in k) (map key_in ks))
+      | inl same ↦ subst (λ (x : List ℕ). Contains (key_in k ∷ map key_in ks) x)
+          (ap (λ (p : List ℕ × List ℕ). p.0 ++ 32 ∷ p.1) same) (contains_first (key_in k) (map key_in ks))
       | inr later ↦ contains_later (key_in k) (key_in m) (map key_in ks) (pair_key ks m later)
     ]
 
@@ -520,7 +579,8 @@ accepted text clean =
     let enums : map (λ e. e.name) T.enums ≡ enum_names d = closed_enums o d.enums in
     let messages : map (λ m. m.name) T.messages ≡ message_names d = closed_messages o d.messages in
     let t_enums : enum_names d ≡ t.enums = ap (λ (xs : List (List ℕ)). enum_names (draft_of t xs)) (sym whole) ∙ w.enums ∙ ap (filter_map (behind (codes "enum "))) whole in
-    let t_messages : message_names d ≡ t.messages = ap (λ (xs : List (List ℕ)). message_names (draft_of t xs)) (sym whole) ∙ w.messages ∙ ap (filter_map (behind (codes "message "))) whole in
+    let t_messages : message_names d ≡ t.messages = ap (λ (xs : List (List ℕ)). message_names (draft_of t xs))
+    (sym whole) ∙ w.messages ∙ ap (filter_map (behind (codes "message "))) whole in
     let counts : SameCounts N T = record {
       messages = omega (arith, length-map t.messages named_message, ap length (messages ∙ t_messages), length-map T.messages (λ (m : TheMessage). m.name));
       enums = omega (arith, length-map t.enums named_enum, ap length (enums ∙ t_enums), length-map T.enums (λ (c : Choices). c.name));
@@ -529,7 +589,9 @@ accepted text clean =
       messages = same_messages T N (messages ∙ t_messages ∙ sym (map_named_messages t.messages));
       enums = same_enums T N (enums ∙ t_enums ∙ sym (map_named_enums t.enums));
     } in
-    let spelled : table_text T ≡ flat_map lf ls = same_text T N T names ∙ ap (λ (xs : List (List ℕ)). text_by N (table_of (draft_of t xs))) (sym whole) ∙ w.spelled ∙ ap (flat_map lf) whole in
+    let spelled : table_text T ≡ flat_map lf ls =
+    same_text T N T names ∙ ap (λ (xs : List (List ℕ)). text_by N (table_of (draft_of t xs))) (sym whole)
+    ∙ w.spelled ∙ ap (flat_map lf) whole in
     let text_is : text ≡ flat_map lf ls = text_lines text ∙ ap (λ (x : List ℕ). flat_map lf ls ++ x) end.gone ∙ append-nil (flat_map lf ls) in
     let long : length (flat_map lf ls) ≡ bytes_of ls = ap (λ (xs : List (List ℕ)). length (flat_map lf xs)) (sym whole) ∙ w.long ∙ ap bytes_of whole in (
       record {
@@ -540,7 +602,9 @@ accepted text clean =
         enums_ascend = ascends_map IsBelow (λ (c : Choices). c.name) T.enums (subst (Ascends IsBelow) (sym enums) s.enums_up);
         messages = λ k x within. message_as N T counts (get_or T.messages k x) (whole_messages t o d.messages s.part s.messages k x within);
         messages_ascend = ascends_map IsBelow (λ (m : TheMessage). m.name) T.messages (subst (Ascends IsBelow) (sym messages) s.messages_up);
-        types = subst AreDistinct (sym (ap (λ (xs : List (List ℕ)). xs ++ map (λ m. m.name) T.messages) enums ∙ ap (λ (xs : List (List ℕ)). enum_names d ++ xs) messages)) s.distinct;
+        types = subst AreDistinct
+            (sym (ap (λ (xs : List (List ℕ)). xs ++ map (λ m. m.name) T.messages) enums
+            ∙ ap (λ (xs : List (List ℕ)). enum_names d ++ xs) messages)) s.distinct;
         methods = λ k x within. method_as N T counts (get_or T.methods k x) (s.methods k x within);
         method_names = distinct_pairs T.methods s.methods_distinct;
         short = omega (arith, ap length spelled, long, all_bytes text clean);

@@ -1,5 +1,6 @@
 -- A line that no fault stands against passes each test; and the names of the types as a table.
-use Rattle.std.proofs.Common.{◌≡◌, ℕ, suc, ◌+◌, ◌-◌, ◌^◌, min, ◌<◌, ◌≤◌, ◌||◌, not, Bool, true, false, cond, List, [], ◌∷◌, length, map, Option, Some, None, refl, ap, sym, ◌∙◌, arith}
+use Rattle.std.proofs.Common.{◌≡◌, ℕ, suc, ◌+◌, ◌-◌, ◌^◌, min, ◌<◌, ◌≤◌, ◌||◌, not, Bool, true, false, cond, List, []}
+use Rattle.std.proofs.Common.{◌∷◌, length, map, Option, Some, None, refl, ap, sym, ◌∙◌, arith}
 use Rattle.std.specs.Prelude.{slice_get, unwrap_or, option_map}
 use Rattle.std.specs.Str.{bytes_eq}
 use Rattle.table_text.specs.Judged.{Types, Before, line_fault, is_syntax, is_number, is_duplicate, is_unknown, is_map_key, is_limit, is_among}
@@ -85,10 +86,13 @@ named_enum n = record { name = n; values = [] }
 abbrev pub names_table : Types → Table
 names_table t = record { messages = map named_message t.messages; enums = map named_enum t.enums; methods = [] }
 
-pub place_within : (k : ℕ) (n : List ℕ) (ns : List (List ℕ)) → is_among n ns ≡ true → (p : ℕ) × (place_from k n ns ≡ Some (k + p)) × (p < length ns) × (slice_get ns p ≡ Some n)
+pub place_within : (k : ℕ) (n : List ℕ) (ns : List (List ℕ)) → is_among n ns ≡ true
+    → (p : ℕ) × (place_from k n ns ≡ Some (k + p)) × (p < length ns) × (slice_get ns p ≡ Some n)
 place_within k n [] e = absurd cc
 place_within k n (m ∷ ns) e =
-    elim (bytes_eq n m) as (λ (b : Bool). bytes_eq n m ≡ b → (b || is_among n ns) ≡ true → (p : ℕ) × (cond b (Some k) (place_from (k + 1) n ns) ≡ Some (k + p)) × (p < length (m ∷ ns)) × (slice_get (m ∷ ns) p ≡ Some n)) [
+    elim (bytes_eq n m) as (λ (b : Bool). bytes_eq n m ≡ b → (b || is_among n ns) ≡ true
+    → (p : ℕ) × (cond b (Some k) (place_from (k + 1) n ns) ≡ Some (k + p)) × (p < length (m ∷ ns))
+    × (slice_get (m ∷ ns) p ≡ Some n)) [
       | true ↦ λ is f. let z : k ≡ k + 0 = omega arith in (0, ap Some z, omega arith, ap Some (sym (same_bytes n m is)))
       | false ↦ λ is f.
           let r = place_within (k + 1) n ns f in

@@ -1,5 +1,7 @@
 -- The text of a draft, one line after another.
-use Rattle.std.proofs.Common.{◌≡◌, ℕ, zero, suc, ℤ, ◌+◌, ◌-◌, ◌^◌, min, ◌<◌, ◌≤◌, Bool, true, false, cond, List, [], ◌∷◌, ◌++◌, codes, length, Option, Some, None, refl, ap, sym, ◌∙◌, append_assoc, arith, zero-add}
+use Rattle.std.proofs.Common.{◌≡◌, ℕ, zero, suc, ℤ, ◌+◌, ◌-◌, ◌^◌, min, ◌<◌, ◌≤◌, Bool, true, false, cond, List, []}
+use Rattle.std.proofs.Common.{◌∷◌, ◌++◌, codes, length, Option, Some, None, refl, ap, sym, ◌∙◌, append_assoc, arith}
+use Rattle.std.proofs.Common.{zero-add}
 use Rattle.std.specs.Prelude.{slice_get, unwrap_or}
 use Rattle.std.specs.List.{flat_map, enumerate_from, AllByRecursion}
 use Rattle.std.specs.Fmt.{decimal, signed_decimal}
@@ -50,36 +52,63 @@ no_methods N ms e = rw e refl
 no_messages : (N : Table) (ms : List TheMessage) → ms ≡ [] → flat_map (message_lines N) ms ≡ []
 no_messages N ms e = rw e refl
 
-pub text_enum : (N : Table) (d : Draft) (n : List ℕ) → with_message d.open_part d.messages ≡ [] → d.methods ≡ [] → text_by N (table_of (added_enum d n)) ≡ text_by N (table_of d) ++ line (codes "enum" ∷ n ∷ [])
+pub text_enum : (N : Table) (d : Draft) (n : List ℕ) → with_message d.open_part d.messages ≡ [] → d.methods ≡ []
+    → text_by N (table_of (added_enum d n)) ≡ text_by N (table_of d) ++ line (codes "enum" ∷ n ∷ [])
 text_enum N d n ms ks =
     let es = with_enum d.open_part d.enums in
     let last : enum_lines (record { name = n; values = [] }) ≡ line (codes "enum" ∷ n ∷ []) = append-nil (line (codes "enum" ∷ n ∷ [])) in
-    at_first (flat_map enum_lines es) (flat_map enum_lines (es ++ (record { name = n; values = [] }) ∷ [])) (flat_map (message_lines N) (with_message d.open_part d.messages)) (flat_map (method_line N) (enumerate_from 0 d.methods)) (line (codes "enum" ∷ n ∷ []))
-    (no_messages N (with_message d.open_part d.messages) ms) (no_methods N d.methods ks) (flat_push enum_lines es (record { name = n; values = [] }) ∙ ap (λ (l : List ℕ). flat_map enum_lines es ++ l) last)
+    at_first (flat_map enum_lines es) (flat_map enum_lines (es ++ (record { name = n; values = [] }) ∷ []))
+    (flat_map (message_lines N) (with_message d.open_part d.messages))
+    (flat_map (method_line N) (enumerate_from 0 d.methods)) (line (codes "enum" ∷ n ∷ []))
+    (no_messages N (with_message d.open_part d.messages) ms) (no_methods N d.methods ks)
+    (flat_push enum_lines es (record { name = n; values = [] })
+    ∙ ap (λ (l : List ℕ). flat_map enum_lines es ++ l) last)
 
 pub text_message : (N : Table) (d : Draft) (n : List ℕ) → d.methods ≡ [] → text_by N (table_of (added_message d n)) ≡ text_by N (table_of d) ++ line (codes "message" ∷ n ∷ [])
 text_message N d n ks =
     let ms = with_message d.open_part d.messages in
     let m : TheMessage = (record { name = n; fields = []; oneofs = [] }) in
     let last : message_lines N m ≡ line (codes "message" ∷ n ∷ []) = append-nil (line (codes "message" ∷ n ∷ [])) in
-    at_second (flat_map enum_lines (with_enum d.open_part d.enums)) (flat_map (message_lines N) ms) (flat_map (message_lines N) (ms ++ m ∷ [])) (flat_map (method_line N) (enumerate_from 0 d.methods)) (line (codes "message" ∷ n ∷ []))
+    at_second (flat_map enum_lines (with_enum d.open_part d.enums)) (flat_map (message_lines N) ms)
+    (flat_map (message_lines N) (ms ++ m ∷ [])) (flat_map (method_line N) (enumerate_from 0 d.methods))
+    (line (codes "message" ∷ n ∷ []))
     (no_methods N d.methods ks) (flat_push (message_lines N) ms m ∙ ap (λ (l : List ℕ). flat_map (message_lines N) ms ++ l) last)
 
 enum_more : (c : Choices) (v : ℤ × List ℕ) → enum_lines (record { name = c.name; values = c.values ++ v ∷ [] }) ≡ enum_lines c ++ value_line v
-enum_more c v = ap (λ (x : List ℕ). line (codes "enum" ∷ c.name ∷ []) ++ x) (flat_push value_line c.values v) ∙ sym (append_assoc (line (codes "enum" ∷ c.name ∷ [])) (flat_map value_line c.values) (value_line v))
+enum_more c v = ap (λ (x : List ℕ). line (codes "enum" ∷ c.name ∷ []) ++ x) (flat_push value_line c.values v)
+    ∙ sym (append_assoc (line (codes "enum" ∷ c.name ∷ [])) (flat_map value_line c.values) (value_line v))
 
 pub text_value : (N : Table) (d : Draft) (c : Choices) (z : ℤ) (n : List ℕ) → d.messages ≡ [] → d.methods ≡ []
-    → text_by N (table_of (with_part d (open_parts.Enum (record { name = c.name; values = c.values ++ (z, n) ∷ [] })))) ≡ text_by N (table_of (with_part d (open_parts.Enum c))) ++ line (codes "value" ∷ signed_decimal z ∷ n ∷ [])
+    → text_by N (table_of
+    (with_part d (open_parts.Enum (record { name = c.name; values = c.values ++ (z, n) ∷ [] }))))
+    ≡ text_by N (table_of (with_part d (open_parts.Enum c))) ++ line (codes "value" ∷ signed_decimal z ∷ n ∷ [])
 text_value N d c z n ms ks =
     let c' : Choices = (record { name = c.name; values = c.values ++ (z, n) ∷ [] }) in
-    at_first (flat_map enum_lines (d.enums ++ c ∷ [])) (flat_map enum_lines (d.enums ++ c' ∷ [])) (flat_map (message_lines N) d.messages) (flat_map (method_line N) (enumerate_from 0 d.methods)) (value_line (z, n))
+    at_first (flat_map enum_lines (d.enums ++ c ∷ [])) (flat_map enum_lines (d.enums ++ c' ∷ []))
+    (flat_map (message_lines N) d.messages) (flat_map (method_line N) (enumerate_from 0 d.methods))
+    (value_line (z, n))
     (no_messages N d.messages ms) (no_methods N d.methods ks)
-    (flat_push enum_lines d.enums c' ∙ ap (λ (l : List ℕ). flat_map enum_lines d.enums ++ l) (enum_more c (z, n)) ∙ sym (append_assoc (flat_map enum_lines d.enums) (enum_lines c) (value_line (z, n))) ∙ ap (λ (x : List ℕ). x ++ value_line (z, n)) (sym (flat_push enum_lines d.enums c)))
+    (flat_push enum_lines d.enums c' ∙ ap (λ (l : List ℕ). flat_map enum_lines d.enums ++ l) (enum_more c (z, n))
+    ∙ sym (append_assoc (flat_map enum_lines d.enums) (enum_lines c) (value_line (z, n)))
+    ∙ ap (λ (x : List ℕ). x ++ value_line (z, n)) (sym (flat_push enum_lines d.enums c)))
 
-pub text_method : (N : Table) (d : Draft) (m : TheMethod) → text_by N (table_of (record { enums = with_enum d.open_part d.enums; messages = with_message d.open_part d.messages; methods = d.methods ++ m ∷ []; open_part = open_parts.Nothing })) ≡ text_by N (table_of d) ++ method_line N (length d.methods, m)
+pub text_method : (N : Table) (d : Draft) (m : TheMethod)
+    → text_by N (table_of (record {
+      enums = with_enum d.open_part d.enums;
+      messages = with_message d.open_part d.messages;
+      methods = d.methods ++ m ∷ [];
+      open_part = open_parts.Nothing;
+    }))
+    ≡ text_by N (table_of d) ++ method_line N (length d.methods, m)
 text_method N d m =
-    at_third (flat_map enum_lines (with_enum d.open_part d.enums)) (flat_map (message_lines N) (with_message d.open_part d.messages)) (flat_map (method_line N) (enumerate_from 0 d.methods)) (flat_map (method_line N) (enumerate_from 0 (d.methods ++ m ∷ []))) (method_line N (length d.methods, m))
-    (ap (flat_map (method_line N)) (enumerate-push 0 d.methods m) ∙ flat_push (method_line N) (enumerate_from 0 d.methods) (0 + length d.methods, m) ∙ ap (λ (k : ℕ). flat_map (method_line N) (enumerate_from 0 d.methods) ++ method_line N (k, m)) (zero-add (length d.methods)))
+    at_third (flat_map enum_lines (with_enum d.open_part d.enums))
+    (flat_map (message_lines N) (with_message d.open_part d.messages))
+    (flat_map (method_line N) (enumerate_from 0 d.methods))
+    (flat_map (method_line N) (enumerate_from 0 (d.methods ++ m ∷ []))) (method_line N (length d.methods, m))
+    (ap (flat_map (method_line N)) (enumerate-push 0 d.methods m)
+    ∙ flat_push (method_line N) (enumerate_from 0 d.methods) (0 + length d.methods, m)
+    ∙ ap (λ (k : ℕ). flat_map (method_line N) (enumerate_from 0 d.methods) ++ method_line N (k, m))
+    (zero-add (length d.methods)))
 
 -- ---- fields: kinds by their places, and oneofs that grow
 
@@ -117,7 +146,9 @@ label_kept N oneofs more Packed h = refl
 label_kept N oneofs more (Map k) h = refl
 label_kept N oneofs more (Member o) h = ap (λ (x : Option (List ℕ)). codes "oneof:" ++ unwrap_or x []) (get_front oneofs more o h)
 
-fields_kept : (N : Table) (oneofs more : List (List ℕ)) (fs : List TheField) → AllByRecursion (λ f. LabelPlaced (length oneofs) f.label) fs → flat_map (field_line N (oneofs ++ more)) fs ≡ flat_map (field_line N oneofs) fs
+fields_kept : (N : Table) (oneofs more : List (List ℕ)) (fs : List TheField)
+    → AllByRecursion (λ f. LabelPlaced (length oneofs) f.label) fs
+    → flat_map (field_line N (oneofs ++ more)) fs ≡ flat_map (field_line N oneofs) fs
 fields_kept N oneofs more [] h = refl
 fields_kept N oneofs more (f ∷ fs) h =
     let label = label_kept N oneofs more f.label h.0 in
@@ -129,7 +160,9 @@ member_new n oneofs few is =
     let small : min (length oneofs) (2 ^ 32 - 1) ≡ length oneofs = omega arith in
     ap (λ (o : Option ℕ). in_range (unwrap_or o (length oneofs))) (place_new 0 n oneofs is) ∙ small
 
-kept_by : (N : Table) (oneofs : List (List ℕ)) (new : Option (List ℕ)) (fs : List TheField) → AllByRecursion (λ f. LabelPlaced (length oneofs) f.label) fs → flat_map (field_line N (joined_with oneofs new)) fs ≡ flat_map (field_line N oneofs) fs
+kept_by : (N : Table) (oneofs : List (List ℕ)) (new : Option (List ℕ)) (fs : List TheField)
+    → AllByRecursion (λ f. LabelPlaced (length oneofs) f.label) fs
+    → flat_map (field_line N (joined_with oneofs new)) fs ≡ flat_map (field_line N oneofs) fs
 kept_by N oneofs None fs h = refl
 kept_by N oneofs (Some n) fs h = fields_kept N oneofs (n ∷ []) fs h
 
@@ -147,19 +180,25 @@ label_placed t oneofs w (labels.Member n) small few h known =
           ap (λ (x : Option (List ℕ)). codes "oneof:" ++ unwrap_or x []) p.1 ∙ sym h.0
       | false ↦ λ is.
           let at : place n oneofs ≡ length oneofs = member_new n oneofs few is in
-          ap (λ (i : ℕ). codes "oneof:" ++ unwrap_or (slice_get (oneofs ++ n ∷ []) i) []) at ∙ ap (λ (x : Option (List ℕ)). codes "oneof:" ++ unwrap_or x []) (get_last oneofs n) ∙ sym h.0
+          ap (λ (i : ℕ). codes "oneof:" ++ unwrap_or (slice_get (oneofs ++ n ∷ []) i) []) at
+          ∙ ap (λ (x : Option (List ℕ)). codes "oneof:" ++ unwrap_or x []) (get_last oneofs n) ∙ sym h.0
     ] refl
 
 message_more : (N : Table) (m : TheMessage) (f : TheField) (new : Option (List ℕ)) → AllByRecursion (λ f. LabelPlaced (length m.oneofs) f.label) m.fields
     → message_lines N (record { name = m.name; fields = m.fields ++ f ∷ []; oneofs = joined_with m.oneofs new }) ≡ message_lines N m ++ field_line N (joined_with m.oneofs new) f
 message_more N m f new placed =
     let head = line (codes "message" ∷ m.name ∷ []) in
-    ap (λ (x : List ℕ). head ++ x) (flat_push (field_line N (joined_with m.oneofs new)) m.fields f ∙ ap (λ (x : List ℕ). x ++ field_line N (joined_with m.oneofs new) f) (kept_by N m.oneofs new m.fields placed))
+    ap (λ (x : List ℕ). head ++ x) (flat_push (field_line N (joined_with m.oneofs new)) m.fields f
+    ∙ ap (λ (x : List ℕ). x ++ field_line N (joined_with m.oneofs new) f)
+    (kept_by N m.oneofs new m.fields placed))
     ∙ sym (append_assoc head (flat_map (field_line N m.oneofs) m.fields) (field_line N (joined_with m.oneofs new) f))
 
-pub text_field : (t : Types) (d : Draft) (m : TheMessage) (n : ℕ) (f : FieldLine) (lw kw : List ℕ) → IsSmall t → d.methods ≡ [] → length m.oneofs ≤ 128 → AllByRecursion (λ f. LabelPlaced (length m.oneofs) f.label) m.fields
+pub text_field : (t : Types) (d : Draft) (m : TheMessage) (n : ℕ) (f : FieldLine) (lw kw : List ℕ) → IsSmall t
+    → d.methods ≡ [] → length m.oneofs ≤ 128 → AllByRecursion (λ f. LabelPlaced (length m.oneofs) f.label) m.fields
     → LabelIs lw f.label → KindIs kw f.kind → is_unknown_label t f.label ≡ false → is_unknown_kind t f.kind ≡ false
-    → text_by (names_table t) (table_of (with_part d (with_field t (open_parts.Message m) (Some n) f))) ≡ text_by (names_table t) (table_of (with_part d (open_parts.Message m))) ++ line (codes "field" ∷ decimal n ∷ lw ∷ kw ∷ f.name ∷ [])
+    → text_by (names_table t) (table_of (with_part d (with_field t (open_parts.Message m) (Some n) f)))
+    ≡ text_by (names_table t) (table_of (with_part d (open_parts.Message m)))
+    ++ line (codes "field" ∷ decimal n ∷ lw ∷ kw ∷ f.name ∷ [])
 text_field t d m n f lw kw small ks few placed label kind known_label known_kind =
     let N = names_table t in
     let new = new_oneof m.oneofs f.label in
@@ -168,8 +207,11 @@ text_field t d m n f lw kw small ks few placed label kind known_label known_kind
     let text : field_line N (joined_with m.oneofs new) g ≡ line (codes "field" ∷ decimal n ∷ lw ∷ kw ∷ f.name ∷ []) =
     ap (λ (x : List ℕ). line (codes "field" ∷ decimal n ∷ x ∷ kind_text N (resolved t f.kind) ∷ f.name ∷ [])) (label_placed t m.oneofs lw f.label small few label known_label)
     ∙ ap (λ (x : List ℕ). line (codes "field" ∷ decimal n ∷ lw ∷ x ∷ f.name ∷ [])) (kind_placed t kw f.kind small kind known_kind) in
-    at_second (flat_map enum_lines d.enums) (flat_map (message_lines N) (d.messages ++ m ∷ [])) (flat_map (message_lines N) (d.messages ++ m' ∷ [])) (flat_map (method_line N) (enumerate_from 0 d.methods)) (line (codes "field" ∷ decimal n ∷ lw ∷ kw ∷ f.name ∷ []))
+    at_second (flat_map enum_lines d.enums) (flat_map (message_lines N) (d.messages ++ m ∷ []))
+    (flat_map (message_lines N) (d.messages ++ m' ∷ [])) (flat_map (method_line N) (enumerate_from 0 d.methods))
+    (line (codes "field" ∷ decimal n ∷ lw ∷ kw ∷ f.name ∷ []))
     (no_methods N d.methods ks)
-    (flat_push (message_lines N) d.messages m' ∙ ap (λ (l : List ℕ). flat_map (message_lines N) d.messages ++ l) (message_more N m g new placed ∙ ap (λ (l : List ℕ). message_lines N m ++ l) text)
+    (flat_push (message_lines N) d.messages m' ∙ ap (λ (l : List ℕ). flat_map (message_lines N) d.messages ++ l)
+    (message_more N m g new placed ∙ ap (λ (l : List ℕ). message_lines N m ++ l) text)
     ∙ sym (append_assoc (flat_map (message_lines N) d.messages) (message_lines N m) (line (codes "field" ∷ decimal n ∷ lw ∷ kw ∷ f.name ∷ [])))
     ∙ ap (λ (x : List ℕ). x ++ line (codes "field" ∷ decimal n ∷ lw ∷ kw ∷ f.name ∷ [])) (sym (flat_push (message_lines N) d.messages m)))

@@ -1,5 +1,6 @@
 -- Where a reason stands against a line, one is found, and none later than it.
-use Rattle.std.proofs.Common.{◌≡◌, ◌≢◌, ℕ, ℤ, ◌<◌, ◌≤◌, ◌==◌, ◌||◌, ◌&&◌, not, Bool, true, false, cond, List, [], ◌∷◌, ◌++◌, codes, length, Option, Some, None, refl, ap, sym, subst, ◌∙◌, arith, inl, inr}
+use Rattle.std.proofs.Common.{◌≡◌, ◌≢◌, ℕ, ℤ, ◌<◌, ◌≤◌, ◌==◌, ◌||◌, ◌&&◌, not, Bool, true, false, cond, List, [], ◌∷◌}
+use Rattle.std.proofs.Common.{◌++◌, codes, length, Option, Some, None, refl, ap, sym, subst, ◌∙◌, arith, inl, inr}
 use Rattle.std.specs.Prelude.{nat_lt, IsTrue, FitsSigned}
 use Rattle.std.specs.Int.{w32}
 use Rattle.std.specs.List.{Contains}
@@ -9,9 +10,23 @@ use Rattle.std.proofs.lemmas.List.Elements.{Contains-append_cases}
 use Rattle.mrpc_table.specs.Names.{is_full_form, is_short, is_short_full}
 use Rattle.mrpc_table.specs.Valid.{IsFieldNumber}
 use Rattle.mrpc_table.specs.Words.{is_numeric, is_key}
-use Rattle.table_text.specs.Faults.{Offends, is_packable, is_key_kind, order_of, no_form, enum_behind_message, enum_behind_method, message_behind_method, falling_enum, falling_message, value_outside, falling_value, field_outside, falling_field, optional_message, packed_no_number, enum_without_value, value_out_of_range, no_field_number, index_out_of_turn, enum_without_zero, type_twice, value_twice, field_twice, number_twice, method_twice, unknown_type, map_key, long_name, long_full_name, too_many_enums, too_many_messages, too_many_methods, too_many_values, too_many_fields}
-use Rattle.table_text.specs.Forms.{Form, enum, value, message, field, method, Says, is_method, goes_on, type_named, type_of_kind, types_of_label, types_used, names_of_label, names_in, full_name_of_kind, full_names_of_label, full_names_in}
-use Rattle.table_text.specs.Judged.{Types, Before, types_of, line_fault, is_syntax, is_number, is_duplicate, is_unknown, is_map_key, is_limit, is_among, is_empty, falls, lacks_value, lacks_zero, is_within, has_field_number, is_index, clashes, field_falls, is_type_before, is_field_before, repeats_number, is_unknown_kind, is_unknown_label, is_key_word, is_numeric_word, is_short_kind, is_short_label, has_short_names, is_full}
+use Rattle.table_text.specs.Faults.{Offends, is_packable, is_key_kind, order_of, no_form, enum_behind_message}
+use Rattle.table_text.specs.Faults.{enum_behind_method, message_behind_method, falling_enum, falling_message}
+use Rattle.table_text.specs.Faults.{value_outside, falling_value, field_outside, falling_field, optional_message}
+use Rattle.table_text.specs.Faults.{packed_no_number, enum_without_value, value_out_of_range, no_field_number}
+use Rattle.table_text.specs.Faults.{index_out_of_turn, enum_without_zero, type_twice, value_twice, field_twice}
+use Rattle.table_text.specs.Faults.{number_twice, method_twice, unknown_type, map_key, long_name, long_full_name}
+use Rattle.table_text.specs.Faults.{too_many_enums, too_many_messages, too_many_methods, too_many_values}
+use Rattle.table_text.specs.Faults.{too_many_fields}
+use Rattle.table_text.specs.Forms.{Form, enum, value, message, field, method, Says, is_method, goes_on, type_named}
+use Rattle.table_text.specs.Forms.{type_of_kind, types_of_label, types_used, names_of_label, names_in}
+use Rattle.table_text.specs.Forms.{full_name_of_kind, full_names_of_label, full_names_in}
+use Rattle.table_text.specs.Judged.{Types, Before, types_of, line_fault, is_syntax, is_number, is_duplicate}
+use Rattle.table_text.specs.Judged.{is_unknown, is_map_key, is_limit, is_among, is_empty, falls, lacks_value}
+use Rattle.table_text.specs.Judged.{lacks_zero, is_within, has_field_number, is_index, clashes, field_falls}
+use Rattle.table_text.specs.Judged.{is_type_before, is_field_before, repeats_number, is_unknown_kind}
+use Rattle.table_text.specs.Judged.{is_unknown_label, is_key_word, is_numeric_word, is_short_kind, is_short_label}
+use Rattle.table_text.specs.Judged.{has_short_names, is_full}
 use Rattle.table_text.specs.Lines.{in_32_bits, behind, line_of}
 use Rattle.table_text.specs.declared.fault.TableReason.{TableReason}
 use Rattle.table_text.specs.declared.fault.TableReason.TheVariants.{Syntax, Number, Duplicate, UnknownType, MapKey, Limit}
@@ -24,7 +39,9 @@ use Rattle.table_text.proofs.FormLines.{kept, kept_whole, kept_within, in_32, sa
 use Rattle.table_text.proofs.FormParts.{Fits, enum_name, message_name, method_key_of, named_in, in_names}
 use Rattle.table_text.proofs.FormPlaces.{left_true, right_true, not_is}
 use Rattle.table_text.proofs.FormReasons.{enums_counted, messages_counted, methods_counted, behind_message, behind_enum}
-use Rattle.table_text.proofs.FormTests.{said_lacks_value, said_lacks_zero, outside_falls, below_falls, outside_field_falls, below_field_falls, said_value_before, said_field_before, said_repeats, said_many, said_enum_falls, said_message_falls}
+use Rattle.table_text.proofs.FormTests.{said_lacks_value, said_lacks_zero, outside_falls, below_falls}
+use Rattle.table_text.proofs.FormTests.{outside_field_falls, below_field_falls, said_value_before, said_field_before}
+use Rattle.table_text.proofs.FormTests.{said_repeats, said_many, said_enum_falls, said_message_falls}
 use Rattle.table_text.proofs.OrderLemmas.{contains_nothing, contains_cases, contains_among, among_not}
 use Rattle.table_text.proofs.SpellLemmas.{KindIs, LabelIs, kind_is, label_is}
 use Rattle.table_text.proofs.Soundness.{number_fits}
@@ -61,7 +78,9 @@ module _ (t : Types) (b : Before) (bytes : ℕ) (l : Line) where
   at_number e = later (is_syntax b l) Syntax Number _ (omega arith) (first (is_number b l) Number Number _ (omega arith) e)
 
   at_duplicate : is_duplicate b l ≡ true → AtMost (line_fault t b bytes (Some l)) Duplicate
-  at_duplicate e = later (is_syntax b l) Syntax Duplicate _ (omega arith) (later (is_number b l) Number Duplicate _ (omega arith) (first (is_duplicate b l) Duplicate Duplicate _ (omega arith) e))
+  at_duplicate e = later (is_syntax b l) Syntax Duplicate _ (omega arith)
+      (later (is_number b l) Number Duplicate _ (omega arith)
+      (first (is_duplicate b l) Duplicate Duplicate _ (omega arith) e))
 
   at_unknown : is_unknown t l ≡ true → AtMost (line_fault t b bytes (Some l)) UnknownType
   at_unknown e =
@@ -170,13 +189,17 @@ type_duplicate b (method i s m x y) n e h = absurd cc
 
 -- ---- UnknownType
 
-message_unknown : (lines : List (List ℕ)) (n : List ℕ) → IsTrue (is_full_form n) → ((other : List ℕ) → Contains lines other → Says other (message n) → ⊥) → not (is_among n (types_of lines).messages) ≡ true
+message_unknown : (lines : List (List ℕ)) (n : List ℕ) → IsTrue (is_full_form n)
+    → ((other : List ℕ) → Contains lines other → Says other (message n) → ⊥)
+    → not (is_among n (types_of lines).messages) ≡ true
 message_unknown lines n form none =
     not_is (is_among n (types_of lines).messages) (among_not n (types_of lines).messages (λ c.
     let r = named_in (behind (codes "message ")) lines n c in
     none r.0 r.1 (behind_message r.0 n r.2 form)))
 
-enum_unknown : (lines : List (List ℕ)) (n : List ℕ) → IsTrue (is_full_form n) → ((other : List ℕ) → Contains lines other → Says other (enum n) → ⊥) → not (is_among n (types_of lines).enums) ≡ true
+enum_unknown : (lines : List (List ℕ)) (n : List ℕ) → IsTrue (is_full_form n)
+    → ((other : List ℕ) → Contains lines other → Says other (enum n) → ⊥)
+    → not (is_among n (types_of lines).enums) ≡ true
 enum_unknown lines n form none =
     not_is (is_among n (types_of lines).enums) (among_not n (types_of lines).enums (λ c.
     let r = named_in (behind (codes "enum ")) lines n c in
@@ -185,7 +208,8 @@ enum_unknown lines n form none =
 abbrev pub NoneSays : List (List ℕ) → Form → Type 0
 NoneSays lines type = (other : List ℕ) → Contains lines other → Says other type → ⊥
 
-kind_unknown : (lines : List (List ℕ)) (w : List ℕ) (k : KindWord) (type : Form) → KindIs w k → Contains (type_of_kind k) type → NoneSays lines type → is_unknown_kind (types_of lines) k ≡ true
+kind_unknown : (lines : List (List ℕ)) (w : List ℕ) (k : KindWord) (type : Form) → KindIs w k
+    → Contains (type_of_kind k) type → NoneSays lines type → is_unknown_kind (types_of lines) k ≡ true
 kind_unknown lines w (kinds.Scalar k) type is c none = absurd (contains_nothing type c)
 kind_unknown lines w (kinds.Message n) type is c none = elim (contains_cases (message n) type [] c) [
   | inl same ↦ message_unknown lines n is.1 (subst (NoneSays lines) (sym same) none)
@@ -196,7 +220,8 @@ kind_unknown lines w (kinds.Choice n) type is c none = elim (contains_cases (enu
   | inr more ↦ absurd (contains_nothing type more)
 ]
 
-label_unknown : (lines : List (List ℕ)) (w : List ℕ) (l : LabelWord) (type : Form) → LabelIs w l → Contains (types_of_label l) type → NoneSays lines type → is_unknown_label (types_of lines) l ≡ true
+label_unknown : (lines : List (List ℕ)) (w : List ℕ) (l : LabelWord) (type : Form) → LabelIs w l
+    → Contains (types_of_label l) type → NoneSays lines type → is_unknown_label (types_of lines) l ≡ true
 label_unknown lines w labels.Plain type is c none = absurd (contains_nothing type c)
 label_unknown lines w labels.Optional type is c none = absurd (contains_nothing type c)
 label_unknown lines w labels.Repeated type is c none = absurd (contains_nothing type c)
@@ -204,7 +229,8 @@ label_unknown lines w labels.Packed type is c none = absurd (contains_nothing ty
 label_unknown lines w (labels.Map key) type is c none = kind_unknown lines is.0 key type is.2 c none
 label_unknown lines w (labels.Member o) type is c none = absurd (contains_nothing type c)
 
-unknown_found : (lines : List (List ℕ)) (line : List ℕ) (f type : Form) → Says line f → Contains (types_used f) type → NoneSays lines type → is_unknown (types_of lines) (kept f) ≡ true
+unknown_found : (lines : List (List ℕ)) (line : List ℕ) (f type : Form) → Says line f → Contains (types_used f) type
+    → NoneSays lines type → is_unknown (types_of lines) (kept f) ≡ true
 unknown_found lines line (enum n) type says c none = absurd (contains_nothing type c)
 unknown_found lines line (value z n) type says c none = absurd (contains_nothing type c)
 unknown_found lines line (message n) type says c none = absurd (contains_nothing type c)
@@ -278,7 +304,8 @@ names_long (field i l k m) n c e = elim (contains_cases m n (names_of_label l) c
 ]
 names_long (method i s m x y) n c e =
     let short : is_short m ≡ false = ap is_short (only m n c) ∙ e in
-    and_left ((is_short_full s && is_short m) && is_short_full x) (is_short_full y) (and_left (is_short_full s && is_short m) (is_short_full x) (and_right (is_short_full s) (is_short m) short))
+    and_left ((is_short_full s && is_short m) && is_short_full x) (is_short_full y)
+    (and_left (is_short_full s && is_short m) (is_short_full x) (and_right (is_short_full s) (is_short m) short))
 
 full_names_long : (f : Form) (n : List ℕ) → Contains (full_names_in f) n → is_short_full n ≡ false → has_short_names (kept f) ≡ false
 full_names_long (enum m) n c e = ap is_short_full (only m n c) ∙ e
@@ -290,9 +317,12 @@ full_names_long (field i l k m) n c e = elim (Contains-append_cases (full_names_
 ]
 full_names_long (method i s m x y) n c e = elim (contains_cases s n (x ∷ y ∷ []) c) [
   | inl service ↦
-      and_left ((is_short_full s && is_short m) && is_short_full x) (is_short_full y) (and_left (is_short_full s && is_short m) (is_short_full x) (and_left (is_short_full s) (is_short m) (ap is_short_full service ∙ e)))
+      and_left ((is_short_full s && is_short m) && is_short_full x) (is_short_full y)
+      (and_left (is_short_full s && is_short m) (is_short_full x)
+      (and_left (is_short_full s) (is_short m) (ap is_short_full service ∙ e)))
   | inr types ↦ elim (contains_cases x n (y ∷ []) types) [
-    | inl input ↦ and_left ((is_short_full s && is_short m) && is_short_full x) (is_short_full y) (and_right (is_short_full s && is_short m) (is_short_full x) (ap is_short_full input ∙ e))
+    | inl input ↦ and_left ((is_short_full s && is_short m) && is_short_full x) (is_short_full y)
+        (and_right (is_short_full s && is_short m) (is_short_full x) (ap is_short_full input ∙ e))
     | inr output ↦ and_right ((is_short_full s && is_short m) && is_short_full x) (is_short_full y) (ap is_short_full (only y n output) ∙ e)
   ]
 ]
@@ -300,15 +330,18 @@ full_names_long (method i s m x y) n c e = elim (contains_cases s n (x ∷ y ∷
 -- ---- a line
 
 -- a line in form is judged by its form
-pub by_form : (t : Types) (b : Before) (bytes : ℕ) (line : List ℕ) (f : Form) (q r : TableReason) → Says line f → r ≡ q → AtMost (line_fault t b bytes (Some (kept f))) q → AtMost (line_fault t b bytes (line_of line)) r
+pub by_form : (t : Types) (b : Before) (bytes : ℕ) (line : List ℕ) (f : Form) (q r : TableReason) → Says line f
+    → r ≡ q → AtMost (line_fault t b bytes (Some (kept f))) q → AtMost (line_fault t b bytes (line_of line)) r
 by_form t b bytes line f q r says e h =
     subst (λ (s : TableReason). AtMost (line_fault t b bytes (line_of line)) s) (sym e) (subst (λ (o : Option Line). AtMost (line_fault t b bytes o) q) (sym (says_line line f says)) h)
 
-formless : (t : Types) (b : Before) (bytes : ℕ) (line : List ℕ) → ((f : Form) → Says line f → ⊥) → (o : Option Line) → line_of line ≡ o → AtMost (line_fault t b bytes o) Syntax
+formless : (t : Types) (b : Before) (bytes : ℕ) (line : List ℕ) → ((f : Form) → Says line f → ⊥) → (o : Option Line)
+    → line_of line ≡ o → AtMost (line_fault t b bytes o) Syntax
 formless t b bytes line none None e = record { reason = Syntax; is = refl; le = omega arith }
 formless t b bytes line none (Some l) e = let said = line_said line l e in absurd (none said.form said.words)
 
-pub stands_found : (lines : List (List ℕ)) (fs : List Form) (b : Before) (bytes : ℕ) (line : List ℕ) (r : TableReason) → Fits fs b → Offends lines fs line r → AtMost (line_fault (types_of lines) b bytes (line_of line)) r
+pub stands_found : (lines : List (List ℕ)) (fs : List Form) (b : Before) (bytes : ℕ) (line : List ℕ) (r : TableReason)
+    → Fits fs b → Offends lines fs line r → AtMost (line_fault (types_of lines) b bytes (line_of line)) r
 stands_found lines fs b bytes line r s (no_form none e) =
     subst (λ (q : TableReason). AtMost (line_fault (types_of lines) b bytes (line_of line)) q) (sym e) (formless (types_of lines) b bytes line none (line_of line) refl)
 stands_found lines fs b bytes line r s (enum_behind_message n other says c e) =
@@ -352,7 +385,9 @@ stands_found lines fs b bytes line r s (field_outside i l k m says none e) =
 stands_found lines fs b bytes line r s (falling_field i last l l2 k k2 m other says is_last less e) =
     let t = types_of lines in
     by_form t b bytes line (field i l k m) Syntax r says e (at_syntax t b bytes (kept (field i l k m)) Syntax
-    (right_true (clashes l k) (field_falls b.open_part (in_32_bits i)) (below_field_falls fs b.open_part i (record { number = last; label = l2; kind = k2; name = other }) s.part is_last less)))
+    (right_true (clashes l k) (field_falls b.open_part (in_32_bits i))
+    (below_field_falls fs b.open_part i (record { number = last; label = l2; kind = k2; name = other }) s.part
+    is_last less)))
 stands_found lines fs b bytes line r s (optional_message i type m says e) =
     let t = types_of lines in
     by_form t b bytes line (field i labels.Optional (kinds.Message type) m) Syntax r says e (at_syntax t b bytes (kept (field i labels.Optional (kinds.Message type) m)) Syntax refl)
@@ -388,14 +423,21 @@ stands_found lines fs b bytes line r s (value_twice z other n says above e) =
     ])
 stands_found lines fs b bytes line r s (field_twice i other l l2 k k2 m says above e) =
     let t = types_of lines in
-    by_form t b bytes line (field i l k m) Duplicate r says e (elim (said_field_before fs b.open_part (in_32_bits i) (record { number = other; label = l2; kind = k2; name = m }) s.part above) [
+    by_form t b bytes line (field i l k m) Duplicate r says e
+    (elim (said_field_before fs b.open_part (in_32_bits i) (record {
+      number = other;
+      label = l2;
+      kind = k2;
+      name = m;
+    }) s.part above) [
       | inl falling ↦ at_syntax t b bytes (kept (field i l k m)) Duplicate (right_true (clashes l k) (field_falls b.open_part (in_32_bits i)) falling)
       | inr twice ↦ at_duplicate t b bytes (kept (field i l k m)) (left_true (is_field_before b.open_part m) (repeats_number b.open_part (in_32_bits i)) twice)
     ])
 stands_found lines fs b bytes line r s (number_twice i l l2 k k2 m other says last e) =
     let t = types_of lines in
     by_form t b bytes line (field i l k m) Duplicate r says e (at_duplicate t b bytes (kept (field i l k m))
-    (right_true (is_field_before b.open_part m) (repeats_number b.open_part (in_32_bits i)) (said_repeats fs b.open_part (record { number = i; label = l2; kind = k2; name = other }) s.part last)))
+    (right_true (is_field_before b.open_part m) (repeats_number b.open_part (in_32_bits i))
+    (said_repeats fs b.open_part (record { number = i; label = l2; kind = k2; name = other }) s.part last)))
 stands_found lines fs b bytes line r s (method_twice i j sv n x y u v says c e) =
     let t = types_of lines in
     let key = subst (λ (xs : List (List ℕ)). Contains xs (sv ++ 32 ∷ n)) s.methods (in_names method_key_of fs (method j sv n u v) (sv ++ 32 ∷ n) c refl) in

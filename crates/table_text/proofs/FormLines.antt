@@ -1,5 +1,6 @@
 -- What a line says by its form is what it is read as, with each number as far as the reader keeps it.
-use Rattle.std.proofs.Common.{◌≡◌, ℕ, ℤ, pos, negsuc, ◌+◌, ◌-◌, ◌^◌, ◌<◌, ◌≤◌, ◌==◌, true, false, cond, List, [], ◌∷◌, codes, Some, None, refl, ap, sym, ◌∙◌, arith, inl, inr, ◌⊎◌}
+use Rattle.std.proofs.Common.{◌≡◌, ℕ, ℤ, pos, negsuc, ◌+◌, ◌-◌, ◌^◌, ◌<◌, ◌≤◌, ◌==◌, true, false, cond, List, [], ◌∷◌}
+use Rattle.std.proofs.Common.{codes, Some, None, refl, ap, sym, ◌∙◌, arith, inl, inr, ◌⊎◌}
 use Rattle.std.specs.Prelude.{option_map, option_and_then, nat_le, FitsSigned, if◌then◌else◌}
 use Rattle.std.specs.Int.{w32}
 use Rattle.std.specs.Str.{bytes_eq}
@@ -10,7 +11,9 @@ use Rattle.std.proofs.lemmas.Bool.Decides.{eqb_tells, leb_tells}
 use Rattle.mrpc_table.specs.Lines.{words_of, is_decimal, number_of}
 use Rattle.table_text.specs.Forms.{Form, enum, value, message, field, method, IsWhole, AreWordsOf, Says}
 use Rattle.table_text.specs.Judged.{is_within}
-use Rattle.table_text.specs.Lines.{in_32_bits, whole_of, negative, not_negative, name_of, full_name_of, kind_of, label_of, enum_of, value_of, message_of, field_of, method_of, line_of_words, line_of}
+use Rattle.table_text.specs.Lines.{in_32_bits, whole_of, negative, not_negative, name_of, full_name_of, kind_of}
+use Rattle.table_text.specs.Lines.{label_of, enum_of, value_of, message_of, field_of, method_of, line_of_words}
+use Rattle.table_text.specs.Lines.{line_of}
 use Rattle.table_text.specs.declared.line.Whole.{Whole}
 use Rattle.table_text.specs.declared.line.Whole.TheVariants.{Low, Within, High}
 use Rattle.table_text.specs.declared.line.Line.{Line}
@@ -167,8 +170,15 @@ field_said w (d ∷ []) l first e = absurd cc
 field_said w (d ∷ lw ∷ []) l first e = absurd cc
 field_said w (d ∷ lw ∷ kw ∷ []) l first e = absurd cc
 field_said w (d ∷ lw ∷ kw ∷ nw ∷ []) l first e =
-    let n = chained (λ n. option_and_then (λ l. option_and_then (λ k. option_map (λ m. Field (record { number = in_32_bits n; label = l; kind = k; name = m })) (name_of nw)) (kind_of kw)) (label_of lw)) (number_of d) l e in
-    let label = chained (λ l. option_and_then (λ k. option_map (λ m. Field (record { number = in_32_bits n.0; label = l; kind = k; name = m })) (name_of nw)) (kind_of kw)) (label_of lw) l n.2 in
+    let n = chained (λ n.
+    option_and_then (λ l.
+    option_and_then (λ k.
+    option_map (λ m. Field (record { number = in_32_bits n; label = l; kind = k; name = m })) (name_of nw))
+    (kind_of kw)) (label_of lw)) (number_of d) l e in
+    let label = chained
+    (λ l. option_and_then
+    (λ k. option_map (λ m. Field (record { number = in_32_bits n.0; label = l; kind = k; name = m }))
+    (name_of nw)) (kind_of kw)) (label_of lw) l n.2 in
     let kind = chained (λ k. option_map (λ m. Field (record { number = in_32_bits n.0; label = label.0; kind = k; name = m })) (name_of nw)) (kind_of kw) l label.2 in
     let m = mapped (λ m. Field (record { number = in_32_bits n.0; label = label.0; kind = kind.0; name = m })) (name_of nw) l kind.2 in
     let name = name_is nw m.0 m.1 in
@@ -182,9 +192,21 @@ method_said w (iw ∷ sw ∷ []) l first e = absurd cc
 method_said w (iw ∷ sw ∷ nw ∷ []) l first e = absurd cc
 method_said w (iw ∷ sw ∷ nw ∷ aw ∷ []) l first e = absurd cc
 method_said w (iw ∷ sw ∷ nw ∷ aw ∷ bw ∷ []) l first e =
-    let i = chained (λ i. option_and_then (λ s. option_and_then (λ n. option_and_then (λ a. option_map (λ b. Method (record { index = in_32_bits i; service = s; name = n; input = a; output = b })) (full_name_of bw)) (full_name_of aw)) (name_of nw)) (full_name_of sw)) (number_of iw) l e in
-    let s = chained (λ s. option_and_then (λ n. option_and_then (λ a. option_map (λ b. Method (record { index = in_32_bits i.0; service = s; name = n; input = a; output = b })) (full_name_of bw)) (full_name_of aw)) (name_of nw)) (full_name_of sw) l i.2 in
-    let n = chained (λ n. option_and_then (λ a. option_map (λ b. Method (record { index = in_32_bits i.0; service = s.0; name = n; input = a; output = b })) (full_name_of bw)) (full_name_of aw)) (name_of nw) l s.2 in
+    let i = chained (λ i.
+    option_and_then (λ s.
+    option_and_then (λ n.
+    option_and_then (λ a.
+    option_map (λ b. Method (record { index = in_32_bits i; service = s; name = n; input = a; output = b }))
+    (full_name_of bw)) (full_name_of aw)) (name_of nw)) (full_name_of sw)) (number_of iw) l e in
+    let s = chained (λ s.
+    option_and_then (λ n.
+    option_and_then (λ a.
+    option_map (λ b. Method (record { index = in_32_bits i.0; service = s; name = n; input = a; output = b }))
+    (full_name_of bw)) (full_name_of aw)) (name_of nw)) (full_name_of sw) l i.2 in
+    let n = chained (λ n.
+    option_and_then (λ a.
+    option_map (λ b. Method (record { index = in_32_bits i.0; service = s.0; name = n; input = a; output = b }))
+    (full_name_of bw)) (full_name_of aw)) (name_of nw) l s.2 in
     let a = chained (λ a. option_map (λ b. Method (record { index = in_32_bits i.0; service = s.0; name = n.0; input = a; output = b })) (full_name_of bw)) (full_name_of aw) l n.2 in
     let b = mapped (λ b. Method (record { index = in_32_bits i.0; service = s.0; name = n.0; input = a.0; output = b })) (full_name_of bw) l a.2 in
     let service = full_is sw s.0 s.1 in

@@ -1,5 +1,7 @@
 -- What the lines before a line say, while none of them is at fault, and what is kept of them.
-use Rattle.std.proofs.Common.{◌≡◌, ℕ, ℤ, ◌+◌, ◌^◌, ◌<◌, ◌≤◌, ◌||◌, ◌&&◌, not, Bool, true, false, cond, List, [], ◌∷◌, ◌++◌, length, map, Option, Some, None, refl, ap, sym, subst, ◌∙◌, append_assoc, arith, inl, inr, ◌⊎◌}
+use Rattle.std.proofs.Common.{◌≡◌, ℕ, ℤ, ◌+◌, ◌^◌, ◌<◌, ◌≤◌, ◌||◌, ◌&&◌, not, Bool, true, false, cond, List, [], ◌∷◌}
+use Rattle.std.proofs.Common.{◌++◌, length, map, Option, Some, None, refl, ap, sym, subst, ◌∙◌, append_assoc, arith}
+use Rattle.std.proofs.Common.{inl, inr, ◌⊎◌}
 use Rattle.std.specs.Prelude.{IsTrue, FitsSigned, option_to_list, nat_le, nat_lt}
 use Rattle.std.specs.Int.{w32}
 use Rattle.std.specs.List.{All, Contains, filter_map, cons_option, count_by}
@@ -99,7 +101,8 @@ one None = refl
 one (Some n) = refl
 
 names_push : (h : Form → Option (List ℕ)) (fs : List Form) (ns : List (List ℕ)) (f : Form) → filter_map h fs ≡ ns → filter_map h (fs ++ f ∷ []) ≡ ns ++ option_to_list (h f)
-names_push h fs ns f e = filter_map-append h fs (f ∷ []) ∙ ap (λ (xs : List (List ℕ)). filter_map h fs ++ xs) (one (h f)) ∙ ap (λ (xs : List (List ℕ)). xs ++ option_to_list (h f)) e
+names_push h fs ns f e = filter_map-append h fs (f ∷ []) ∙ ap (λ (xs : List (List ℕ)). filter_map h fs ++ xs)
+    (one (h f)) ∙ ap (λ (xs : List (List ℕ)). xs ++ option_to_list (h f)) e
 
 names_stay : (h : Form → Option (List ℕ)) (fs : List Form) (ns : List (List ℕ)) (f : Form) → h f ≡ None → filter_map h fs ≡ ns → filter_map h (fs ++ f ∷ []) ≡ ns
 names_stay h fs ns f none e = names_push h fs ns f e ∙ ap (λ (o : Option (List ℕ)). ns ++ option_to_list o) none ∙ append-nil ns
@@ -107,7 +110,8 @@ names_stay h fs ns f none e = names_push h fs ns f e ∙ ap (λ (o : Option (Lis
 formed_push : (fs : List Form) (f : Form) → ((g : Form) → Contains fs g → IsFormed g) → IsFormed f → (g : Form) → Contains (fs ++ f ∷ []) g → IsFormed g
 formed_push fs f all ok g h = elim (Contains-push_cases fs f g h) [ inl old ↦ all g old | inr same ↦ subst IsFormed same ok ]
 
-value_step : (t : Types) (fs : List Form) (es ms ks : List (List ℕ)) (part : Open) (bytes : ℕ) (z : ℤ) (n : List ℕ) → Fits fs (record { enums = es; messages = ms; methods = ks; open_part = part })
+value_step : (t : Types) (fs : List Form) (es ms ks : List (List ℕ)) (part : Open) (bytes : ℕ) (z : ℤ) (n : List ℕ)
+    → Fits fs (record { enums = es; messages = ms; methods = ks; open_part = part })
     → IsClean t (record { enums = es; messages = ms; methods = ks; open_part = part }) bytes (Value (kept_whole z) n)
     → Fits (fs ++ value z n ∷ []) (record { enums = es; messages = ms; methods = ks; open_part = with_value part (kept_whole z) n })
 value_step t fs es ms ks (values vs) bytes z n s h =
@@ -129,7 +133,8 @@ value_step t fs es ms ks (values vs) bytes z n s h =
 value_step t fs es ms ks (fields ns) bytes z n s h = let clash = h.syntax in absurd cc
 value_step t fs es ms ks nothing bytes z n s h = let clash = h.syntax in absurd cc
 
-field_step : (t : Types) (fs : List Form) (es ms ks : List (List ℕ)) (part : Open) (bytes : ℕ) (p : Parts) → Fits fs (record { enums = es; messages = ms; methods = ks; open_part = part })
+field_step : (t : Types) (fs : List Form) (es ms ks : List (List ℕ)) (part : Open) (bytes : ℕ) (p : Parts)
+    → Fits fs (record { enums = es; messages = ms; methods = ks; open_part = part })
     → IsClean t (record { enums = es; messages = ms; methods = ks; open_part = part }) bytes (kept (field_form p))
     → Fits (fs ++ field_form p ∷ []) (record { enums = es; messages = ms; methods = ks; open_part = with_field part (in_32_bits p.number) p.name })
 field_step t fs es ms ks (fields ns) bytes p s h =
@@ -140,7 +145,12 @@ field_step t fs es ms ks (fields ns) bytes p s h =
           ap (λ (xs : List Form). xs ++ field_form p ∷ []) q.is
           ∙ append_assoc q.front (message q.name ∷ map field_form q.parts) (field_form p ∷ [])
           ∙ ap (λ (xs : List Form). q.front ++ message q.name ∷ xs) (sym (map_push field_form q.parts p)) in
-          subst (λ (o : Option ℕ). Fits (fs ++ field_form p ∷ []) (record { enums = es; messages = ms; methods = ks; open_part = with_field (fields ns) o p.name })) (sym small.0) (record {
+          subst (λ (o : Option ℕ). Fits (fs ++ field_form p ∷ []) (record {
+            enums = es;
+            messages = ms;
+            methods = ks;
+            open_part = with_field (fields ns) o p.name;
+          })) (sym small.0) (record {
             enums = names_stay enum_name fs es (field_form p) refl s.enums;
             messages = names_stay message_name fs ms (field_form p) refl s.messages;
             methods = names_stay method_key_of fs ks (field_form p) refl s.methods;
@@ -220,14 +230,18 @@ pub rest_same : {X : Type 0} {x y : X} {xs ys : List X} → x ∷ xs ≡ y ∷ y
 rest_same e = cc
 
 -- what stands above the last line that begins a part is that line, or in the part
-pub around : (xs ys : List Form) (h f : Form) (inner between : List Form) → xs ++ h ∷ inner ≡ ys ++ f ∷ between → goes_on h ≡ false → All (λ g. goes_on g ≡ true) between → (h ≡ f) ⊎ Contains inner f
+pub around : (xs ys : List Form) (h f : Form) (inner between : List Form) → xs ++ h ∷ inner ≡ ys ++ f ∷ between
+    → goes_on h ≡ false → All (λ g. goes_on g ≡ true) between → (h ≡ f) ⊎ Contains inner f
 around [] [] h f inner between e ends all = inl (first_same e)
-around [] (y ∷ ys) h f inner between e ends all = inr (subst (λ (zs : List Form). Contains zs f) (sym (rest_same e)) (Contains-append_right ys (f ∷ between) f (contains_first f between)))
+around [] (y ∷ ys) h f inner between e ends all =
+    inr (subst (λ (zs : List Form). Contains zs f) (sym (rest_same e))
+    (Contains-append_right ys (f ∷ between) f (contains_first f between)))
 around (x ∷ xs) [] h f inner between e ends all = absurd (goes_inside xs h inner ends (subst (All (λ g. goes_on g ≡ true)) (sym (rest_same e)) all))
 around (x ∷ xs) (y ∷ ys) h f inner between e ends all = around xs ys h f inner between (rest_same e) ends all
 
 -- and no more lines go on than there are in the part
-pub no_longer : (xs ys : List Form) (h : Form) (inner tail : List Form) → xs ++ h ∷ inner ≡ ys ++ tail → goes_on h ≡ false → All (λ g. goes_on g ≡ true) tail → length tail ≤ length inner
+pub no_longer : (xs ys : List Form) (h : Form) (inner tail : List Form) → xs ++ h ∷ inner ≡ ys ++ tail
+    → goes_on h ≡ false → All (λ g. goes_on g ≡ true) tail → length tail ≤ length inner
 no_longer [] [] h inner tail e ends all = absurd (goes_inside [] h inner ends (subst (All (λ g. goes_on g ≡ true)) (sym e) all))
 no_longer [] (y ∷ ys) h inner tail e ends all = long ys tail inner (rest_same e)
   where
@@ -267,7 +281,8 @@ pub named_in : {X : Type 0} (h : X → Option (List ℕ)) (xs : List X) (n : Lis
 named_in h [] n c = absurd (contains_nothing n c)
 named_in h (x ∷ xs) n c = named_first h x xs n (λ d. named_in h xs n d) (h x) refl c
   where
-    named_first : {X : Type 0} (h : X → Option (List ℕ)) (x : X) (xs : List X) (n : List ℕ) → (Contains (filter_map h xs) n → (y : X) × Contains xs y × (h y ≡ Some n)) → (o : Option (List ℕ)) → h x ≡ o
+    named_first : {X : Type 0} (h : X → Option (List ℕ)) (x : X) (xs : List X) (n : List ℕ)
+        → (Contains (filter_map h xs) n → (y : X) × Contains xs y × (h y ≡ Some n)) → (o : Option (List ℕ)) → h x ≡ o
         → Contains (cons_option o (filter_map h xs)) n → (y : X) × Contains (x ∷ xs) y × (h y ≡ Some n)
     named_first h x xs n rest None e c = let r = rest c in (r.0, contains_later x r.0 xs r.1, r.2)
     named_first h x xs n rest (Some m) e c = elim (contains_cases m n (filter_map h xs) c) [
@@ -287,7 +302,8 @@ in_names h (y ∷ ys) x n c e = elim (contains_cases y x ys c) [
     more ns n (Some m) c = contains_later m n ns c
 
 -- how many there are of a form
-pub counted : (p : Form → Bool) (h : Form → Option (List ℕ)) (fs : List Form) → ((f : Form) → length (option_to_list (h f)) ≡ count_by p (f ∷ [])) → length (filter_map h fs) ≡ count_by p fs
+pub counted : (p : Form → Bool) (h : Form → Option (List ℕ)) (fs : List Form)
+    → ((f : Form) → length (option_to_list (h f)) ≡ count_by p (f ∷ [])) → length (filter_map h fs) ≡ count_by p fs
 counted p h [] each = refl
 counted p h (f ∷ fs) each = omega (arith, first (h f) (filter_map h fs), each f, counted p h fs each, sum_by-append (λ (g : Form). cond (p g) 1 0) (f ∷ []) fs)
   where

@@ -1,5 +1,7 @@
 -- Where a line stands among those before it, and what the open part tells of that.
-use Rattle.std.proofs.Common.{◌≡◌, ℕ, ℤ, pos, negsuc, ◌+◌, ◌^◌, ◌<◌, ◌≤◌, ◌||◌, ◌&&◌, not, Bool, true, false, List, [], ◌∷◌, ◌++◌, map, Option, Some, refl, ap, sym, subst, ◌∙◌, append_assoc, arith, inl, inr, ◌⊎◌}
+use Rattle.std.proofs.Common.{◌≡◌, ℕ, ℤ, pos, negsuc, ◌+◌, ◌^◌, ◌<◌, ◌≤◌, ◌||◌, ◌&&◌, not, Bool, true, false, List}
+use Rattle.std.proofs.Common.{[], ◌∷◌, ◌++◌, map, Option, Some, refl, ap, sym, subst, ◌∙◌, append_assoc, arith, inl}
+use Rattle.std.proofs.Common.{inr, ◌⊎◌}
 use Rattle.std.specs.Prelude.{FitsSigned, int_lt}
 use Rattle.std.specs.Int.{w32}
 use Rattle.std.specs.List.{All, Contains, list_any}
@@ -174,8 +176,12 @@ pub enum_ends : (fs : List Form) (vs : List (ℤ × List ℕ)) (p : InEnum fs vs
 enum_ends fs vs p = elim (ended vs) [
   | none e ↦ at_enum e (p.front, p.is ∙ ap (λ (xs : List (ℤ × List ℕ)). p.front ++ enum p.name ∷ map value_form xs) e)
   | with_last init v e ↦
-      at_value v (ap last_of e ∙ last_push init v) (subst (λ (xs : List (ℤ × List ℕ)). Contains xs v) (sym e) (Contains-push init v))
-      (p.front ++ enum p.name ∷ map value_form init, p.is ∙ ap (λ (xs : List Form). p.front ++ enum p.name ∷ xs) (ap (map value_form) e ∙ map_push value_form init v) ∙ sym (append_assoc p.front (enum p.name ∷ map value_form init) (value_form v ∷ [])))
+      at_value v (ap last_of e ∙ last_push init v) (subst (λ (xs : List (ℤ × List ℕ)). Contains xs v) (sym e) (Contains-push init v)) (
+        p.front ++ enum p.name ∷ map value_form init,
+        p.is ∙ ap (λ (xs : List Form). p.front ++ enum p.name ∷ xs)
+            (ap (map value_form) e ∙ map_push value_form init v)
+            ∙ sym (append_assoc p.front (enum p.name ∷ map value_form init) (value_form v ∷ [])),
+      )
 ]
 
 pub data MessageEnds (fs : List Form) (name : List ℕ) (ps : List Parts) (ns : List (ℕ × List ℕ)) : Type 0 where
@@ -188,8 +194,12 @@ message_ends fs ns p = elim (ended p.parts) [
   | with_last init q e ↦
       let keys : ns ≡ map field_key init ++ field_key q ∷ [] = sym p.keys ∙ ap (map field_key) e ∙ map_push field_key init q in
       let inside : Contains ns (field_key q) = subst (λ (xs : List (ℕ × List ℕ)). Contains xs (field_key q)) (sym keys) (Contains-push (map field_key init) (field_key q)) in
-      at_field q (ap last_of keys ∙ last_push (map field_key init) (field_key q)) (All-contains (λ (n : ℕ × List ℕ). n.0 < 2 ^ 32) ns (field_key q) p.small inside)
-      (p.front ++ message p.name ∷ map field_form init, p.is ∙ ap (λ (xs : List Form). p.front ++ message p.name ∷ xs) (ap (map field_form) e ∙ map_push field_form init q) ∙ sym (append_assoc p.front (message p.name ∷ map field_form init) (field_form q ∷ [])))
+      at_field q (ap last_of keys ∙ last_push (map field_key init) (field_key q)) (All-contains (λ (n : ℕ × List ℕ). n.0 < 2 ^ 32) ns (field_key q) p.small inside) (
+        p.front ++ message p.name ∷ map field_form init,
+        p.is ∙ ap (λ (xs : List Form). p.front ++ message p.name ∷ xs)
+            (ap (map field_form) e ∙ map_push field_form init q)
+            ∙ sym (append_assoc p.front (message p.name ∷ map field_form init) (field_form q ∷ [])),
+      )
 ]
 
 pub same_last : (fs : List Form) (f g : Form) → IsLast fs f → IsLast fs g → f ≡ g

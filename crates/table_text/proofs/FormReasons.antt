@@ -1,5 +1,6 @@
 -- A reason that is found against a line stands against it.
-use Rattle.std.proofs.Common.{◌≡◌, ℕ, ◌<◌, ◌==◌, ◌||◌, ◌&&◌, not, Bool, true, false, cond, List, [], ◌∷◌, ◌++◌, codes, length, Option, Some, None, refl, ap, sym, subst, ◌∙◌, arith, inl, inr, ◌⊎◌}
+use Rattle.std.proofs.Common.{◌≡◌, ℕ, ◌<◌, ◌==◌, ◌||◌, ◌&&◌, not, Bool, true, false, cond, List, [], ◌∷◌, ◌++◌, codes}
+use Rattle.std.proofs.Common.{length, Option, Some, None, refl, ap, sym, subst, ◌∙◌, arith, inl, inr, ◌⊎◌}
 use Rattle.std.specs.Prelude.{nat_lt, IsTrue, option_to_list}
 use Rattle.std.specs.List.{Contains, filter_map, count_by, slice_split}
 use Rattle.std.proofs.lemmas.Bool.{leb-true, leb-false, ltb-true, eq-eqb}
@@ -8,9 +9,22 @@ use Rattle.mrpc_table.specs.Lines.{words_of}
 use Rattle.mrpc_table.specs.Names.{is_full_form, is_short, is_short_full}
 use Rattle.mrpc_table.specs.Text.{spaced}
 use Rattle.mrpc_table.specs.Words.{is_numeric, is_key}
-use Rattle.table_text.specs.Faults.{Offends, IsLast, IsAbove, is_packable, is_key_kind, enum_behind_message, enum_behind_method, message_behind_method, falling_enum, falling_message, value_outside, falling_value, field_outside, falling_field, optional_message, packed_no_number, enum_without_value, value_out_of_range, no_field_number, index_out_of_turn, enum_without_zero, type_twice, value_twice, field_twice, number_twice, method_twice, unknown_type, map_key, long_name, long_full_name, too_many_enums, too_many_messages, too_many_methods, too_many_values, too_many_fields}
-use Rattle.table_text.specs.Forms.{Form, enum, value, message, field, method, Says, is_enum, is_message, is_method, type_of_kind, types_of_label, names_of_label, names_in, full_name_of_kind, full_names_of_label}
-use Rattle.table_text.specs.Judged.{Before, types_of, line_fault, is_syntax, is_number, is_duplicate, is_unknown, is_map_key, is_limit, is_among, is_empty, falls, lacks_value, lacks_zero, is_within, has_field_number, is_index, clashes, field_falls, is_type_before, is_field_before, repeats_number, is_unknown_kind, is_unknown_label, is_key_word, is_numeric_word, is_short_kind, is_short_label, has_short_names, is_full}
+use Rattle.table_text.specs.Faults.{Offends, IsLast, IsAbove, is_packable, is_key_kind, enum_behind_message}
+use Rattle.table_text.specs.Faults.{enum_behind_method, message_behind_method, falling_enum, falling_message}
+use Rattle.table_text.specs.Faults.{value_outside, falling_value, field_outside, falling_field, optional_message}
+use Rattle.table_text.specs.Faults.{packed_no_number, enum_without_value, value_out_of_range, no_field_number}
+use Rattle.table_text.specs.Faults.{index_out_of_turn, enum_without_zero, type_twice, value_twice, field_twice}
+use Rattle.table_text.specs.Faults.{number_twice, method_twice, unknown_type, map_key, long_name, long_full_name}
+use Rattle.table_text.specs.Faults.{too_many_enums, too_many_messages, too_many_methods, too_many_values}
+use Rattle.table_text.specs.Faults.{too_many_fields}
+use Rattle.table_text.specs.Forms.{Form, enum, value, message, field, method, Says, is_enum, is_message, is_method}
+use Rattle.table_text.specs.Forms.{type_of_kind, types_of_label, names_of_label, names_in, full_name_of_kind}
+use Rattle.table_text.specs.Forms.{full_names_of_label}
+use Rattle.table_text.specs.Judged.{Before, types_of, line_fault, is_syntax, is_number, is_duplicate, is_unknown}
+use Rattle.table_text.specs.Judged.{is_map_key, is_limit, is_among, is_empty, falls, lacks_value, lacks_zero}
+use Rattle.table_text.specs.Judged.{is_within, has_field_number, is_index, clashes, field_falls, is_type_before}
+use Rattle.table_text.specs.Judged.{is_field_before, repeats_number, is_unknown_kind, is_unknown_label, is_key_word}
+use Rattle.table_text.specs.Judged.{is_numeric_word, is_short_kind, is_short_label, has_short_names, is_full}
 use Rattle.table_text.specs.Lines.{in_32_bits, behind}
 use Rattle.table_text.specs.declared.fault.TableReason.{TableReason}
 use Rattle.table_text.specs.declared.fault.TableReason.TheVariants.{Syntax, Number, Duplicate, UnknownType, MapKey, Limit}
@@ -24,7 +38,10 @@ use Rattle.table_text.proofs.Complete.{field_number_is}
 use Rattle.table_text.proofs.FormLines.{kept, kept_whole, fits_within, in_32}
 use Rattle.table_text.proofs.FormParts.{Fits, IsFormed, enum_name, message_name, method_key_of, first_same, rest_same, named_in, in_names, counted}
 use Rattle.table_text.proofs.FormPlaces.{either_true, is_not}
-use Rattle.table_text.proofs.FormTests.{lacks_value_said, lacks_zero_said, outside, below, value_falls_said, outside_message, below_field, field_falls_said, value_before_said, field_before_said, repeats_said, many_said, enum_falls_said, message_falls_said}
+use Rattle.table_text.proofs.FormTests.{lacks_value_said, lacks_zero_said, outside, below, value_falls_said}
+use Rattle.table_text.proofs.FormTests.{outside_message, below_field, field_falls_said, value_before_said}
+use Rattle.table_text.proofs.FormTests.{field_before_said, repeats_said, many_said, enum_falls_said}
+use Rattle.table_text.proofs.FormTests.{message_falls_said}
 use Rattle.table_text.proofs.OrderLemmas.{contains_first, contains_later, among_contains, not_among}
 use Rattle.table_text.proofs.ParseLemmas.{unsome, behind_is}
 use Rattle.table_text.proofs.SpellLemmas.{chosen, dark, name_dark, full_dark, split_dark, split_last, text_is, words_dark, words_of-spaced, some_words}
@@ -104,7 +121,8 @@ not_numeric (kinds.Scalar k) e = is_not (is_numeric k) e
 not_numeric (kinds.Message n) e = refl
 not_numeric (kinds.Choice n) e = absurd cc
 
-clash_said : (lines : List (List ℕ)) (fs : List Form) (line : List ℕ) (n : ℕ) (l : LabelWord) (k : KindWord) (m : List ℕ) → Says line (field n l k m) → clashes l k ≡ true → Offends lines fs line Syntax
+clash_said : (lines : List (List ℕ)) (fs : List Form) (line : List ℕ) (n : ℕ) (l : LabelWord) (k : KindWord)
+    (m : List ℕ) → Says line (field n l k m) → clashes l k ≡ true → Offends lines fs line Syntax
 clash_said lines fs line n labels.Plain k m says e = absurd cc
 clash_said lines fs line n labels.Optional (kinds.Scalar k) m says e = absurd cc
 clash_said lines fs line n labels.Optional (kinds.Message t) m says e = optional_message n t m says refl
@@ -114,7 +132,8 @@ clash_said lines fs line n labels.Packed k m says e = packed_no_number n k m say
 clash_said lines fs line n (labels.Map key) k m says e = absurd cc
 clash_said lines fs line n (labels.Member o) k m says e = absurd cc
 
-syntax_said : (lines : List (List ℕ)) (fs : List Form) (b : Before) (line : List ℕ) (f : Form) → Fits fs b → Says line f → is_syntax b (kept f) ≡ true → Offends lines fs line Syntax
+syntax_said : (lines : List (List ℕ)) (fs : List Form) (b : Before) (line : List ℕ) (f : Form) → Fits fs b
+    → Says line f → is_syntax b (kept f) ≡ true → Offends lines fs line Syntax
 syntax_said lines fs b line (enum n) s says e =
     let lacks = lacks_value b.open_part in
     let behind_messages = not (is_empty b.messages) in
@@ -169,7 +188,8 @@ syntax_said lines fs b line (method i sv n x y) s says e = enum_without_value (m
 
 -- ---- Number
 
-number_said : (lines : List (List ℕ)) (fs : List Form) (b : Before) (line : List ℕ) (f : Form) → Fits fs b → Says line f → is_number b (kept f) ≡ true → Offends lines fs line Number
+number_said : (lines : List (List ℕ)) (fs : List Form) (b : Before) (line : List ℕ) (f : Form) → Fits fs b
+    → Says line f → is_number b (kept f) ≡ true → Offends lines fs line Number
 number_said lines fs b line (enum n) s says e = enum_without_zero (enum n) says refl (lacks_zero_said fs b.open_part s.part e) refl
 number_said lines fs b line (message n) s says e = enum_without_zero (message n) says refl (lacks_zero_said fs b.open_part s.part e) refl
 number_said lines fs b line (value z n) s says e =
@@ -188,7 +208,8 @@ number_said lines fs b line (method i sv n x y) s says e = elim (either_true (la
       index_out_of_turn i sv n x y says (λ same.
       let is : i ≡ length b.methods = same ∙ methods_counted fs b s in
       elim (in_32 i) [
-        | inl small ↦ let right : is_index (in_32_bits i) (length b.methods) ≡ true = ap (λ (o : Option ℕ). is_index o (length b.methods)) small.0 ∙ eq-eqb i (length b.methods) is in absurd cc
+        | inl small ↦ let right : is_index (in_32_bits i) (length b.methods) ≡ true =
+            ap (λ (o : Option ℕ). is_index o (length b.methods)) small.0 ∙ eq-eqb i (length b.methods) is in absurd cc
         | inr large ↦ absurd (omega (arith, large.1, is, s.few))
       ]) refl
 ]
@@ -203,12 +224,16 @@ type_before_said fs b n s e = elim (either_true (is_among n b.enums) (is_among n
 
 key_split : (s n t m : List ℕ) → dark s ≡ true → dark n ≡ true → dark t ≡ true → dark m ≡ true → s ++ 32 ∷ n ≡ t ++ 32 ∷ m → (s ≡ t) × (n ≡ m)
 key_split s n t m ds dn dt dm e =
-    let left : slice_split (λ c. c == 32) (s ++ 32 ∷ n) ≡ s ∷ n ∷ [] = split_dark 32 s n (omega arith) ds ∙ ap (λ (ws : List (List ℕ)). s ∷ ws) (split_last 32 n (omega arith) dn) in
-    let right : slice_split (λ c. c == 32) (t ++ 32 ∷ m) ≡ t ∷ m ∷ [] = split_dark 32 t m (omega arith) dt ∙ ap (λ (ws : List (List ℕ)). t ∷ ws) (split_last 32 m (omega arith) dm) in
+    let left : slice_split (λ c. c == 32) (s ++ 32 ∷ n) ≡ s ∷ n ∷ [] = split_dark 32 s n (omega arith) ds
+    ∙ ap (λ (ws : List (List ℕ)). s ∷ ws) (split_last 32 n (omega arith) dn) in
+    let right : slice_split (λ c. c == 32) (t ++ 32 ∷ m) ≡ t ∷ m ∷ [] = split_dark 32 t m (omega arith) dt
+    ∙ ap (λ (ws : List (List ℕ)). t ∷ ws) (split_last 32 m (omega arith) dm) in
     let both : s ∷ n ∷ [] ≡ t ∷ m ∷ [] = sym left ∙ ap (slice_split (λ c. c == 32)) e ∙ right in
     (first_same both, first_same (rest_same both))
 
-method_twice_said : (lines : List (List ℕ)) (fs : List Form) (line : List ℕ) (i : ℕ) (s n x y : List ℕ) (g : Form) → Says line (method i s n x y) → Contains fs g → IsFormed g → method_key_of g ≡ Some (s ++ 32 ∷ n) → Offends lines fs line Duplicate
+method_twice_said : (lines : List (List ℕ)) (fs : List Form) (line : List ℕ) (i : ℕ) (s n x y : List ℕ) (g : Form)
+    → Says line (method i s n x y) → Contains fs g → IsFormed g → method_key_of g ≡ Some (s ++ 32 ∷ n)
+    → Offends lines fs line Duplicate
 method_twice_said lines fs line i s n x y (method j t m u v) says c formed e =
     let same = key_split t m s n (full_dark t formed.0) (name_dark m formed.1) (full_dark s says.3) (name_dark n says.4) (unsome e) in
     let here : Contains fs (method j s n u v) = subst (λ (w : List ℕ). Contains fs (method j s w u v)) same.1 (subst (λ (w : List ℕ). Contains fs (method j w m u v)) same.0 c) in
@@ -218,7 +243,8 @@ method_twice_said lines fs line i s n x y (value z m) says c formed e = absurd c
 method_twice_said lines fs line i s n x y (message m) says c formed e = absurd cc
 method_twice_said lines fs line i s n x y (field j l k m) says c formed e = absurd cc
 
-duplicate_said : (lines : List (List ℕ)) (fs : List Form) (b : Before) (line : List ℕ) (f : Form) → Fits fs b → Says line f → is_duplicate b (kept f) ≡ true → Offends lines fs line Duplicate
+duplicate_said : (lines : List (List ℕ)) (fs : List Form) (b : Before) (line : List ℕ) (f : Form) → Fits fs b
+    → Says line f → is_duplicate b (kept f) ≡ true → Offends lines fs line Duplicate
 duplicate_said lines fs b line (enum n) s says e = elim (type_before_said fs b n s e) [
   | inl c ↦ type_twice (enum n) (enum n) n says refl c refl refl
   | inr c ↦ type_twice (enum n) (message n) n says refl c refl refl
@@ -267,7 +293,8 @@ record UnknownIn (lines : List (List ℕ)) (types : List Form) : Type 0 where
   used : Contains types type
   none : (other : List ℕ) → Contains lines other → Says other type → ⊥
 
-unknown_message : (lines : List (List ℕ)) (n : List ℕ) → is_among n (types_of lines).messages ≡ false → (other : List ℕ) → Contains lines other → Says other (message n) → ⊥
+unknown_message : (lines : List (List ℕ)) (n : List ℕ) → is_among n (types_of lines).messages ≡ false
+    → (other : List ℕ) → Contains lines other → Says other (message n) → ⊥
 unknown_message lines n e other c h = not_among n (types_of lines).messages e (in_names (behind (codes "message ")) lines other n c (message_behind other n h))
 
 unknown_enum : (lines : List (List ℕ)) (n : List ℕ) → is_among n (types_of lines).enums ≡ false → (other : List ℕ) → Contains lines other → Says other (enum n) → ⊥
@@ -275,7 +302,11 @@ unknown_enum lines n e other c h = not_among n (types_of lines).enums e (in_name
 
 unknown_kind_said : (lines : List (List ℕ)) (k : KindWord) → is_unknown_kind (types_of lines) k ≡ true → UnknownIn lines (type_of_kind k)
 unknown_kind_said lines (kinds.Scalar k) e = absurd cc
-unknown_kind_said lines (kinds.Message n) e = record { type = message n; used = contains_first (message n) []; none = unknown_message lines n (is_not (is_among n (types_of lines).messages) e) }
+unknown_kind_said lines (kinds.Message n) e = record {
+  type = message n;
+  used = contains_first (message n) [];
+  none = unknown_message lines n (is_not (is_among n (types_of lines).messages) e);
+}
 unknown_kind_said lines (kinds.Choice n) e = record { type = enum n; used = contains_first (enum n) []; none = unknown_enum lines n (is_not (is_among n (types_of lines).enums) e) }
 
 unknown_label_said : (lines : List (List ℕ)) (l : LabelWord) → is_unknown_label (types_of lines) l ≡ true → UnknownIn lines (types_of_label l)
@@ -299,7 +330,8 @@ unknown_said lines fs line (field n l k m) says e = elim (either_true (is_unknow
       unknown_type (field n l k m) u.type says (Contains-append_right (types_of_label l) (type_of_kind k) u.type u.used) u.none refl
 ]
 unknown_said lines fs line (method i s n x y) says e = elim (either_true (not (is_among x (types_of lines).messages)) (not (is_among y (types_of lines).messages)) e) [
-  | inl input ↦ unknown_type (method i s n x y) (message x) says (contains_first (message x) (message y ∷ [])) (unknown_message lines x (is_not (is_among x (types_of lines).messages) input)) refl
+  | inl input ↦ unknown_type (method i s n x y) (message x) says (contains_first (message x) (message y ∷ []))
+      (unknown_message lines x (is_not (is_among x (types_of lines).messages) input)) refl
   | inr output ↦
       unknown_type (method i s n x y) (message y) says (contains_later (message x) (message y) (message y ∷ []) (contains_first (message y) []))
       (unknown_message lines y (is_not (is_among y (types_of lines).messages) output.1)) refl
@@ -330,7 +362,8 @@ both_false : (a b : Bool) → (a && b) ≡ false → (a ≡ false) ⊎ (b ≡ fa
 both_false true b e = inr e
 both_false false b e = inl refl
 
-long_said : (lines : List (List ℕ)) (fs : List Form) (line : List ℕ) (f : Form) (n : List ℕ) → Says line f → Contains (names_in f) n → is_short n ≡ false → Offends lines fs line Limit
+long_said : (lines : List (List ℕ)) (fs : List Form) (line : List ℕ) (f : Form) (n : List ℕ) → Says line f
+    → Contains (names_in f) n → is_short n ≡ false → Offends lines fs line Limit
 long_said lines fs line f n says c e = long_name f n says c (leb-false (length n) 64 e) refl
 
 full_kind_said : (k : KindWord) → is_short_kind k ≡ false → (n : List ℕ) × Contains (full_name_of_kind k) n × (is_short_full n ≡ false)
@@ -338,7 +371,8 @@ full_kind_said (kinds.Scalar k) e = absurd cc
 full_kind_said (kinds.Message n) e = (n, contains_first n [], e)
 full_kind_said (kinds.Choice n) e = (n, contains_first n [], e)
 
-label_names_said : (lines : List (List ℕ)) (fs : List Form) (line : List ℕ) (i : ℕ) (l : LabelWord) (k : KindWord) (m : List ℕ) → Says line (field i l k m) → is_short_label l ≡ false → Offends lines fs line Limit
+label_names_said : (lines : List (List ℕ)) (fs : List Form) (line : List ℕ) (i : ℕ) (l : LabelWord) (k : KindWord)
+    (m : List ℕ) → Says line (field i l k m) → is_short_label l ≡ false → Offends lines fs line Limit
 label_names_said lines fs line i labels.Plain k m says e = absurd cc
 label_names_said lines fs line i labels.Optional k m says e = absurd cc
 label_names_said lines fs line i labels.Repeated k m says e = absurd cc
@@ -379,7 +413,8 @@ full_said lines fs b line (message n) s says e = too_many_messages n says (omega
 full_said lines fs b line (field i l k m) s says e = too_many_fields i l k m says (many_said fs b.open_part 128 (omega arith) s.part e) refl
 full_said lines fs b line (method i sv n x y) s says e = too_many_methods i sv n x y says (omega (arith, methods_counted fs b s, leb-true 256 (length b.methods) e)) refl
 
-limit_said : (lines : List (List ℕ)) (fs : List Form) (b : Before) (bytes : ℕ) (line : List ℕ) (f : Form) → Fits fs b → Says line f → is_limit b bytes (kept f) ≡ true → Offends lines fs line Limit ⊎ (65536 < bytes)
+limit_said : (lines : List (List ℕ)) (fs : List Form) (b : Before) (bytes : ℕ) (line : List ℕ) (f : Form) → Fits fs b
+    → Says line f → is_limit b bytes (kept f) ≡ true → Offends lines fs line Limit ⊎ (65536 < bytes)
 limit_said lines fs b bytes line f s says e = elim (either_true (not (has_short_names (kept f)) || is_full b (kept f)) (nat_lt 65536 bytes) e) [
   | inl parts ↦ elim (either_true (not (has_short_names (kept f))) (is_full b (kept f)) parts) [
     | inl names ↦ inl (names_said lines fs line f says (is_not (has_short_names (kept f)) names))
@@ -393,7 +428,8 @@ limit_said lines fs b bytes line f s says e = elim (either_true (not (has_short_
 some_reason : {r q : TableReason} → Some r ≡ Some q → r ≡ q
 some_reason e = unsome e
 
-pub found_stands : (lines : List (List ℕ)) (fs : List Form) (b : Before) (bytes : ℕ) (line : List ℕ) (f : Form) (q : TableReason) → Fits fs b → Says line f → line_fault (types_of lines) b bytes (Some (kept f)) ≡ Some q
+pub found_stands : (lines : List (List ℕ)) (fs : List Form) (b : Before) (bytes : ℕ) (line : List ℕ) (f : Form)
+    (q : TableReason) → Fits fs b → Says line f → line_fault (types_of lines) b bytes (Some (kept f)) ≡ Some q
     → Offends lines fs line q ⊎ ((65536 < bytes) × (q ≡ Limit))
 found_stands lines fs b bytes line f q s says e =
     let t = types_of lines in

@@ -1,5 +1,6 @@
 -- Each test of a line against the open part, and what it tells of the lines before.
-use Rattle.std.proofs.Common.{◌≡◌, ℕ, ℤ, pos, ◌^◌, ◌<◌, ◌≤◌, not, Bool, true, false, List, [], ◌∷◌, ◌++◌, length, map, Option, refl, ap, sym, subst, ◌∙◌, append_assoc, length-append, arith, inl, inr, ◌⊎◌}
+use Rattle.std.proofs.Common.{◌≡◌, ℕ, ℤ, pos, ◌^◌, ◌<◌, ◌≤◌, not, Bool, true, false, List, [], ◌∷◌, ◌++◌, length, map}
+use Rattle.std.proofs.Common.{Option, refl, ap, sym, subst, ◌∙◌, append_assoc, length-append, arith, inl, inr, ◌⊎◌}
 use Rattle.std.specs.Prelude.{nat_le, FitsSigned}
 use Rattle.std.specs.Int.{w32}
 use Rattle.std.specs.List.{Contains, filter_map, list_any}
@@ -11,12 +12,18 @@ use Rattle.std.proofs.lemmas.List.Elements.{All-contains, filter_map-append}
 use Rattle.mrpc_table.specs.Valid.{IsBelow, IsValueBelow}
 use Rattle.table_text.specs.Faults.{IsLast, IsAbove, AreInner, LacksValue, LacksZero}
 use Rattle.table_text.specs.Forms.{Form, enum, value, message, field, method, is_method, is_of_enum, is_of_message}
-use Rattle.table_text.specs.Judged.{Open, nothing, values, fields, is_below, falls, last_of, is_value_below, value_falls, is_field_below, field_falls, is_index, repeats_number, is_value_before, is_field_before, lacks_value, lacks_zero, open_count}
+use Rattle.table_text.specs.Judged.{Open, nothing, values, fields, is_below, falls, last_of, is_value_below}
+use Rattle.table_text.specs.Judged.{value_falls, is_field_below, field_falls, is_index, repeats_number}
+use Rattle.table_text.specs.Judged.{is_value_before, is_field_before, lacks_value, lacks_zero, open_count}
 use Rattle.table_text.specs.Lines.{in_32_bits}
 use Rattle.table_text.specs.declared.line.Whole.{Whole}
 use Rattle.table_text.proofs.FormLines.{kept_whole, in_32}
 use Rattle.table_text.proofs.FormParts.{value_form, Parts, field_form, field_key, InEnum, InMessage, PartIs, IsOrdered, enum_name, message_name, no_longer, in_map, mapped_in}
-use Rattle.table_text.proofs.FormPlaces.{is_not, below_said, said_below, falls_at, none_last, any_in, in_any, values_go, fields_go, is_last_above, the_enum, a_value, of_enum, the_message, a_field, of_message, ends_method, of_nothing, value_above, field_above, at_enum, at_value, enum_ends, at_message, at_field, message_ends, same_last, value_below_said, said_value_below}
+use Rattle.table_text.proofs.FormPlaces.{is_not, below_said, said_below, falls_at, none_last, any_in, in_any}
+use Rattle.table_text.proofs.FormPlaces.{values_go, fields_go, is_last_above, the_enum, a_value, of_enum, the_message}
+use Rattle.table_text.proofs.FormPlaces.{a_field, of_message, ends_method, of_nothing, value_above, field_above}
+use Rattle.table_text.proofs.FormPlaces.{at_enum, at_value, enum_ends, at_message, at_field, message_ends, same_last}
+use Rattle.table_text.proofs.FormPlaces.{value_below_said, said_value_below}
 use Rattle.table_text.proofs.OrderLemmas.{contains_among, among_contains, int_equal}
 
 -- ---- what may be last
@@ -136,7 +143,8 @@ pub data ValueFalls (fs : List Form) (z : ℤ) (n : List ℕ) : Type 0 where
   outside : ((f : Form) → IsLast fs f → is_of_enum f ≡ true → ⊥) → ValueFalls fs z n
   below : (v : ℤ × List ℕ) → IsLast fs (value_form v) → IsValueBelow (z, n) v → ValueFalls fs z n
 
-not_values : (fs : List Form) (part : Open) → PartIs fs part → ((vs : List (ℤ × List ℕ)) → part ≡ values vs → ⊥) → (f : Form) → IsLast fs f → is_of_enum f ≡ true → ⊥
+not_values : (fs : List Form) (part : Open) → PartIs fs part → ((vs : List (ℤ × List ℕ)) → part ≡ values vs → ⊥)
+    → (f : Form) → IsLast fs f → is_of_enum f ≡ true → ⊥
 not_values fs part p other f last is = let known = last_of_enum fs part p f last is in other known.0 known.1
 
 pub value_falls_said : (fs : List Form) (part : Open) (z : ℤ) (n : List ℕ) → PartIs fs part → value_falls part (kept_whole z) n ≡ true → ValueFalls fs z n
@@ -150,7 +158,8 @@ value_falls_said fs (values vs) z n p e = elim (enum_ends fs vs p) [
 value_falls_said fs (fields ns) z n p e = outside (not_values fs (fields ns) p (λ vs same. absurd cc))
 value_falls_said fs nothing z n p e = outside (not_values fs nothing p (λ vs same. absurd cc))
 
-pub outside_falls : (fs : List Form) (part : Open) (w : Whole) (n : List ℕ) → PartIs fs part → ((f : Form) → IsLast fs f → is_of_enum f ≡ true → ⊥) → value_falls part w n ≡ true
+pub outside_falls : (fs : List Form) (part : Open) (w : Whole) (n : List ℕ) → PartIs fs part
+    → ((f : Form) → IsLast fs f → is_of_enum f ≡ true → ⊥) → value_falls part w n ≡ true
 outside_falls fs (values vs) w n p no_line = let last = enum_last fs vs p in absurd (no_line last.0 last.1 last.2)
 outside_falls fs (fields ns) w n p no_line = refl
 outside_falls fs nothing w n p no_line = refl
@@ -163,7 +172,8 @@ same_value : (u v : ℤ × List ℕ) → value_form u ≡ value_form v → u ≡
 unfolding value_in
 same_value u v e = ap value_in e
 
-pub below_falls : (fs : List Form) (part : Open) (z : ℤ) (n : List ℕ) (v : ℤ × List ℕ) → PartIs fs part → IsLast fs (value_form v) → IsValueBelow (z, n) v → value_falls part (kept_whole z) n ≡ true
+pub below_falls : (fs : List Form) (part : Open) (z : ℤ) (n : List ℕ) (v : ℤ × List ℕ) → PartIs fs part
+    → IsLast fs (value_form v) → IsValueBelow (z, n) v → value_falls part (kept_whole z) n ≡ true
 below_falls fs (values vs) z n v p last is = elim (enum_ends fs vs p) [
   | at_enum none here ↦ let same = same_last fs (enum p.name) (value_form v) here last in absurd cc
   | at_value u at c here ↦
@@ -182,7 +192,8 @@ pub data FieldFalls (fs : List Form) (n : ℕ) : Type 0 where
   outside_message : ((f : Form) → IsLast fs f → is_of_message f ≡ true → ⊥) → FieldFalls fs n
   below_field : (q : Parts) → IsLast fs (field_form q) → n < q.number → FieldFalls fs n
 
-not_fields : (fs : List Form) (part : Open) → PartIs fs part → ((ns : List (ℕ × List ℕ)) → part ≡ fields ns → ⊥) → (f : Form) → IsLast fs f → is_of_message f ≡ true → ⊥
+not_fields : (fs : List Form) (part : Open) → PartIs fs part → ((ns : List (ℕ × List ℕ)) → part ≡ fields ns → ⊥)
+    → (f : Form) → IsLast fs f → is_of_message f ≡ true → ⊥
 not_fields fs part p other f last is = let known = last_of_message fs part p f last is in other known.0 known.1
 
 below_number : (n m : ℕ) (name : List ℕ) → is_field_below (in_32_bits n) (m, name) ≡ true → n < m
@@ -209,7 +220,8 @@ field_falls_said fs (fields ns) n p e = elim (message_ends fs ns p) [
 field_falls_said fs (values vs) n p e = outside_message (not_fields fs (values vs) p (λ ns same. absurd cc))
 field_falls_said fs nothing n p e = outside_message (not_fields fs nothing p (λ ns same. absurd cc))
 
-pub outside_field_falls : (fs : List Form) (part : Open) (o : Option ℕ) → PartIs fs part → ((f : Form) → IsLast fs f → is_of_message f ≡ true → ⊥) → field_falls part o ≡ true
+pub outside_field_falls : (fs : List Form) (part : Open) (o : Option ℕ) → PartIs fs part
+    → ((f : Form) → IsLast fs f → is_of_message f ≡ true → ⊥) → field_falls part o ≡ true
 outside_field_falls fs (fields ns) o p no_line = let last = message_last fs ns p in absurd (no_line last.0 last.1 last.2)
 outside_field_falls fs (values vs) o p no_line = refl
 outside_field_falls fs nothing o p no_line = refl
@@ -236,7 +248,8 @@ value_before_said fs (values vs) n p e =
 value_before_said fs (fields ns) n p e = absurd cc
 value_before_said fs nothing n p e = absurd cc
 
-pub said_value_before : (fs : List Form) (part : Open) (w : Whole) (z : ℤ) (n : List ℕ) → PartIs fs part → IsAbove fs (value z n) → (value_falls part w n ≡ true) ⊎ (is_value_before part n ≡ true)
+pub said_value_before : (fs : List Form) (part : Open) (w : Whole) (z : ℤ) (n : List ℕ) → PartIs fs part
+    → IsAbove fs (value z n) → (value_falls part w n ≡ true) ⊎ (is_value_before part n ≡ true)
 said_value_before fs (values vs) w z n p above = elim (of_enum fs vs p (value z n) above) [
   | the_enum same ↦ absurd cc
   | a_value v c same ↦
@@ -257,7 +270,8 @@ field_before_said fs nothing n p e = absurd cc
 same_field_name : (q r : Parts) → field_form q ≡ field_form r → q.name ≡ r.name
 same_field_name q r e = cc
 
-pub said_field_before : (fs : List Form) (part : Open) (o : Option ℕ) (r : Parts) → PartIs fs part → IsAbove fs (field_form r) → (field_falls part o ≡ true) ⊎ (is_field_before part r.name ≡ true)
+pub said_field_before : (fs : List Form) (part : Open) (o : Option ℕ) (r : Parts) → PartIs fs part
+    → IsAbove fs (field_form r) → (field_falls part o ≡ true) ⊎ (is_field_before part r.name ≡ true)
 said_field_before fs (fields ns) o r p above = elim (of_message fs ns p (field_form r) above) [
   | the_message same ↦ absurd cc
   | a_field q c same ↦
@@ -272,9 +286,13 @@ pub repeats_said : (fs : List Form) (part : Open) (n : ℕ) → PartIs fs part �
 repeats_said fs (fields ns) n p e = elim (message_ends fs ns p) [
   | at_message none last ↦
       let no_keys : ns ≡ [] = sym p.keys ∙ ap (map field_key) none in
-      let given : false ≡ true = ap (λ (xs : List (ℕ × List ℕ)). option_map_or (λ (l : ℕ × List ℕ). is_index (in_32_bits n) l.0) (last_of xs) false) (sym no_keys) ∙ e in absurd cc
+      let given : false ≡ true =
+      ap (λ (xs : List (ℕ × List ℕ)). option_map_or (λ (l : ℕ × List ℕ). is_index (in_32_bits n) l.0)
+      (last_of xs) false) (sym no_keys) ∙ e in absurd cc
   | at_field q at small last ↦
-      let given : is_index (in_32_bits n) q.number ≡ true = ap (λ (o : Option (ℕ × List ℕ)). option_map_or (λ (l : ℕ × List ℕ). is_index (in_32_bits n) l.0) o false) (sym at) ∙ e in
+      let given : is_index (in_32_bits n) q.number ≡ true =
+      ap (λ (o : Option (ℕ × List ℕ)). option_map_or (λ (l : ℕ × List ℕ). is_index (in_32_bits n) l.0) o false)
+      (sym at) ∙ e in
       elim (in_32 n) [
         | inl fits ↦ let same : n ≡ q.number = eqb-true n q.number (ap (λ (o : Option ℕ). is_index o q.number) (sym fits.0) ∙ given) in (q, sym same, last)
         | inr large ↦ let clash : false ≡ true = ap (λ (o : Option ℕ). is_index o q.number) (sym large.0) ∙ given in absurd cc
@@ -352,7 +370,8 @@ messages_end fs ns p =
     ap (filter_map message_name) p.is ∙ filter_map-append message_name p.front (message p.name ∷ map field_form p.parts)
     ∙ ap (λ (ns : List (List ℕ)). filter_map message_name p.front ++ p.name ∷ ns) (no_messages p.parts)
 
-pub enum_falls_said : (fs : List Form) (es ms ks : List (List ℕ)) (part : Open) (n : List ℕ) → filter_map enum_name fs ≡ es → filter_map message_name fs ≡ ms → IsOrdered part fs ms ks → PartIs fs part
+pub enum_falls_said : (fs : List Form) (es ms ks : List (List ℕ)) (part : Open) (n : List ℕ)
+    → filter_map enum_name fs ≡ es → filter_map message_name fs ≡ ms → IsOrdered part fs ms ks → PartIs fs part
     → ms ≡ [] → ks ≡ [] → falls n es ≡ true → (other : List ℕ) × IsAbove fs (enum other) × IsBelow n other
 enum_falls_said fs es ms ks (values vs) n enums messages ordered p no_ms no_ks e =
     let last : falls n es ≡ is_below n p.name = falls_at n es (filter_map enum_name p.front) p.name (sym enums ∙ enums_end fs vs p) in (
@@ -379,7 +398,8 @@ message_falls_said fs ms ks nothing n messages ordered p no_ks e =
     let none : ms ≡ [] = sym messages ∙ ap (filter_map message_name) (ordered no_ks) in
     let given : false ≡ true = ap (falls n) (sym none) ∙ e in absurd cc
 
-pub said_enum_falls : (fs : List Form) (es : List (List ℕ)) (part : Open) (n other : List ℕ) → filter_map enum_name fs ≡ es → PartIs fs part → IsAbove fs (enum other) → IsBelow n other → falls n es ≡ true
+pub said_enum_falls : (fs : List Form) (es : List (List ℕ)) (part : Open) (n other : List ℕ)
+    → filter_map enum_name fs ≡ es → PartIs fs part → IsAbove fs (enum other) → IsBelow n other → falls n es ≡ true
 said_enum_falls fs es (values vs) n other enums p above less = elim (of_enum fs vs p (enum other) above) [
   | the_enum same ↦
       let name : p.name ≡ other = same_enum p.name other same in
@@ -389,7 +409,9 @@ said_enum_falls fs es (values vs) n other enums p above less = elim (of_enum fs 
 said_enum_falls fs es (fields ns) n other enums p above less = elim (of_message fs ns p (enum other) above) [ the_message same ↦ absurd cc | a_field q c same ↦ absurd cc ]
 said_enum_falls fs es nothing n other enums p above less = let wrong : is_method (enum other) ≡ true = of_nothing fs p (enum other) above in absurd cc
 
-pub said_message_falls : (fs : List Form) (ms : List (List ℕ)) (part : Open) (n other : List ℕ) → filter_map message_name fs ≡ ms → PartIs fs part → IsAbove fs (message other) → IsBelow n other → falls n ms ≡ true
+pub said_message_falls : (fs : List Form) (ms : List (List ℕ)) (part : Open) (n other : List ℕ)
+    → filter_map message_name fs ≡ ms → PartIs fs part → IsAbove fs (message other) → IsBelow n other
+    → falls n ms ≡ true
 said_message_falls fs ms (fields ns) n other messages p above less = elim (of_message fs ns p (message other) above) [
   | the_message same ↦
       let name : p.name ≡ other = same_message p.name other same in

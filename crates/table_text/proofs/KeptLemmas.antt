@@ -4,7 +4,10 @@ use Rattle.std.proofs.lemmas.List.{append-nil}
 use Rattle.table_text.specs.Judged.{Types, Before, nothing, values, fields, after, method_key}
 use Rattle.table_text.specs.Judged as faults
 use Rattle.table_text.specs.Places.{Holds}
-use Rattle.table_text.specs.Drafts.{open_enum, open_message, open_part, enum_names, message_names, method_names, names_in, oneofs_of, before, closed, with_enum, with_message, with_value, with_field, with_part, joined_with, joined_parts, with_parts, new_oneof, field_of, method_of, added}
+use Rattle.table_text.specs.Drafts.{open_enum, open_message, open_part, enum_names, message_names, method_names}
+use Rattle.table_text.specs.Drafts.{names_in, oneofs_of, before, closed, with_enum, with_message, with_value}
+use Rattle.table_text.specs.Drafts.{with_field, with_part, joined_with, joined_parts, with_parts, new_oneof, field_of}
+use Rattle.table_text.specs.Drafts.{method_of, added}
 use Rattle.table_text.specs.Readers.{IsKept}
 use Rattle.mrpc_table.specs.declared.table.Field.{Field as TheField}
 use Rattle.mrpc_table.specs.declared.table.Message.{Message as TheMessage}
@@ -35,7 +38,11 @@ closed_messages (open_parts.Enum c) ms = sym (append-nil (map (λ m. m.name) ms)
 closed_messages (open_parts.Message m) ms = map_push (λ m. m.name) ms m
 closed_messages open_parts.Nothing ms = sym (append-nil (map (λ m. m.name) ms))
 
-value_added : (d : Draft) (o : Open) (z : Whole) (name : List ℕ) → before (with_part (with_part d o) (with_value o z name)) ≡ record (before (with_part d o)) { open_part = faults.with_value (open_part o) z name }
+value_added : (d : Draft) (o : Open) (z : Whole) (name : List ℕ)
+    → before (with_part (with_part d o) (with_value o z name)) ≡ record (before (with_part d o)) {
+      open_part =
+          faults.with_value (open_part o) z name;
+    }
 value_added d (open_parts.Enum c) (Within z) name = refl
 value_added d (open_parts.Enum c) Low name = refl
 value_added d (open_parts.Enum c) High name = refl
@@ -49,8 +56,14 @@ value_added d open_parts.Nothing High name = refl
 abbrev pub numbered : TheField → ℕ × List ℕ
 numbered f = (f.number, f.name)
 
-field_added : (t : Types) (d : Draft) (o : Open) (n : Option ℕ) (f : FieldLine) → before (with_part (with_part d o) (with_field t o n f)) ≡ record (before (with_part d o)) { open_part = faults.with_field (open_part o) n f.name }
-field_added t d (open_parts.Message m) (Some n) f = ap (λ (fs : List (ℕ × List ℕ)). record (before (with_part d (open_parts.Message m))) { open_part = fields fs }) (map_push numbered m.fields (field_of t m.oneofs n f))
+field_added : (t : Types) (d : Draft) (o : Open) (n : Option ℕ) (f : FieldLine)
+    → before (with_part (with_part d o) (with_field t o n f)) ≡ record (before (with_part d o)) {
+      open_part =
+          faults.with_field (open_part o) n f.name;
+    }
+field_added t d (open_parts.Message m) (Some n) f =
+    ap (λ (fs : List (ℕ × List ℕ)). record (before (with_part d (open_parts.Message m))) { open_part = fields fs })
+    (map_push numbered m.fields (field_of t m.oneofs n f))
 field_added t d (open_parts.Message m) None f = refl
 field_added t d (open_parts.Enum c) (Some n) f = refl
 field_added t d (open_parts.Enum c) None f = refl
@@ -75,7 +88,8 @@ before_added t d (Method m) =
     let ks = map_push (λ (m : TheMethod). m.service ++ 32 ∷ m.name) d.methods (method_of t m) in
     rw (es, ms, ks) refl
 
-pub kept_enum : (t : Types) (r : Reader) (e : Draft) (name : List ℕ) (ps inner oneofs : Places) → e ≡ closed r.draft → IsKept t r → Holds ps (enum_names r.draft ++ name ∷ []) → Holds inner [] → Holds oneofs []
+pub kept_enum : (t : Types) (r : Reader) (e : Draft) (name : List ℕ) (ps inner oneofs : Places) → e ≡ closed r.draft
+    → IsKept t r → Holds ps (enum_names r.draft ++ name ∷ []) → Holds inner [] → Holds oneofs []
     → IsKept t (record {
       known_enums = r.known_enums;
       known_messages = r.known_messages;
@@ -90,13 +104,17 @@ kept_enum t r e name ps inner oneofs is h added none no_oneofs = record {
   enums = h.enums;
   messages = h.messages;
   enum_names = subst (λ ns. Holds ps (ns ++ name ∷ [])) (sym (ap (λ (d : Draft). map (λ c. c.name) d.enums) is ∙ closed_enums r.draft.open_part r.draft.enums)) added;
-  message_names = subst (Holds r.message_names) (sym (append-nil (map (λ m. m.name) e.messages) ∙ ap (λ (d : Draft). map (λ m. m.name) d.messages) is ∙ closed_messages r.draft.open_part r.draft.messages)) h.message_names;
+  message_names = subst (Holds r.message_names)
+      (sym (append-nil (map (λ m. m.name) e.messages) ∙ ap (λ (d : Draft). map (λ m. m.name) d.messages) is
+      ∙ closed_messages r.draft.open_part r.draft.messages)) h.message_names;
   method_names = subst (Holds r.method_names) (sym (ap method_names is)) h.method_names;
   inner_names = none;
   oneofs = no_oneofs;
 }
 
-pub kept_message : (t : Types) (r : Reader) (e : Draft) (name : List ℕ) (ps inner oneofs : Places) → e ≡ closed r.draft → IsKept t r → Holds ps (message_names r.draft ++ name ∷ []) → Holds inner [] → Holds oneofs []
+pub kept_message : (t : Types) (r : Reader) (e : Draft) (name : List ℕ) (ps inner oneofs : Places)
+    → e ≡ closed r.draft → IsKept t r → Holds ps (message_names r.draft ++ name ∷ []) → Holds inner []
+    → Holds oneofs []
     → IsKept t (record {
       known_enums = r.known_enums;
       known_messages = r.known_messages;
@@ -110,14 +128,18 @@ pub kept_message : (t : Types) (r : Reader) (e : Draft) (name : List ℕ) (ps in
 kept_message t r e name ps inner oneofs is h added none no_oneofs = record {
   enums = h.enums;
   messages = h.messages;
-  enum_names = subst (Holds r.enum_names) (sym (append-nil (map (λ c. c.name) e.enums) ∙ ap (λ (d : Draft). map (λ c. c.name) d.enums) is ∙ closed_enums r.draft.open_part r.draft.enums)) h.enum_names;
+  enum_names = subst (Holds r.enum_names)
+      (sym (append-nil (map (λ c. c.name) e.enums) ∙ ap (λ (d : Draft). map (λ c. c.name) d.enums) is
+      ∙ closed_enums r.draft.open_part r.draft.enums)) h.enum_names;
   message_names = subst (λ ns. Holds ps (ns ++ name ∷ [])) (sym (ap (λ (d : Draft). map (λ m. m.name) d.messages) is ∙ closed_messages r.draft.open_part r.draft.messages)) added;
   method_names = subst (Holds r.method_names) (sym (ap method_names is)) h.method_names;
   inner_names = none;
   oneofs = no_oneofs;
 }
 
-pub kept_method : (t : Types) (r : Reader) (e : Draft) (methods : List TheMethod) (m : TheMethod) (ps inner oneofs : Places) → e ≡ closed r.draft → methods ≡ e.methods ++ m ∷ [] → IsKept t r → Holds ps (method_names r.draft ++ (m.service ++ 32 ∷ m.name) ∷ []) → Holds inner [] → Holds oneofs []
+pub kept_method : (t : Types) (r : Reader) (e : Draft) (methods : List TheMethod) (m : TheMethod)
+    (ps inner oneofs : Places) → e ≡ closed r.draft → methods ≡ e.methods ++ m ∷ [] → IsKept t r
+    → Holds ps (method_names r.draft ++ (m.service ++ 32 ∷ m.name) ∷ []) → Holds inner [] → Holds oneofs []
     → IsKept t (record {
       known_enums = r.known_enums;
       known_messages = r.known_messages;
@@ -134,14 +156,22 @@ kept_method t r e methods m ps inner oneofs is more h added none no_oneofs =
     record {
       enums = h.enums;
       messages = h.messages;
-      enum_names = subst (Holds r.enum_names) (sym (ap (λ (o : Open). map (λ c. c.name) e.enums ++ open_enum o) part ∙ append-nil (map (λ c. c.name) e.enums) ∙ ap (λ (d : Draft). map (λ c. c.name) d.enums) is ∙ closed_enums r.draft.open_part r.draft.enums)) h.enum_names;
-      message_names = subst (Holds r.message_names) (sym (ap (λ (o : Open). map (λ m. m.name) e.messages ++ open_message o) part ∙ append-nil (map (λ m. m.name) e.messages) ∙ ap (λ (d : Draft). map (λ m. m.name) d.messages) is ∙ closed_messages r.draft.open_part r.draft.messages)) h.message_names;
+      enum_names = subst (Holds r.enum_names)
+          (sym (ap (λ (o : Open). map (λ c. c.name) e.enums ++ open_enum o) part
+          ∙ append-nil (map (λ c. c.name) e.enums) ∙ ap (λ (d : Draft). map (λ c. c.name) d.enums) is
+          ∙ closed_enums r.draft.open_part r.draft.enums)) h.enum_names;
+      message_names = subst (Holds r.message_names)
+          (sym (ap (λ (o : Open). map (λ m. m.name) e.messages ++ open_message o) part
+          ∙ append-nil (map (λ m. m.name) e.messages) ∙ ap (λ (d : Draft). map (λ m. m.name) d.messages) is
+          ∙ closed_messages r.draft.open_part r.draft.messages)) h.message_names;
       method_names = subst (Holds ps) (sym (ap (map key) more ∙ map_push key e.methods m ∙ ap (λ (d : Draft). map key d.methods ++ key m ∷ []) is)) added;
       inner_names = subst (λ (o : Open). Holds inner (names_in (open_part o))) (sym part) none;
       oneofs = subst (λ (o : Open). Holds oneofs (oneofs_of o)) (sym part) no_oneofs;
     }
 
-pub kept_value : (t : Types) (r : Reader) (c : Choices) (z : ℤ) (name : List ℕ) (part : Open) (ps : Places) → r.draft.open_part ≡ open_parts.Enum c → IsKept t r → Holds ps (map (λ v. v.1) c.values ++ name ∷ []) → part ≡ with_value r.draft.open_part (Within z) name
+pub kept_value : (t : Types) (r : Reader) (c : Choices) (z : ℤ) (name : List ℕ) (part : Open) (ps : Places)
+    → r.draft.open_part ≡ open_parts.Enum c → IsKept t r → Holds ps (map (λ v. v.1) c.values ++ name ∷ [])
+    → part ≡ with_value r.draft.open_part (Within z) name
     → IsKept t (record {
       known_enums = r.known_enums;
       known_messages = r.known_messages;
@@ -165,11 +195,14 @@ kept_value t r c z name part ps is h added made =
     })
 
 -- a field and its oneof make what their line adds
-pub parts_made : (t : Types) (o : Open) (m : TheMessage) (number : Option ℕ) (n : ℕ) (line : FieldLine) (f : TheField) (oneof : Option (List ℕ)) → o ≡ open_parts.Message m → number ≡ Some n
+pub parts_made : (t : Types) (o : Open) (m : TheMessage) (number : Option ℕ) (n : ℕ) (line : FieldLine) (f : TheField)
+    (oneof : Option (List ℕ)) → o ≡ open_parts.Message m → number ≡ Some n
     → f ≡ field_of t (oneofs_of o) n line → oneof ≡ new_oneof (oneofs_of o) line.label → with_parts o f oneof ≡ with_field t o number line
 parts_made t o m number n line f oneof is some made new = rw (made, new, is, some) refl
 
-pub kept_field : (t : Types) (r : Reader) (m : TheMessage) (f : TheField) (oneof : Option (List ℕ)) (part : Open) (ps places : Places) → r.draft.open_part ≡ open_parts.Message m → IsKept t r → Holds ps (map (λ (p : ℕ × List ℕ). p.1) (map numbered m.fields) ++ f.name ∷ [])
+pub kept_field : (t : Types) (r : Reader) (m : TheMessage) (f : TheField) (oneof : Option (List ℕ)) (part : Open)
+    (ps places : Places) → r.draft.open_part ≡ open_parts.Message m → IsKept t r
+    → Holds ps (map (λ (p : ℕ × List ℕ). p.1) (map numbered m.fields) ++ f.name ∷ [])
     → Holds places (joined_with m.oneofs oneof) → part ≡ with_parts r.draft.open_part f oneof
     → IsKept t (record {
       known_enums = r.known_enums;
@@ -189,6 +222,8 @@ kept_field t r m f oneof part ps places is h added placed made =
       enum_names = subst (λ (o : Open). Holds r.enum_names (map (λ e. e.name) r.draft.enums ++ open_enum o)) is h.enum_names;
       message_names = subst (λ (o : Open). Holds r.message_names (map (λ m. m.name) r.draft.messages ++ open_message o)) is h.message_names;
       method_names = h.method_names;
-      inner_names = subst (Holds ps) (sym (ap (map (λ (p : ℕ × List ℕ). p.1)) (map_push numbered m.fields f) ∙ map_push (λ (p : ℕ × List ℕ). p.1) (map numbered m.fields) (f.number, f.name))) added;
+      inner_names = subst (Holds ps)
+          (sym (ap (map (λ (p : ℕ × List ℕ). p.1)) (map_push numbered m.fields f) ∙ map_push (λ (p : ℕ × List ℕ). p.1)
+          (map numbered m.fields) (f.number, f.name))) added;
       oneofs = placed;
     })

@@ -1,5 +1,6 @@
 mod Accepts
 mod Clean
+mod CompleteKinds
 mod Complete
 mod DraftText
 mod FaultRows

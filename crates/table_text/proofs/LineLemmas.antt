@@ -1,5 +1,6 @@
 -- The lines of a text, one by one.
-use Rattle.std.proofs.Common.{◌≡◌, ℕ, zero, suc, ◌+◌, ◌-◌, ◌≤◌, ◌==◌, cond, List, [], ◌∷◌, ◌++◌, length, map, take, drop, sum, Option, Some, None, refl, ap, sym, subst, ◌∙◌, arith}
+use Rattle.std.proofs.Common.{◌≡◌, ℕ, zero, suc, ◌+◌, ◌-◌, ◌≤◌, ◌==◌, cond, List, [], ◌∷◌, ◌++◌, length, map, take}
+use Rattle.std.proofs.Common.{drop, sum, Option, Some, None, refl, ap, sym, subst, ◌∙◌, arith}
 use Rattle.std.specs.Prelude.{slice_get, unwrap_or}
 use Rattle.std.specs.List.{fold}
 use Rattle.std.specs.Option.{option_map_or}
@@ -94,9 +95,15 @@ before_fold t d (l ∷ ls) = before_fold t (added_line t d (line_of l)) ls ∙ a
 pub before_draft : (t : Types) (ls : List (List ℕ)) → before (draft_of t ls) ≡ before_of ls
 before_draft t ls = before_fold t empty_draft ls
 
-pub here_is : (ls : List (List ℕ)) (tail : List ℕ) (k : ℕ) (l : List ℕ) (more : List (List ℕ)) → drop k ls ≡ l ∷ more → fault_behind ls tail k ≡ line_fault (types_of ls) (before_of (take k ls)) (bytes_of (take k ls) + length l + 1) (line_of l)
+pub here_is : (ls : List (List ℕ)) (tail : List ℕ) (k : ℕ) (l : List ℕ) (more : List (List ℕ)) → drop k ls ≡ l ∷ more
+    → fault_behind ls tail k ≡ line_fault (types_of ls) (before_of (take k ls)) (bytes_of (take k ls) + length l + 1)
+    (line_of l)
 here_is ls tail k l more e =
     let next : k + 1 ≡ suc k = omega arith in
-    let bytes : bytes_of (take (k + 1) ls) ≡ bytes_of (take k ls) + length l + 1 = ap (λ (n : ℕ). bytes_of (take n ls)) next ∙ ap bytes_of (take_drop ls k l more e) ∙ bytes_push (take k ls) l in
-    ap (λ (o : Option (List ℕ)). option_map_or (λ x. line_fault (types_of ls) (before_of (take k ls)) (bytes_of (take (k + 1) ls)) (line_of x)) o (cond (k == length ls) (end_fault (before_of ls) tail) None)) (get_drop ls k l more e)
+    let bytes : bytes_of (take (k + 1) ls) ≡ bytes_of (take k ls) + length l + 1 =
+    ap (λ (n : ℕ). bytes_of (take n ls)) next ∙ ap bytes_of (take_drop ls k l more e)
+    ∙ bytes_push (take k ls) l in
+    ap (λ (o : Option (List ℕ)). option_map_or
+    (λ x. line_fault (types_of ls) (before_of (take k ls)) (bytes_of (take (k + 1) ls)) (line_of x)) o
+    (cond (k == length ls) (end_fault (before_of ls) tail) None)) (get_drop ls k l more e)
     ∙ ap (λ (n : ℕ). line_fault (types_of ls) (before_of (take k ls)) n (line_of l)) bytes

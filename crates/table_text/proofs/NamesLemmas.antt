@@ -14,10 +14,12 @@ pub record NamesSoFar (of_lines : List (List ℕ) → List (List ℕ)) (start : 
   pub holds : Holds names done
   pub all : done ++ of_lines (whole_lines rest) ≡ start ++ of_lines (whole_lines text)
 
-pub names_none : (of_lines : List (List ℕ) → List (List ℕ)) (start : List (List ℕ)) (text : List ℕ) (names : Places) → Holds names start → NamesSoFar of_lines start text text names
+pub names_none : (of_lines : List (List ℕ) → List (List ℕ)) (start : List (List ℕ)) (text : List ℕ) (names : Places)
+    → Holds names start → NamesSoFar of_lines start text text names
 names_none of_lines start text names h = record { done = start; holds = h; all = refl }
 
-pub names_first : (of_lines : List (List ℕ) → List (List ℕ)) (start : List (List ℕ)) (text rest line others : List ℕ) (old new : Places) (more : List (List ℕ)) → pieces_of rest ≡ line ∷ pieces_of others
+pub names_first : (of_lines : List (List ℕ) → List (List ℕ)) (start : List (List ℕ)) (text rest line others : List ℕ)
+    (old new : Places) (more : List (List ℕ)) → pieces_of rest ≡ line ∷ pieces_of others
     → of_lines (line ∷ whole_lines others) ≡ more ++ of_lines (whole_lines others) → ((names : List (List ℕ)) → Holds old names → Holds new (names ++ more))
     → NamesSoFar of_lines start text rest old → NamesSoFar of_lines start text others new
 names_first of_lines start text rest line others old new more e step added s = record {

@@ -1,5 +1,7 @@
 -- Lists in order and without repetition, one element more at the end; and the tests that tell.
-use Rattle.std.proofs.Common.{◌≡◌, ℕ, zero, suc, ℤ, ◌-◌, ◌<◌, ◌&&◌, ◌||◌, Bool, true, false, cond, List, [], ◌∷◌, ◌++◌, length, map, get_or, Option, Some, None, refl, ap, sym, subst, ◌∙◌, arith, inl, inr, ◌⊎◌}
+use Rattle.std.proofs.Common.{◌≡◌, ℕ, zero, suc, ℤ, ◌-◌, ◌<◌, ◌&&◌, ◌||◌, Bool, true, false, cond, List, [], ◌∷◌}
+use Rattle.std.proofs.Common.{◌++◌, length, map, get_or, Option, Some, None, refl, ap, sym, subst, ◌∙◌, arith, inl}
+use Rattle.std.proofs.Common.{inr, ◌⊎◌}
 use Rattle.std.specs.Prelude.{int_lt}
 use Rattle.std.specs.List.{Contains}
 use Rattle.std.specs.Option.{option_map_or}
@@ -209,7 +211,8 @@ pub int_equal : (x z : ℤ) → int_eq x z ≡ true → x ≡ z
 int_equal x z e =
     elim (int_lt x z) as (λ (b : Bool). int_lt x z ≡ b → is_eq (cond b Less (cond (int_lt z x) Greater Equal)) ≡ true → x ≡ z) [
       | true ↦ λ is f. absurd cc
-      | false ↦ λ is f. elim (int_lt z x) as (λ (b : Bool). int_lt z x ≡ b → is_eq (cond b Greater Equal) ≡ true → x ≡ z) [ true ↦ λ is2 g. absurd cc | false ↦ λ is2 g. int_same x z is is2 ] refl f
+      | false ↦ λ is f. elim (int_lt z x) as (λ (b : Bool). int_lt z x ≡ b → is_eq (cond b Greater Equal) ≡ true
+          → x ≡ z) [ true ↦ λ is2 g. absurd cc | false ↦ λ is2 g. int_same x z is is2 ] refl f
     ] refl e
 
 pub int_self : (z : ℤ) → int_eq z z ≡ true

@@ -1,5 +1,7 @@
 -- A line that is read is spelled so, and what is spelled so is read.
-use Rattle.std.proofs.Common.{◌≡◌, ℕ, suc, ℤ, pos, negsuc, ◌-◌, ◌^◌, ◌<◌, ◌≤◌, ◌==◌, ◌&&◌, ◌||◌, not, Bool, true, false, cond, List, [], ◌∷◌, ◌++◌, length, take, drop, get_or, Option, Some, None, refl, ap, sym, subst, ◌∙◌, arith, inl, inr, rules, ◌⊎◌}
+use Rattle.std.proofs.Common.{◌≡◌, ℕ, suc, ℤ, pos, negsuc, ◌-◌, ◌^◌, ◌<◌, ◌≤◌, ◌==◌, ◌&&◌, ◌||◌, not, Bool, true}
+use Rattle.std.proofs.Common.{false, cond, List, [], ◌∷◌, ◌++◌, length, take, drop, get_or, Option, Some, None, refl}
+use Rattle.std.proofs.Common.{ap, sym, subst, ◌∙◌, arith, inl, inr, rules, ◌⊎◌}
 use Rattle.std.specs.Prelude.{option_map, option_and_then}
 use Rattle.std.specs.List.{list_all, find}
 use Rattle.std.specs.Option.{option_or}
@@ -94,7 +96,13 @@ number_of-decimal n small =
     rw (form, value) refl
   where
     first_zero : (n : ℕ) → n < 2 ^ 64 → get_or (decimal n) 0 0 ≡ 48 → length (decimal n) ≡ 1
-    first_zero n small first = elim (cases_lt 0 n) [ inl above ↦ absurd (omega (arith, first_decimal n above small)) | inr none ↦ let zero_n : n ≡ 0 = omega arith in subst (λ (m : ℕ). length (decimal m) ≡ 1) (sym zero_n) (ap length (decimal_digit 0 (omega arith))) ]
+    first_zero n small first =
+        elim (cases_lt 0 n) [
+          | inl above ↦ absurd (omega (arith, first_decimal n above small))
+          | inr none ↦ let zero_n
+              : n ≡ 0 = omega arith in
+              subst (λ (m : ℕ). length (decimal m) ≡ 1) (sym zero_n) (ap length (decimal_digit 0 (omega arith)))
+        ]
 
 -- the text of a number, in its range
 abbrev pub WholeIs : List ℕ → Whole → Type 0
@@ -188,10 +196,13 @@ full_name_of-form n form = rw form refl
 pub behind_is : (prefix w n : List ℕ) → behind prefix w ≡ Some n → w ≡ prefix ++ n
 behind_is prefix w n e =
     let h = if_true (bytes_eq (take (length prefix) w) prefix) (drop (length prefix) w) n e in
-    sym (take-append-drop (length prefix) w) ∙ ap (λ (front : List ℕ). front ++ drop (length prefix) w) (same_bytes (take (length prefix) w) prefix h.0) ∙ ap (λ (rest : List ℕ). prefix ++ rest) h.1
+    sym (take-append-drop (length prefix) w) ∙ ap (λ (front : List ℕ). front ++ drop (length prefix) w)
+    (same_bytes (take (length prefix) w) prefix h.0) ∙ ap (λ (rest : List ℕ). prefix ++ rest) h.1
 
 -- what a table of words says of a word
-pub in_words : {X : Type 0} (w : List ℕ) (table : List (List ℕ × X)) (x : X) → option_map (λ e. e.1) (find (λ e. bytes_eq w e.0) table) ≡ Some x → (P : List ℕ → X → Type 0) → AllByRecursion (λ e. P e.0 e.1) table → P w x
+pub in_words : {X : Type 0} (w : List ℕ) (table : List (List ℕ × X)) (x : X)
+    → option_map (λ e. e.1) (find (λ e. bytes_eq w e.0) table) ≡ Some x → (P : List ℕ → X → Type 0)
+    → AllByRecursion (λ e. P e.0 e.1) table → P w x
 in_words w [] x e P all = absurd cc
 in_words w (r ∷ rs) x e P all =
     elim (bytes_eq w r.0) as (λ (b : Bool). bytes_eq w r.0 ≡ b → option_map (λ e. e.1) (cond b (Some r) (find (λ e. bytes_eq w e.0) rs)) ≡ Some x → P w x) [

@@ -1,5 +1,6 @@
 -- Names and their places, and the map that holds them.
-use Rattle.std.proofs.Common.{◌≡◌, ℕ, suc, ◌+◌, ◌-◌, ◌^◌, min, ◌||◌, Bool, true, false, cond, List, [], ◌∷◌, ◌++◌, length, Option, Some, None, refl, ap, sym, ◌∙◌, arith, length-append, zero-add}
+use Rattle.std.proofs.Common.{◌≡◌, ℕ, suc, ◌+◌, ◌-◌, ◌^◌, min, ◌||◌, Bool, true, false, cond, List, [], ◌∷◌, ◌++◌}
+use Rattle.std.proofs.Common.{length, Option, Some, None, refl, ap, sym, ◌∙◌, arith, length-append, zero-add}
 use Rattle.std.specs.Prelude.{is_some, option_map}
 use Rattle.std.specs.Option.{option_or}
 use Rattle.std.specs.List.{list_any}
@@ -25,11 +26,15 @@ among_from k name (n ∷ ns) =
       | false ↦ among_from (k + 1) name ns
     ]
 
-pub place_push : (k : ℕ) (name : List ℕ) (names : List (List ℕ)) (last : List ℕ) → place_from k name (names ++ last ∷ []) ≡ option_or (place_from k name names) (cond (bytes_eq name last) (Some (k + length names)) None)
+pub place_push : (k : ℕ) (name : List ℕ) (names : List (List ℕ)) (last : List ℕ)
+    → place_from k name (names ++ last ∷ []) ≡ option_or (place_from k name names)
+    (cond (bytes_eq name last) (Some (k + length names)) None)
 place_push k name [] last = let e : k ≡ k + 0 = omega arith in ap (λ (j : ℕ). cond (bytes_eq name last) (Some j) None) e
 place_push k name (n ∷ ns) last =
     let e : k + 1 + length ns ≡ k + suc (length ns) = omega arith in
-    elim (bytes_eq name n) as (λ (b : Bool). cond b (Some k) (place_from (k + 1) name (ns ++ last ∷ [])) ≡ option_or (cond b (Some k) (place_from (k + 1) name ns)) (cond (bytes_eq name last) (Some (k + suc (length ns))) None)) [
+    elim (bytes_eq name n) as (λ (b : Bool). cond b (Some k) (place_from (k + 1) name (ns ++ last ∷ []))
+    ≡ option_or (cond b (Some k) (place_from (k + 1) name ns))
+    (cond (bytes_eq name last) (Some (k + suc (length ns))) None)) [
       | true ↦ refl
       | false ↦ place_push (k + 1) name ns last ∙ ap (λ (j : ℕ). option_or (place_from (k + 1) name ns) (cond (bytes_eq name last) (Some j) None)) e
     ]
@@ -58,10 +63,13 @@ same_bytes xs ys e = (bytes_eq-Decides xs ys).0 e
 pub bytes_same : (xs ys : List ℕ) → xs ≡ ys → bytes_eq xs ys ≡ true
 bytes_same xs ys e = (bytes_eq-Decides xs ys).1 e
 
-pub found_inserted : (name : List ℕ) (es : List (Vec ℕ × ℕ)) (key : Vec ℕ) (v : ℕ) → found_in name (insert_entry by_items es key v) ≡ cond (bytes_eq name key.items) (Some v) (found_in name es)
+pub found_inserted : (name : List ℕ) (es : List (Vec ℕ × ℕ)) (key : Vec ℕ) (v : ℕ)
+    → found_in name (insert_entry by_items es key v) ≡ cond (bytes_eq name key.items) (Some v) (found_in name es)
 found_inserted name [] key v = rw is_eq-slice_cmp refl
 found_inserted name (e ∷ es) key v =
-    elim (by_items key e.0) as (λ (o : Ordering). by_items key e.0 ≡ o → found_in name (match_ordering o ((key, v) ∷ e ∷ es) ((e.0, v) ∷ es) (e ∷ insert_entry by_items es key v)) ≡ cond (bytes_eq name key.items) (Some v) (found_in name (e ∷ es))) [
+    elim (by_items key e.0) as (λ (o : Ordering). by_items key e.0 ≡ o
+    → found_in name (match_ordering o ((key, v) ∷ e ∷ es) ((e.0, v) ∷ es) (e ∷ insert_entry by_items es key v))
+    ≡ cond (bytes_eq name key.items) (Some v) (found_in name (e ∷ es))) [
       | Less ↦ λ is. rw (is_eq-slice_cmp name key.items) refl
       | Equal ↦ λ is.
           let same : key.items ≡ e.0.items = same_bytes key.items e.0.items (sym (is_eq-slice_cmp key.items e.0.items) ∙ ap is_eq is) in
@@ -77,21 +85,26 @@ pub none_is : {X : Type 0} (o : Option X) → false ≡ is_some o → o ≡ None
 none_is None e = refl
 none_is (Some x) e = absurd cc
 
-pub kept : (old new : Option ℕ) (b : Bool) (n : ℕ) (first : Option ℕ) → first ≡ None → (b ≡ true → old ≡ first) → new ≡ cond b (Some n) old → new ≡ option_or old (cond b (Some n) None)
+pub kept : (old new : Option ℕ) (b : Bool) (n : ℕ) (first : Option ℕ) → first ≡ None → (b ≡ true → old ≡ first)
+    → new ≡ cond b (Some n) old → new ≡ option_or old (cond b (Some n) None)
 kept None new true n first none same e = e
 kept (Some x) new true n first none same e = let clash : Some x ≡ None = same refl ∙ none in absurd cc
 kept None new false n first none same e = e
 kept (Some x) new false n first none same e = e
 
-joined : (old place : Option ℕ) (b : Bool) (n len : ℕ) → old ≡ option_map in_range place → n ≡ in_range len → option_or old (cond b (Some n) None) ≡ option_map in_range (option_or place (cond b (Some (0 + len)) None))
+joined : (old place : Option ℕ) (b : Bool) (n len : ℕ) → old ≡ option_map in_range place → n ≡ in_range len
+    → option_or old (cond b (Some n) None) ≡ option_map in_range (option_or place (cond b (Some (0 + len)) None))
 joined old None true n len e m = let z : n ≡ in_range (0 + len) = m ∙ ap in_range (sym (zero-add len)) in rw e (ap Some z)
 joined old None false n len e m = rw e refl
 joined old (Some p) b n len e m = rw e refl
 
 -- one more name
-pub holds_push : (old new : Places) (names : List (List ℕ)) (name : List ℕ) → ((q : List ℕ) → place_in new q ≡ option_or (place_in old q) (cond (bytes_eq q name) (Some old.count) None)) → new.count ≡ min (old.count + 1) (2 ^ 32 - 1)
+pub holds_push : (old new : Places) (names : List (List ℕ)) (name : List ℕ)
+    → ((q : List ℕ) → place_in new q ≡ option_or (place_in old q) (cond (bytes_eq q name) (Some old.count) None))
+    → new.count ≡ min (old.count + 1) (2 ^ 32 - 1)
     → Holds old names → Holds new (names ++ name ∷ [])
 holds_push old new names name added more h = record {
-  found = λ q. added q ∙ joined (place_in old q) (place_from 0 q names) (bytes_eq q name) old.count (length names) (h.found q) h.count ∙ ap (option_map in_range) (sym (place_push 0 q names name));
+  found = λ q. added q ∙ joined (place_in old q) (place_from 0 q names) (bytes_eq q name) old.count (length names)
+      (h.found q) h.count ∙ ap (option_map in_range) (sym (place_push 0 q names name));
   count = omega (arith, more, h.count, length-append names (name ∷ []));
 }

@@ -1,5 +1,7 @@
 -- The types that are held for a text serve for each of its lines that is reached.
-use Rattle.std.proofs.Common.{◌≡◌, ℕ, zero, suc, ◌+◌, ◌-◌, ◌<◌, ◌≤◌, ◌==◌, ◌||◌, Bool, true, false, not, cond, List, [], ◌∷◌, ◌++◌, codes, length, take, drop, Option, Some, None, refl, ap, sym, subst, ◌∙◌, append_assoc, arith, inl, inr, length-append, length-drop}
+use Rattle.std.proofs.Common.{◌≡◌, ℕ, zero, suc, ◌+◌, ◌-◌, ◌<◌, ◌≤◌, ◌==◌, ◌||◌, Bool, true, false, not, cond, List}
+use Rattle.std.proofs.Common.{[], ◌∷◌, ◌++◌, codes, length, take, drop, Option, Some, None, refl, ap, sym, subst, ◌∙◌}
+use Rattle.std.proofs.Common.{append_assoc, arith, inl, inr, length-append, length-drop}
 use Rattle.std.specs.Prelude.{slice_get, option_and_then}
 use Rattle.std.specs.List.{filter_map, cons_option, onto_first}
 use Rattle.std.specs.Str.{bytes_eq}
@@ -11,7 +13,9 @@ use Rattle.std.proofs.lemmas.List.Folds.{list_any-append}
 use Rattle.std.proofs.lemmas.List.Sums.{sum-map, sum_by-cons}
 use Rattle.mrpc_table.specs.Lines.{pieces_of, whole_lines, rest_of}
 use Rattle.table_text.specs.Faults.{bytes_of}
-use Rattle.table_text.specs.Judged.{Types, Before, types_of, before_of, line_fault, is_among, is_empty, is_syntax, is_number, is_duplicate, is_unknown, is_unknown_kind, is_unknown_label, is_map_key, is_limit}
+use Rattle.table_text.specs.Judged.{Types, Before, types_of, before_of, line_fault, is_among, is_empty, is_syntax}
+use Rattle.table_text.specs.Judged.{is_number, is_duplicate, is_unknown, is_unknown_kind, is_unknown_label}
+use Rattle.table_text.specs.Judged.{is_map_key, is_limit}
 use Rattle.table_text.specs.Lines.{behind, line_of}
 use Rattle.table_text.specs.Places.{Holds}
 use Rattle.table_text.specs.Reach.{used_by_kind, used_by_label, used_by, used_by_line, used_in, used_behind, types_near, AreLongParts, IsReached, Serves}
@@ -41,7 +45,8 @@ onto_append c (p ∷ ps) qs some = refl
 pieces_append : (x y : List ℕ) → pieces_of (x ++ 10 ∷ y) ≡ pieces_of x ++ pieces_of y
 pieces_append [] y = refl
 pieces_append (c ∷ cs) y =
-    elim (c == 10) as (λ (b : Bool). cond b ([] ∷ pieces_of (cs ++ 10 ∷ y)) (onto_first c (pieces_of (cs ++ 10 ∷ y))) ≡ cond b ([] ∷ pieces_of cs) (onto_first c (pieces_of cs)) ++ pieces_of y) [
+    elim (c == 10) as (λ (b : Bool). cond b ([] ∷ pieces_of (cs ++ 10 ∷ y)) (onto_first c (pieces_of (cs ++ 10 ∷ y)))
+    ≡ cond b ([] ∷ pieces_of cs) (onto_first c (pieces_of cs)) ++ pieces_of y) [
       | true ↦ ap (λ (ps : List (List ℕ)). [] ∷ ps) (pieces_append cs y)
       | false ↦ ap (onto_first c) (pieces_append cs y) ∙ onto_append c (pieces_of cs) (pieces_of y) (has_part 10 cs)
     ]
@@ -55,7 +60,8 @@ lines_append : (x y : List ℕ) → whole_lines (x ++ 10 ∷ y) ≡ pieces_of x 
 lines_append x y =
     let part = has_part 10 y in
     ap (λ (ps : List (List ℕ)). take (length ps - 1) ps) (pieces_append x y)
-    ∙ subst (λ (ps : List (List ℕ)). take (length (pieces_of x ++ ps) - 1) (pieces_of x ++ ps) ≡ pieces_of x ++ take (length ps - 1) ps) (sym part.2) (init_append (pieces_of x) part.0 part.1)
+    ∙ subst (λ (ps : List (List ℕ)). take (length (pieces_of x ++ ps) - 1) (pieces_of x ++ ps) ≡ pieces_of x
+    ++ take (length ps - 1) ps) (sym part.2) (init_append (pieces_of x) part.0 part.1)
 
 abbrev line_bytes : List ℕ → ℕ
 line_bytes l = length l + 1
@@ -82,7 +88,9 @@ cut_parts m text line far le e =
     let x = take m text ++ line in
     let fed = x ++ 10 ∷ [] in
     let behind_m : take (length text - m) (drop m text) ≡ drop m text = take_all (length text - m) (drop m text) (omega (arith, length-drop m text)) in
-    let is : text ≡ x ++ 10 ∷ far = sym (parted m text) ∙ ap (λ (t : List ℕ). take m text ++ t) (sym behind_m ∙ (cut_is (take (length text - m) (drop m text)) line far e).text_is) ∙ sym (append_assoc (take m text) line (10 ∷ far)) in
+    let is : text ≡ x ++ 10 ∷ far = sym (parted m text) ∙ ap (λ (t : List ℕ). take m text ++ t)
+    (sym behind_m ∙ (cut_is (take (length text - m) (drop m text)) line far e).text_is)
+    ∙ sym (append_assoc (take m text) line (10 ∷ far)) in
     let fed_is : text ≡ fed ++ far = is ∙ sym (append_assoc x (10 ∷ []) far) in
     let count : length text - length far ≡ length fed = omega (arith, ap (length {A = ℕ}) fed_is, length-append fed far) in
     let near : take (length text - length far) text ≡ fed = ap (λ (n : ℕ). take n text) count ∙ ap (take (length fed)) fed_is ∙ take-append_seam fed far in
@@ -122,11 +130,15 @@ chosen n m wanted xs ys true is in_it same = ap (λ (b : Bool). bytes_eq n m || 
 chosen n m wanted xs ys false is in_it same = same ∙ sym (ap (λ (b : Bool). b || is_among n ys) (apart n m wanted is in_it))
 
 -- a name that is wanted stands among those that are kept as among all
-kept_far : (n : List ℕ) (wanted : List (List ℕ)) (prefix : List ℕ) → is_among n wanted ≡ true → (far : List (List ℕ)) → is_among n (filter_map (used_behind wanted prefix) far) ≡ is_among n (filter_map (behind prefix) far)
+kept_far : (n : List ℕ) (wanted : List (List ℕ)) (prefix : List ℕ) → is_among n wanted ≡ true → (far : List (List ℕ))
+    → is_among n (filter_map (used_behind wanted prefix) far) ≡ is_among n (filter_map (behind prefix) far)
 kept_far n wanted prefix in_it [] = refl
 kept_far n wanted prefix in_it (l ∷ ls) = step (behind prefix l) (kept_far n wanted prefix in_it ls)
   where
-    step : (o : Option (List ℕ)) → is_among n (filter_map (used_behind wanted prefix) ls) ≡ is_among n (filter_map (behind prefix) ls) → is_among n (cons_option (option_and_then (λ m. cond (is_among m wanted) (Some m) None) o) (filter_map (used_behind wanted prefix) ls)) ≡ is_among n (cons_option o (filter_map (behind prefix) ls))
+    step : (o : Option (List ℕ)) → is_among n (filter_map (used_behind wanted prefix) ls)
+        ≡ is_among n (filter_map (behind prefix) ls)
+        → is_among n (cons_option (option_and_then (λ m. cond (is_among m wanted) (Some m) None) o)
+        (filter_map (used_behind wanted prefix) ls)) ≡ is_among n (cons_option o (filter_map (behind prefix) ls))
     step None same = same
     step (Some m) same = chosen n m wanted (filter_map (used_behind wanted prefix) ls) (filter_map (behind prefix) ls) (is_among m wanted) refl in_it same
 
@@ -144,11 +156,14 @@ pub none_kept : (prefix : List ℕ) (far : List (List ℕ)) → filter_map (used
 none_kept prefix [] = refl
 none_kept prefix (l ∷ ls) = step (behind prefix l) (none_kept prefix ls)
   where
-    step : (o : Option (List ℕ)) → filter_map (used_behind [] prefix) ls ≡ [] → cons_option (option_and_then (λ m. cond (is_among m []) (Some m) None) o) (filter_map (used_behind [] prefix) ls) ≡ []
+    step : (o : Option (List ℕ)) → filter_map (used_behind [] prefix) ls ≡ []
+        → cons_option (option_and_then (λ m. cond (is_among m []) (Some m) None) o)
+        (filter_map (used_behind [] prefix) ls) ≡ []
     step None none = none
     step (Some m) none = none
 
-pub nothing_kept : (prefix : List ℕ) (names : Places) (start wanted far : List (List ℕ)) → true ≡ is_empty wanted → Holds names start → Holds names (start ++ filter_map (used_behind wanted prefix) far)
+pub nothing_kept : (prefix : List ℕ) (names : Places) (start wanted far : List (List ℕ)) → true ≡ is_empty wanted
+    → Holds names start → Holds names (start ++ filter_map (used_behind wanted prefix) far)
 nothing_kept prefix names start [] far e h = subst (Holds names) (sym (ap (λ (xs : List (List ℕ)). start ++ xs) (none_kept prefix far) ∙ append-nil start)) h
 nothing_kept prefix names start (w ∷ ws) far e h = absurd (false≢true (sym (e ∙ ne_eqb (suc (length ws)) 0 (λ none. absurd (omega arith)))))
 
@@ -184,7 +199,8 @@ line_agrees near far (Method m) used =
     ap (λ (b : Bool). not b || not (is_among m.output (types_near near far).messages)) input ∙ ap (λ (b : Bool). not (is_among m.input (types_of (near ++ far)).messages) || not b) output
 
 -- what a near line uses is among what the near lines use
-used_at : (n : List ℕ) (near : List (List ℕ)) (i : ℕ) (line : List ℕ) → slice_get near i ≡ Some line → is_among n (used_by_line (line_of line)) ≡ true → is_among n (used_in near) ≡ true
+used_at : (n : List ℕ) (near : List (List ℕ)) (i : ℕ) (line : List ℕ) → slice_get near i ≡ Some line
+    → is_among n (used_by_line (line_of line)) ≡ true → is_among n (used_in near) ≡ true
 used_at n [] zero line get h = absurd cc
 used_at n [] (suc i) line get h = absurd cc
 used_at n (l ∷ ls) zero line get h =
@@ -192,12 +208,19 @@ used_at n (l ∷ ls) zero line get h =
     in_first n (used_by_line (line_of l)) (used_in ls) (ap (λ (x : List ℕ). is_among n (used_by_line (line_of x))) same ∙ h)
 used_at n (l ∷ ls) (suc i) line get h = in_second n (used_by_line (line_of l)) (used_in ls) (used_at n ls i line get h)
 
-fault_agrees : (t u : Types) (b : Before) (bytes : ℕ) (o : Option Line) → ((l : Line) → o ≡ Some l → is_unknown t l ≡ is_unknown u l) → line_fault t b bytes o ≡ line_fault u b bytes o
+fault_agrees : (t u : Types) (b : Before) (bytes : ℕ) (o : Option Line)
+    → ((l : Line) → o ≡ Some l → is_unknown t l ≡ is_unknown u l) → line_fault t b bytes o ≡ line_fault u b bytes o
 fault_agrees t u b bytes None agrees = refl
 fault_agrees t u b bytes (Some l) agrees =
-    ap (λ (x : Bool). cond (is_syntax b l) (Some Syntax) (cond (is_number b l) (Some Number) (cond (is_duplicate b l) (Some Duplicate) (cond x (Some UnknownType) (cond (is_map_key l) (Some MapKey) (cond (is_limit b bytes l) (Some Limit) None)))))) (agrees l refl)
+    ap (λ (x : Bool). cond (is_syntax b l) (Some Syntax)
+    (cond (is_number b l) (Some Number)
+    (cond (is_duplicate b l) (Some Duplicate)
+    (cond x (Some UnknownType)
+    (cond (is_map_key l) (Some MapKey) (cond (is_limit b bytes l) (Some Limit) None)))))) (agrees l refl)
 
-near_judges : (near far : List (List ℕ)) (i : ℕ) (line : List ℕ) (b : Before) (bytes : ℕ) → slice_get near i ≡ Some line → line_fault (types_near near far) b bytes (line_of line) ≡ line_fault (types_of (near ++ far)) b bytes (line_of line)
+near_judges : (near far : List (List ℕ)) (i : ℕ) (line : List ℕ) (b : Before) (bytes : ℕ)
+    → slice_get near i ≡ Some line → line_fault (types_near near far) b bytes (line_of line)
+    ≡ line_fault (types_of (near ++ far)) b bytes (line_of line)
 near_judges near far i line b bytes get =
     fault_agrees (types_near near far) (types_of (near ++ far)) b bytes (line_of line)
     (λ l is. line_agrees near far l (λ n h. used_at n near i line get (ap (λ (o : Option Line). is_among n (used_by_line o)) is ∙ h)))
@@ -216,8 +239,11 @@ few_to text (suc k) within clean =
 
 past_near : (text near far : List ℕ) → AreLongParts text near far → (k : ℕ) → length (whole_lines near) ≤ k → IsReached text k → ⊥
 past_near text near far long k le clean =
-    let front : take (length (whole_lines near)) (whole_lines text) ≡ whole_lines near = ap (take (length (whole_lines near))) long.lines ∙ take-append_seam (whole_lines near) (whole_lines far) in
-    let few = few_to text (length (whole_lines near)) (omega (arith, ap (length {A = List ℕ}) long.lines, length-append (whole_lines near) (whole_lines far))) (λ j less. clean j (omega arith)) in
+    let front : take (length (whole_lines near)) (whole_lines text) ≡ whole_lines near =
+    ap (take (length (whole_lines near))) long.lines ∙ take-append_seam (whole_lines near) (whole_lines far) in
+    let few = few_to text (length (whole_lines near))
+    (omega (arith, ap (length {A = List ℕ}) long.lines, length-append (whole_lines near) (whole_lines far)))
+    (λ j less. clean j (omega arith)) in
     let passes = long.passes in
     absurd (omega (arith, few, ap bytes_of front, passes))
 

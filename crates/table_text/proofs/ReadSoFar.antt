@@ -1,5 +1,7 @@
 -- What was read of a text so far.
-use Rattle.std.proofs.Common.{◌≡◌, ℕ, suc, ◌+◌, ◌-◌, ◌<◌, ◌≤◌, ◌==◌, Bool, true, false, cond, List, [], ◌∷◌, ◌++◌, length, take, drop, Option, None, Result, Ok, Err, refl, ap, sym, ◌∙◌, arith, zero-add, length-drop, inl, inr}
+use Rattle.std.proofs.Common.{◌≡◌, ℕ, suc, ◌+◌, ◌-◌, ◌<◌, ◌≤◌, ◌==◌, Bool, true, false, cond, List, [], ◌∷◌, ◌++◌}
+use Rattle.std.proofs.Common.{length, take, drop, Option, None, Result, Ok, Err, refl, ap, sym, ◌∙◌, arith, zero-add}
+use Rattle.std.proofs.Common.{length-drop, inl, inr}
 use Rattle.std.specs.Prelude.{IfOk, OnOk}
 use Rattle.std.specs.Option.{option_map_or}
 use Rattle.std.proofs.lemmas.List.{take_all}
@@ -51,7 +53,8 @@ lines_none text t r serves kept nothing = record {
 pub before_here : (text rest : List ℕ) (number : ℕ) (r : Reader) → LinesSoFar text rest number r → before_of (take (number - 1) (whole_lines text)) ≡ before r.draft
 before_here text rest number r s = sym (ap before s.draft ∙ before_draft s.types (take (number - 1) (whole_lines text)))
 
-pub line_here : (text rest line others : List ℕ) (number : ℕ) (r : Reader) → pieces_of rest ≡ line ∷ pieces_of others → length line + 1 + length others ≡ length rest → (s : LinesSoFar text rest number r)
+pub line_here : (text rest line others : List ℕ) (number : ℕ) (r : Reader) → pieces_of rest ≡ line ∷ pieces_of others
+    → length line + 1 + length others ≡ length rest → (s : LinesSoFar text rest number r)
     → fault_at text (number - 1) ≡ line_fault s.types (before r.draft) (length text - length others) (line_of line)
 line_here text rest line others number r e size s =
     let bytes : bytes_of (take (number - 1) (whole_lines text)) + length line + 1 ≡ length text - length others = omega (arith, s.bytes, size) in
@@ -63,7 +66,9 @@ line_here text rest line others number r e size s =
     ∙ ap (λ (b : Before). line_fault (types_of (whole_lines text)) b (length text - length others) (line_of line)) (before_here text rest number r s)
     ∙ sym (s.serves.judges (number - 1) line (before r.draft) (length text - length others) reached (get_drop (whole_lines text) (number - 1) line (whole_lines others) here))
 
-pub lines_step : (text rest line others : List ℕ) (number : ℕ) (r new : Reader) → pieces_of rest ≡ line ∷ pieces_of others → length line + 1 + length others ≡ length rest → (s : LinesSoFar text rest number r)
+pub lines_step : (text rest line others : List ℕ) (number : ℕ) (r new : Reader)
+    → pieces_of rest ≡ line ∷ pieces_of others → length line + 1 + length others ≡ length rest
+    → (s : LinesSoFar text rest number r)
     → line_fault s.types (before r.draft) (length text - length others) (line_of line) ≡ None → IsKept s.types new → new.draft ≡ added_line s.types r.draft (line_of line)
     → LinesSoFar text others (number + 1) new
 lines_step text rest line others number r new e size s none kept draft =
@@ -83,26 +88,32 @@ lines_step text rest line others number r new e size s none kept draft =
       tail = sym (rest_first rest line others e) ∙ s.tail;
       bytes = omega (arith, ap bytes_of front, bytes_push (take (number - 1) ls) line, s.bytes, size);
       passed = omega (arith, s.passed, size);
-      draft = draft ∙ ap (λ (d : Draft). added_line s.types d (line_of line)) s.draft ∙ sym (ap (draft_of s.types) front ∙ fold_push (λ d l. added_line s.types d (line_of l)) empty_draft (take (number - 1) ls) line);
+      draft = draft ∙ ap (λ (d : Draft). added_line s.types d (line_of line)) s.draft
+          ∙ sym (ap (draft_of s.types) front ∙ fold_push (λ d l. added_line s.types d (line_of l)) empty_draft
+          (take (number - 1) ls) line);
       clean = λ i lt. elim (cases_lt (i + 1) number) [
         | inl below ↦ s.clean i below
         | inr at ↦ let same : i ≡ number - 1 = omega arith in ap (fault_at text) same ∙ line_here text rest line others number r e size s ∙ none
       ];
     }
 
-pub end_here : (text rest : List ℕ) (number : ℕ) (r : Reader) → pieces_of rest ≡ rest ∷ [] → LinesSoFar text rest number r → fault_at text (number - 1) ≡ end_fault (before r.draft) rest
+pub end_here : (text rest : List ℕ) (number : ℕ) (r : Reader) → pieces_of rest ≡ rest ∷ []
+    → LinesSoFar text rest number r → fault_at text (number - 1) ≡ end_fault (before r.draft) rest
 end_here text rest number r e s =
     let ls = whole_lines text in
     let gone : length ls - (number - 1) ≡ 0 = sym (length-drop (number - 1) ls) ∙ ap length (s.lines ∙ lines_end rest e) in
     let within = s.within in
     let le : length ls ≤ number - 1 = omega arith in
     let all : (number - 1 == length ls) ≡ true = eq-eqb (number - 1) (length ls) (omega arith) in
-    ap (λ (o : Option (List ℕ)). option_map_or (λ x. line_fault (types_of ls) (before_of (take (number - 1) ls)) (bytes_of (take (number - 1 + 1) ls)) (line_of x)) o (cond (number - 1 == length ls) (end_fault (before_of ls) (rest_of text)) None)) (get_end ls (number - 1) le)
+    ap (λ (o : Option (List ℕ)). option_map_or (λ x. line_fault (types_of ls) (before_of (take (number - 1) ls))
+    (bytes_of (take (number - 1 + 1) ls)) (line_of x)) o
+    (cond (number - 1 == length ls) (end_fault (before_of ls) (rest_of text)) None)) (get_end ls (number - 1) le)
     ∙ ap (λ (b : Bool). cond b (end_fault (before_of ls) (rest_of text)) None) all
     ∙ ap (λ (b : Before). end_fault b (rest_of text)) (sym (ap before_of (take_all (number - 1) ls le)) ∙ before_here text rest number r s)
     ∙ ap (end_fault (before r.draft)) (sym s.tail ∙ rest_end rest e)
 
-pub all_clean : (text rest : List ℕ) (number : ℕ) (r : Reader) → pieces_of rest ≡ rest ∷ [] → LinesSoFar text rest number r → end_fault (before r.draft) rest ≡ None → (i : ℕ) → fault_at text i ≡ None
+pub all_clean : (text rest : List ℕ) (number : ℕ) (r : Reader) → pieces_of rest ≡ rest ∷ []
+    → LinesSoFar text rest number r → end_fault (before r.draft) rest ≡ None → (i : ℕ) → fault_at text i ≡ None
 all_clean text rest number r e s none i =
     let ls = whole_lines text in
     let gone : length ls - (number - 1) ≡ 0 = sym (length-drop (number - 1) ls) ∙ ap length (s.lines ∙ lines_end rest e) in
@@ -115,12 +126,15 @@ all_clean text rest number r e s none i =
         | inr other ↦
             let le : length ls ≤ i = omega arith in
             let past : (i == length ls) ≡ false = ne_eqb i (length ls) (λ h. other (omega arith)) in
-            ap (λ (o : Option (List ℕ)). option_map_or (λ x. line_fault (types_of ls) (before_of (take i ls)) (bytes_of (take (i + 1) ls)) (line_of x)) o (cond (i == length ls) (end_fault (before_of ls) (rest_of text)) None)) (get_end ls i le)
+            ap (λ (o : Option (List ℕ)). option_map_or
+            (λ x. line_fault (types_of ls) (before_of (take i ls)) (bytes_of (take (i + 1) ls)) (line_of x)) o
+            (cond (i == length ls) (end_fault (before_of ls) (rest_of text)) None)) (get_end ls i le)
             ∙ ap (λ (b : Bool). cond b (end_fault (before_of ls) (rest_of text)) None) past
       ]
     ]
 
-pub blamed : (text rest : List ℕ) (number : ℕ) (r : Reader) (e : TableFault) (stands : Option TableReason) → LinesSoFar text rest number r → fault_at text (number - 1) ≡ stands → Blames e number stands → IsJudgedOf text e
+pub blamed : (text rest : List ℕ) (number : ℕ) (r : Reader) (e : TableFault) (stands : Option TableReason)
+    → LinesSoFar text rest number r → fault_at text (number - 1) ≡ stands → Blames e number stands → IsJudgedOf text e
 blamed text rest number r (fault.At line reason) stands s here h =
     let is = h.0 in
     let some = s.some in
@@ -132,7 +146,9 @@ blamed text rest number r (fault.At line reason) stands s here h =
 blamed text rest number r fault.Memory stands s here h = tt
 
 -- the table of a text without a fault
-pub table_made : (text rest : List ℕ) (number : ℕ) (r : Reader) (result : Result Table TableFault) → pieces_of rest ≡ rest ∷ [] → LinesSoFar text rest number r → OnOk result (end_fault (before r.draft) rest ≡ None)
+pub table_made : (text rest : List ℕ) (number : ℕ) (r : Reader) (result : Result Table TableFault)
+    → pieces_of rest ≡ rest ∷ [] → LinesSoFar text rest number r
+    → OnOk result (end_fault (before r.draft) rest ≡ None)
     → IfOk result (λ t. t ≡ table_of r.draft) → IfOk result (λ t. t ≡ table_in (whole_lines text))
 table_made text rest number r (Ok t) e s none is =
     let ls = whole_lines text in

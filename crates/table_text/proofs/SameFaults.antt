@@ -1,5 +1,7 @@
 -- The first fault by what the lines say is the first one that is judged.
-use Rattle.std.proofs.Common.{◌≡◌, ◌≢◌, ℕ, zero, suc, ◌+◌, ◌-◌, ◌<◌, ◌≤◌, ◌==◌, ◌||◌, not, Bool, true, false, cond, List, [], ◌∷◌, ◌++◌, length, take, drop, Option, Some, None, refl, ap, sym, subst, ◌∙◌, arith, inl, inr}
+use Rattle.std.proofs.Common.{◌≡◌, ◌≢◌, ℕ, zero, suc, ◌+◌, ◌-◌, ◌<◌, ◌≤◌, ◌==◌, ◌||◌, not, Bool, true, false, cond}
+use Rattle.std.proofs.Common.{List, [], ◌∷◌, ◌++◌, length, take, drop, Option, Some, None, refl, ap, sym, subst, ◌∙◌}
+use Rattle.std.proofs.Common.{arith, inl, inr}
 use Rattle.std.specs.Prelude.{slice_get, nat_lt}
 use Rattle.std.specs.List.{Contains}
 use Rattle.std.proofs.lemmas.Bool.{cases_lt, eq-eqb, lt-ltb}
@@ -8,7 +10,9 @@ use Rattle.std.proofs.lemmas.Option.{slice_get_within}
 use Rattle.mrpc_table.specs.Lines.{whole_lines, rest_of}
 use Rattle.table_text.specs.Faults.{IsFirstFault, IsFaultOf, IsAgainst, at_line, too_long, at_end, OffendsAtEnd, unended, last_without_value, last_without_zero, no_form, order_of, bytes_of}
 use Rattle.table_text.specs.Forms.{Form, enum, value, message, field, method, Says, Say}
-use Rattle.table_text.specs.Judged.{Types, Before, IsFirstJudged, IsJudgedOf, after, after_line, before_of, types_of, line_fault, end_fault, fault_at, lacks_value, lacks_zero, is_empty, has_short_names, is_full}
+use Rattle.table_text.specs.Judged.{Types, Before, IsFirstJudged, IsJudgedOf, after, after_line, before_of, types_of}
+use Rattle.table_text.specs.Judged.{line_fault, end_fault, fault_at, lacks_value, lacks_zero, is_empty}
+use Rattle.table_text.specs.Judged.{has_short_names, is_full}
 use Rattle.table_text.specs.Lines.{line_of}
 use Rattle.table_text.specs.declared.fault.TableReason.{TableReason}
 use Rattle.table_text.specs.declared.fault.TableReason.TheVariants.{Syntax, Number, Duplicate, UnknownType, MapKey, Limit}
@@ -72,7 +76,8 @@ here_clean : (text : List ℕ) (k : ℕ) (l : List ℕ) (more : List (List ℕ))
     → line_fault (types_of (whole_lines text)) (before_of (take k (whole_lines text))) (bytes_of (take k (whole_lines text)) + length l + 1) (line_of l) ≡ None
 here_clean text k l more clean e = sym (here_is (whole_lines text) (rest_of text) k l more e) ∙ clean k (omega arith)
 
-fits_to : (text : List ℕ) (k : ℕ) → k ≤ length (whole_lines text) → IsCleanTo text k → (fs : List Form) → Say (take k (whole_lines text)) fs → Fits fs (before_of (take k (whole_lines text)))
+fits_to : (text : List ℕ) (k : ℕ) → k ≤ length (whole_lines text) → IsCleanTo text k → (fs : List Form)
+    → Say (take k (whole_lines text)) fs → Fits fs (before_of (take k (whole_lines text)))
 fits_to text zero within clean [] said = record {
   enums = refl;
   messages = refl;
@@ -114,7 +119,9 @@ said_to text (suc k) within clean =
     let none = here_clean text k at.0 at.1 clean at.2 in
     subst SaidTo (sym whole) (push (take k ls) at.0 before (types_of ls) (before_of (take k ls)) (bytes_of (take k ls) + length at.0 + 1) (line_of at.0) refl none)
   where
-    push : (lines : List (List ℕ)) (line : List ℕ) → SaidTo lines → (t : Types) (b : Before) (bytes : ℕ) (o : Option Line) → line_of line ≡ o → line_fault t b bytes o ≡ None → SaidTo (lines ++ line ∷ [])
+    push : (lines : List (List ℕ)) (line : List ℕ) → SaidTo lines
+        → (t : Types) (b : Before) (bytes : ℕ) (o : Option Line) → line_of line ≡ o → line_fault t b bytes o ≡ None
+        → SaidTo (lines ++ line ∷ [])
     push lines line before t b bytes None e none = absurd cc
     push lines line before t b bytes (Some l) e none =
         let said = line_said line l e in
@@ -127,7 +134,9 @@ bytes_to ls k l more e =
     let next : k + 1 ≡ suc k = omega arith in
     ap (λ (n : ℕ). bytes_of (take n ls)) next ∙ ap bytes_of (take_drop ls k l more e) ∙ bytes_push (take k ls) l
 
-line_stands : (text : List ℕ) (k : ℕ) (l : List ℕ) (more : List (List ℕ)) (q : TableReason) → k ≤ length (whole_lines text) → IsCleanTo text k → drop k (whole_lines text) ≡ l ∷ more → (o : Option Line) → line_of l ≡ o
+line_stands : (text : List ℕ) (k : ℕ) (l : List ℕ) (more : List (List ℕ)) (q : TableReason)
+    → k ≤ length (whole_lines text) → IsCleanTo text k → drop k (whole_lines text) ≡ l ∷ more → (o : Option Line)
+    → line_of l ≡ o
     → line_fault (types_of (whole_lines text)) (before_of (take k (whole_lines text))) (bytes_of (take k (whole_lines text)) + length l + 1) o ≡ Some q → IsAgainst text k q
 line_stands text k l more q within clean at None read e =
     let ls = whole_lines text in
@@ -158,7 +167,8 @@ end_here text =
 all_taken : (text : List ℕ) → take (length (whole_lines text)) (whole_lines text) ≡ whole_lines text
 all_taken text = take_all (length (whole_lines text)) (whole_lines text) (omega arith)
 
-end_stands : (text : List ℕ) (q : TableReason) → IsCleanTo text (length (whole_lines text)) → fault_at text (length (whole_lines text)) ≡ Some q → IsAgainst text (length (whole_lines text)) q
+end_stands : (text : List ℕ) (q : TableReason) → IsCleanTo text (length (whole_lines text))
+    → fault_at text (length (whole_lines text)) ≡ Some q → IsAgainst text (length (whole_lines text)) q
 end_stands text q clean e =
     let ls = whole_lines text in
     let b = before_of ls in
@@ -197,7 +207,8 @@ found_against text k q clean e =
 -- ---- where a reason stands, one is found
 
 line_found : (text : List ℕ) (k : ℕ) (l : List ℕ) (q : TableReason) → slice_get (whole_lines text) k ≡ Some l
-    → AtMost (line_fault (types_of (whole_lines text)) (before_of (take k (whole_lines text))) (bytes_of (take k (whole_lines text)) + length l + 1) (line_of l)) q → AtMost (fault_at text k) q
+    → AtMost (line_fault (types_of (whole_lines text)) (before_of (take k (whole_lines text)))
+    (bytes_of (take k (whole_lines text)) + length l + 1) (line_of l)) q → AtMost (fault_at text k) q
 line_found text k l q get h =
     let ls = whole_lines text in
     let at = some_line text k (slice_get_within ls k l get) in
@@ -272,10 +283,13 @@ none_found text (suc n) none =
     let before = none_found text n (λ i q less. none i q (omega (arith, less))) in
     λ i less. elim (cases_lt i n) [
       | inl front ↦ before i front
-      | inr from ↦ let same : n ≡ i = omega (arith, less, from) in subst (λ (k : ℕ). fault_at text k ≡ None) same (here text n before (λ q. none n q (omega arith)) (fault_at text n) refl)
+      | inr from ↦ let same : n ≡ i = omega (arith, less, from) in
+          subst (λ (k : ℕ). fault_at text k ≡ None) same
+          (here text n before (λ q. none n q (omega arith)) (fault_at text n) refl)
     ]
   where
-    here : (text : List ℕ) (n : ℕ) → IsCleanTo text n → ((q : TableReason) → IsAgainst text n q → ⊥) → (o : Option TableReason) → fault_at text n ≡ o → fault_at text n ≡ None
+    here : (text : List ℕ) (n : ℕ) → IsCleanTo text n → ((q : TableReason) → IsAgainst text n q → ⊥)
+        → (o : Option TableReason) → fault_at text n ≡ o → fault_at text n ≡ None
     here text n clean none None e = e
     here text n clean none (Some q) e = absurd (none q (found_against text n q clean e))
 
@@ -287,7 +301,9 @@ judged_first text line q h =
     let clean = none_found text (line - 1) (λ i p less. h.none_before i p (omega (arith, less))) in
     let found = against_found text (line - 1) q clean h.here in
     let stands = found_against text (line - 1) found.reason clean found.is in
-    let least : order_of q ≤ order_of found.reason = elim (cases_lt (order_of found.reason) (order_of q)) [ inl less ↦ absurd (h.first_reason found.reason less stands) | inr more ↦ more ] in
+    let least : order_of q ≤ order_of found.reason =
+    elim (cases_lt (order_of found.reason) (order_of q))
+    [ inl less ↦ absurd (h.first_reason found.reason less stands) | inr more ↦ more ] in
     let same : found.reason ≡ q = same_order found.reason q (omega (arith, least, found.le)) in
     record {
       counted = h.counted;

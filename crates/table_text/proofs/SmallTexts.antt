@@ -71,10 +71,12 @@ no_kind : fault_at (codes "message M\nfield 1 map:fload uint64 a\n") 1 ≡ Some 
 unfolding line_of
 no_kind = refl
 
-used : used_in (codes "message M" ∷ codes "field 1 map:enum:E message:B a" ∷ codes "value" ∷ codes "method 0 S Get M N" ∷ []) ≡ codes "E" ∷ codes "B" ∷ codes "M" ∷ codes "N" ∷ []
+used : used_in (codes "message M" ∷ codes "field 1 map:enum:E message:B a" ∷ codes "value"
+    ∷ codes "method 0 S Get M N" ∷ []) ≡ codes "E" ∷ codes "B" ∷ codes "M" ∷ codes "N" ∷ []
 unfolding line_of
 used = refl
 
-near : types_near (codes "message M" ∷ codes "field 1 plain message:B a" ∷ []) (codes "message A" ∷ codes "message B" ∷ codes "enum B" ∷ codes "enum M" ∷ []) ≡ record { enums = codes "B" ∷ []; messages = codes "M" ∷ codes "B" ∷ [] }
+near : types_near (codes "message M" ∷ codes "field 1 plain message:B a" ∷ []) (codes "message A" ∷ codes "message B"
+    ∷ codes "enum B" ∷ codes "enum M" ∷ []) ≡ record { enums = codes "B" ∷ []; messages = codes "M" ∷ codes "B" ∷ [] }
 unfolding line_of
 near = refl

@@ -1,5 +1,7 @@
 -- A draft to which no line at fault was added is valid as far as it goes.
-use Rattle.std.proofs.Common.{◌≡◌, ℕ, ℤ, pos, ◌+◌, ◌<◌, ◌≤◌, ◌==◌, ◌||◌, ◌&&◌, not, Bool, true, false, cond, List, [], ◌∷◌, ◌++◌, length, map, get_or, Option, Some, None, refl, ap, sym, subst, ◌∙◌, append_assoc, arith, inl, inr, length-append}
+use Rattle.std.proofs.Common.{◌≡◌, ℕ, ℤ, pos, ◌+◌, ◌<◌, ◌≤◌, ◌==◌, ◌||◌, ◌&&◌, not, Bool, true, false, cond, List, []}
+use Rattle.std.proofs.Common.{◌∷◌, ◌++◌, length, map, get_or, Option, Some, None, refl, ap, sym, subst, ◌∙◌}
+use Rattle.std.proofs.Common.{append_assoc, arith, inl, inr, length-append}
 use Rattle.std.specs.Prelude.{nat_le, nat_lt, IsTrue, FitsSigned}
 use Rattle.std.specs.Int.{w32}
 use Rattle.std.specs.List.{All, Contains, list_any, AllByRecursion}
@@ -16,11 +18,20 @@ use Rattle.mrpc_table.specs.Valid.{Ascends, AreDistinct, IsBelow, IsValueBelow, 
 use Rattle.table_text.specs.Judged as faults
 use Rattle.table_text.proofs.TableFacts.{follow_le}
 use Rattle.table_text.proofs.TableFacts.{both_left, both_right}
-use Rattle.table_text.specs.Judged.{fields, method_key, field_falls, is_field_below, repeats_number, is_field_before, open_count, Types, Before, is_among, is_empty, is_value_below, falls, last_of, lacks_value, lacks_zero, is_within, has_field_number, is_index, clashes, is_message_word, is_numeric_word, is_key_word, is_unknown_kind, is_unknown_label, is_map_key_label, is_short_kind, is_short_label}
+use Rattle.table_text.specs.Judged.{fields, method_key, field_falls, is_field_below, repeats_number, is_field_before}
+use Rattle.table_text.specs.Judged.{open_count, Types, Before, is_among, is_empty, is_value_below, falls, last_of}
+use Rattle.table_text.specs.Judged.{lacks_value, lacks_zero, is_within, has_field_number, is_index, clashes}
+use Rattle.table_text.specs.Judged.{is_message_word, is_numeric_word, is_key_word, is_unknown_kind, is_unknown_label}
+use Rattle.table_text.specs.Judged.{is_map_key_label, is_short_kind, is_short_label}
 use Rattle.table_text.specs.Places.{place}
-use Rattle.table_text.specs.Drafts.{open_part, enum_names, message_names, method_names, before, resolved, labeled, new_oneof, joined_with, field_of, method_of, with_enum, with_message, with_field, with_part, added_enum, added_message, added_method}
+use Rattle.table_text.specs.Drafts.{open_part, enum_names, message_names, method_names, before, resolved, labeled}
+use Rattle.table_text.specs.Drafts.{new_oneof, joined_with, field_of, method_of, with_enum, with_message, with_field}
+use Rattle.table_text.specs.Drafts.{with_part, added_enum, added_message, added_method}
 use Rattle.mrpc_table.specs.declared.table.Kind.{Kind}
-use Rattle.mrpc_table.specs.declared.table.Kind.TheVariants.{Int32, Int64, Uint32, Uint64, Sint32, Sint64, Bool as TheBool, Fixed32, Fixed64, Sfixed32, Sfixed64, Float, Double, Text, Octets, Message as OfMessage, Choice}
+use Rattle.mrpc_table.specs.declared.table.Kind.TheVariants.{Int32, Int64, Uint32, Uint64, Sint32, Sint64}
+use Rattle.mrpc_table.specs.declared.table.Kind.TheVariants.{Bool as TheBool, Fixed32, Fixed64, Sfixed32, Sfixed64}
+use Rattle.mrpc_table.specs.declared.table.Kind.TheVariants.{Float, Double, Text, Octets, Message as OfMessage}
+use Rattle.mrpc_table.specs.declared.table.Kind.TheVariants.{Choice}
 use Rattle.mrpc_table.specs.declared.table.Label.{Label}
 use Rattle.mrpc_table.specs.declared.table.Label.TheVariants.{Plain, Optional, Repeated, Packed, Map, Member}
 use Rattle.mrpc_table.specs.declared.table.Field.{Field as TheField}
@@ -96,7 +107,8 @@ zero_contained (v ∷ vs) e =
     ] refl e
 
 -- the open part as a whole one
-pub whole_enums : (t : Types) (o : Open) (es : List Choices) → IsPart t o → lacks_value (open_part o) ≡ false → lacks_zero (open_part o) ≡ false → All IsEnum es → All IsEnum (with_enum o es)
+pub whole_enums : (t : Types) (o : Open) (es : List Choices) → IsPart t o → lacks_value (open_part o) ≡ false
+    → lacks_zero (open_part o) ≡ false → All IsEnum es → All IsEnum (with_enum o es)
 whole_enums t (open_parts.Enum c) es part some zero_in all =
     All-push IsEnum es c all (record {
       name = part.name;
@@ -130,7 +142,13 @@ distinct_enum es ms n none d new =
 
 distinct_message : (es ms : List (List ℕ)) (n : List ℕ) → AreDistinct (es ++ ms) → is_among n es ≡ false → is_among n ms ≡ false → AreDistinct (es ++ (ms ++ n ∷ []))
 distinct_message es ms n d new_enum new_message =
-    subst AreDistinct (append_assoc es ms (n ∷ [])) (distinct_push (es ++ ms) n d (λ h. elim (Contains-append_cases es ms n h) [ inl a ↦ not_among n es new_enum a | inr b ↦ not_among n ms new_message b ]))
+    subst AreDistinct (append_assoc es ms (n ∷ []))
+    (distinct_push (es ++ ms) n d
+    (λ h. elim (Contains-append_cases es ms n h) [
+      | inl a ↦ not_among n es new_enum a
+      | inr b ↦ not_among n ms
+          new_message b
+    ]))
 
 pub sound_enum : (t : Types) (d : Draft) (bytes : ℕ) (n : List ℕ) → IsSound t d → IsTrue (is_full_form n) → IsClean t (before d) bytes (Enum n) → IsSound t (added_enum d n)
 sound_enum t d bytes n s form h =
@@ -144,8 +162,11 @@ sound_enum t d bytes n s form h =
     let no_messages : message_names d ≡ [] = empty_is (message_names d) (right_no (lacks_value (open_part o)) (not (is_empty (message_names d))) parts) in
     let some = left_no (lacks_value (open_part o)) (not (is_empty (message_names d))) parts in
     let new_enum = left_no (is_among n (enum_names d)) (is_among n (message_names d)) h.duplicate in
-    let short = not_no (is_short_full n) (left_no (not (is_short_full n)) (nat_le 256 (length (enum_names d))) (left_no (not (is_short_full n) || nat_le 256 (length (enum_names d))) (nat_lt 65536 bytes) h.limit)) in
-    let few = not_le 256 (length (enum_names d)) (right_no (not (is_short_full n)) (nat_le 256 (length (enum_names d))) (left_no (not (is_short_full n) || nat_le 256 (length (enum_names d))) (nat_lt 65536 bytes) h.limit)) in
+    let short = not_no (is_short_full n) (left_no (not (is_short_full n)) (nat_le 256 (length (enum_names d)))
+    (left_no (not (is_short_full n) || nat_le 256 (length (enum_names d))) (nat_lt 65536 bytes) h.limit)) in
+    let few = not_le 256 (length (enum_names d))
+    (right_no (not (is_short_full n)) (nat_le 256 (length (enum_names d)))
+    (left_no (not (is_short_full n) || nat_le 256 (length (enum_names d))) (nat_lt 65536 bytes) h.limit)) in
     let names : map (λ e. e.name) es ++ n ∷ [] ≡ enum_names d ++ n ∷ [] = ap (λ (xs : List (List ℕ)). xs ++ n ∷ []) (closed_enums o d.enums) in
     let messages : map (λ m. m.name) ms ++ [] ≡ message_names d = append-nil (map (λ m. m.name) ms) ∙ closed_messages o d.messages in
     let none_whole : ms ≡ [] = no_names (λ m. m.name) ms (closed_messages o d.messages ∙ no_messages) in
@@ -153,7 +174,10 @@ sound_enum t d bytes n s form h =
     record {
       enums_up = subst (Ascends IsBelow) (sym names) (ascends_push IsBelow (enum_names d) n s.enums_up (falls_not n (enum_names d) falls_none new_enum));
       messages_up = subst (Ascends IsBelow) (sym messages) s.messages_up;
-      distinct = subst AreDistinct (sym (ap (λ (xs : List (List ℕ)). xs ++ (map (λ m. m.name) ms ++ [])) names ∙ ap (λ (xs : List (List ℕ)). (enum_names d ++ n ∷ []) ++ xs) messages)) (distinct_enum (enum_names d) (message_names d) n no_messages s.distinct new_enum);
+      distinct = subst AreDistinct
+          (sym (ap (λ (xs : List (List ℕ)). xs ++ (map (λ m. m.name) ms ++ [])) names
+          ∙ ap (λ (xs : List (List ℕ)). (enum_names d ++ n ∷ []) ++ xs) messages))
+          (distinct_enum (enum_names d) (message_names d) n no_messages s.distinct new_enum);
       methods_distinct = s.methods_distinct;
       few_enums = omega (arith, ap length names, length_push (enum_names d) n, few);
       few_messages = omega (arith, ap length messages, s.few_messages);
@@ -161,11 +185,19 @@ sound_enum t d bytes n s form h =
       enums = whole_enums t o d.enums s.part some h.number s.enums;
       messages = whole_messages t o d.messages s.part s.messages;
       methods = s.methods;
-      part = record { name = record { form = form; short = short }; few = omega arith; numbers = λ k x lt. absurd (omega arith); each_name = λ k x lt. absurd (omega arith); ascend = tt; names = tt };
+      part = record {
+        name = record { form = form; short = short };
+        few = omega arith;
+        numbers = λ k x lt. absurd (omega arith);
+        each_name = λ k x lt. absurd (omega arith);
+        ascend = tt;
+        names = tt;
+      };
       ordered = (none_whole, none_methods);
     }
 
-pub sound_message : (t : Types) (d : Draft) (bytes : ℕ) (n : List ℕ) → IsSound t d → IsTrue (is_full_form n) → IsClean t (before d) bytes (Message n) → IsSound t (added_message d n)
+pub sound_message : (t : Types) (d : Draft) (bytes : ℕ) (n : List ℕ) → IsSound t d → IsTrue (is_full_form n)
+    → IsClean t (before d) bytes (Message n) → IsSound t (added_message d n)
 sound_message t d bytes n s form h =
     let o = d.open_part in
     let es = with_enum o d.enums in
@@ -176,15 +208,21 @@ sound_message t d bytes n s form h =
     let some = left_no (lacks_value (open_part o)) (not (is_empty (method_names d))) front in
     let new_enum = left_no (is_among n (enum_names d)) (is_among n (message_names d)) h.duplicate in
     let new_message = right_no (is_among n (enum_names d)) (is_among n (message_names d)) h.duplicate in
-    let short = not_no (is_short_full n) (left_no (not (is_short_full n)) (nat_le 256 (length (message_names d))) (left_no (not (is_short_full n) || nat_le 256 (length (message_names d))) (nat_lt 65536 bytes) h.limit)) in
-    let few = not_le 256 (length (message_names d)) (right_no (not (is_short_full n)) (nat_le 256 (length (message_names d))) (left_no (not (is_short_full n) || nat_le 256 (length (message_names d))) (nat_lt 65536 bytes) h.limit)) in
+    let short = not_no (is_short_full n) (left_no (not (is_short_full n)) (nat_le 256 (length (message_names d)))
+    (left_no (not (is_short_full n) || nat_le 256 (length (message_names d))) (nat_lt 65536 bytes) h.limit)) in
+    let few = not_le 256 (length (message_names d))
+    (right_no (not (is_short_full n)) (nat_le 256 (length (message_names d)))
+    (left_no (not (is_short_full n) || nat_le 256 (length (message_names d))) (nat_lt 65536 bytes) h.limit)) in
     let enums : map (λ e. e.name) es ++ [] ≡ enum_names d = append-nil (map (λ e. e.name) es) ∙ closed_enums o d.enums in
     let names : map (λ m. m.name) ms ++ n ∷ [] ≡ message_names d ++ n ∷ [] = ap (λ (xs : List (List ℕ)). xs ++ n ∷ []) (closed_messages o d.messages) in
     let none_methods : d.methods ≡ [] = no_names (λ m. m.service ++ 32 ∷ m.name) d.methods no_methods in
     record {
       enums_up = subst (Ascends IsBelow) (sym enums) s.enums_up;
       messages_up = subst (Ascends IsBelow) (sym names) (ascends_push IsBelow (message_names d) n s.messages_up (falls_not n (message_names d) falls_none new_message));
-      distinct = subst AreDistinct (sym (ap (λ (xs : List (List ℕ)). xs ++ (map (λ m. m.name) ms ++ n ∷ [])) enums ∙ ap (λ (xs : List (List ℕ)). enum_names d ++ xs) names)) (distinct_message (enum_names d) (message_names d) n s.distinct new_enum new_message);
+      distinct = subst AreDistinct
+          (sym (ap (λ (xs : List (List ℕ)). xs ++ (map (λ m. m.name) ms ++ n ∷ [])) enums
+          ∙ ap (λ (xs : List (List ℕ)). enum_names d ++ xs) names))
+          (distinct_message (enum_names d) (message_names d) n s.distinct new_enum new_message);
       methods_distinct = s.methods_distinct;
       few_enums = omega (arith, ap length enums, s.few_enums);
       few_messages = omega (arith, ap length names, length_push (message_names d) n, few);
@@ -192,24 +230,42 @@ sound_message t d bytes n s form h =
       enums = whole_enums t o d.enums s.part some h.number s.enums;
       messages = whole_messages t o d.messages s.part s.messages;
       methods = s.methods;
-      part = record { name = record { form = form; short = short }; few = omega arith; fields = λ k x lt. absurd (omega arith); ascend = tt; names = tt; oneofs = λ k x lt. absurd (omega arith); oneof_names = tt; oneof_order = refl };
+      part = record {
+        name = record { form = form; short = short };
+        few = omega arith;
+        fields = λ k x lt. absurd (omega arith);
+        ascend = tt;
+        names = tt;
+        oneofs = λ k x lt. absurd (omega arith);
+        oneof_names = tt;
+        oneof_order = refl;
+      };
       ordered = none_methods;
     }
 
 at_last : {X : Type 0} (p : X → Bool) (xs : List X) (x : X) → option_map_or p (last_of xs) false ≡ false → last_of xs ≡ Some x → p x ≡ false
 at_last {X = X} p xs x e last = ap (λ (o : Option X). option_map_or p o false) (sym last) ∙ e
 
-grown : (c : Choices) (z : ℤ) (n : List ℕ) → IsGrowing c → FitsSigned w32 z → IsName n → length c.values < 1024 → option_map_or (is_value_below (Within z) n) (last_of c.values) false ≡ false → is_among n (map (λ v. v.1) c.values) ≡ false → IsGrowing (record { name = c.name; values = c.values ++ (z, n) ∷ [] })
+grown : (c : Choices) (z : ℤ) (n : List ℕ) → IsGrowing c → FitsSigned w32 z → IsName n → length c.values < 1024
+    → option_map_or (is_value_below (Within z) n) (last_of c.values) false ≡ false
+    → is_among n (map (λ v. v.1) c.values) ≡ false
+    → IsGrowing (record { name = c.name; values = c.values ++ (z, n) ∷ [] })
 grown c z n g fits name few up new = record {
   name = g.name;
   few = omega (arith, length_push c.values (z, n));
   numbers = All-push (λ (v : ℤ × List ℕ). FitsSigned w32 v.0) c.values (z, n) g.numbers fits;
   each_name = All-push (λ (v : ℤ × List ℕ). IsName v.1) c.values (z, n) g.each_name name;
-  ascend = ascends_push IsValueBelow c.values (z, n) g.ascend (λ last e. value_not_below z n last (at_last (is_value_below (Within z) n) c.values last up e) (other_name n (map (λ v. v.1) c.values) last.1 new (last-map (λ (v : ℤ × List ℕ). v.1) c.values ∙ ap (option_map (λ (v : ℤ × List ℕ). v.1)) e)));
-  names = subst AreDistinct (sym (map_push (λ (v : ℤ × List ℕ). v.1) c.values (z, n))) (distinct_push (map (λ v. v.1) c.values) n g.names (not_among n (map (λ v. v.1) c.values) new));
+  ascend = ascends_push IsValueBelow c.values (z, n) g.ascend
+      (λ last e. value_not_below z n last (at_last (is_value_below (Within z) n) c.values last up e)
+      (other_name n (map (λ v. v.1) c.values) last.1 new (last-map (λ (v : ℤ × List ℕ). v.1) c.values
+      ∙ ap (option_map (λ (v : ℤ × List ℕ). v.1)) e)));
+  names = subst AreDistinct (sym (map_push (λ (v : ℤ × List ℕ). v.1) c.values (z, n)))
+      (distinct_push (map (λ v. v.1) c.values) n g.names (not_among n (map (λ v. v.1) c.values) new));
 }
 
-pub sound_value : (t : Types) (d : Draft) (c : Choices) (bytes : ℕ) (z : ℤ) (n : List ℕ) → IsSound t (with_part d (open_parts.Enum c)) → FitsSigned w32 z → IsTrue (is_name_form n) → IsClean t (before (with_part d (open_parts.Enum c))) bytes (Value (Within z) n)
+pub sound_value : (t : Types) (d : Draft) (c : Choices) (bytes : ℕ) (z : ℤ) (n : List ℕ)
+    → IsSound t (with_part d (open_parts.Enum c)) → FitsSigned w32 z → IsTrue (is_name_form n)
+    → IsClean t (before (with_part d (open_parts.Enum c))) bytes (Value (Within z) n)
     → IsSound t (with_part d (open_parts.Enum (record { name = c.name; values = c.values ++ (z, n) ∷ [] })))
 sound_value t d c bytes z n s fits form h = record {
   enums_up = s.enums_up;
@@ -225,7 +281,9 @@ sound_value t d c bytes z n s fits form h = record {
   part =
       let front = left_no (not (is_short n) || nat_le 1024 (length c.values)) (nat_lt 65536 bytes) h.limit in
       let short = not_no (is_short n) (left_no (not (is_short n)) (nat_le 1024 (length c.values)) front) in
-      grown c z n s.part fits (record { form = form; short = leb-true (length n) 64 short }) (not_le 1024 (length c.values) (right_no (not (is_short n)) (nat_le 1024 (length c.values)) front)) h.syntax h.duplicate;
+      grown c z n s.part fits (record { form = form; short = leb-true (length n) 64 short })
+      (not_le 1024 (length c.values) (right_no (not (is_short n)) (nat_le 1024 (length c.values)) front)) h.syntax
+      h.duplicate;
   ordered = s.ordered;
 }
 
@@ -241,11 +299,17 @@ joins_map met (Member o) A B C D f g h = elim h [ inl old ↦ inl (old.0, f old.
 
 follow_same : (met all : ℕ) (fs : List TheField) (f : TheField) → Joins all f.label (all ≡ all) (all + 1 ≡ all) → OneofsFollow met all fs → OneofsFollow met all (fs ++ f ∷ [])
 follow_same met all [] f last h = subst (λ (k : ℕ). Joins k f.label (k ≡ all) (k + 1 ≡ all)) (sym h) last
-follow_same met all (g ∷ gs) f last h = joins_map met g.label (OneofsFollow met all gs) (OneofsFollow (met + 1) all gs) (OneofsFollow met all (gs ++ f ∷ [])) (OneofsFollow (met + 1) all (gs ++ f ∷ [])) (follow_same met all gs f last) (follow_same (met + 1) all gs f last) h
+follow_same met all (g ∷ gs) f last h =
+    joins_map met g.label (OneofsFollow met all gs) (OneofsFollow (met + 1) all gs)
+    (OneofsFollow met all (gs ++ f ∷ [])) (OneofsFollow (met + 1) all (gs ++ f ∷ [])) (follow_same met all gs f last)
+    (follow_same (met + 1) all gs f last) h
 
-follow_new : (met all : ℕ) (fs : List TheField) (f : TheField) → Joins all f.label (all ≡ all + 1) (all + 1 ≡ all + 1) → OneofsFollow met all fs → OneofsFollow met (all + 1) (fs ++ f ∷ [])
+follow_new : (met all : ℕ) (fs : List TheField) (f : TheField) → Joins all f.label (all ≡ all + 1) (all + 1 ≡ all + 1)
+    → OneofsFollow met all fs → OneofsFollow met (all + 1) (fs ++ f ∷ [])
 follow_new met all [] f last h = subst (λ (k : ℕ). Joins k f.label (k ≡ all + 1) (k + 1 ≡ all + 1)) (sym h) last
-follow_new met all (g ∷ gs) f last h = joins_map met g.label (OneofsFollow met all gs) (OneofsFollow (met + 1) all gs) (OneofsFollow met (all + 1) (gs ++ f ∷ [])) (OneofsFollow (met + 1) (all + 1) (gs ++ f ∷ [])) (follow_new met all gs f last) (follow_new (met + 1) all gs f last) h
+follow_new met all (g ∷ gs) f last h = joins_map met g.label (OneofsFollow met all gs) (OneofsFollow (met + 1) all gs)
+    (OneofsFollow met (all + 1) (gs ++ f ∷ [])) (OneofsFollow (met + 1) (all + 1) (gs ++ f ∷ []))
+    (follow_new met all gs f last) (follow_new (met + 1) all gs f last) h
 
 record OneofsGrown (oneofs more : List (List ℕ)) (fs : List TheField) : Type 0 where
   names : All IsName more
@@ -253,25 +317,76 @@ record OneofsGrown (oneofs more : List (List ℕ)) (fs : List TheField) : Type 0
   follow : OneofsFollow 0 (length more) fs
   longer : length oneofs ≤ length more
 
-oneofs_grown : (t : Types) (oneofs : List (List ℕ)) (fs : List TheField) (f : TheField) (l : LabelWord) (w : List ℕ) → f.label ≡ labeled t oneofs l → length oneofs ≤ 128 → LabelIs w l → is_short_label l ≡ true
+oneofs_grown : (t : Types) (oneofs : List (List ℕ)) (fs : List TheField) (f : TheField) (l : LabelWord) (w : List ℕ)
+    → f.label ≡ labeled t oneofs l → length oneofs ≤ 128 → LabelIs w l → is_short_label l ≡ true
     → All IsName oneofs → AreDistinct oneofs → OneofsFollow 0 (length oneofs) fs → OneofsGrown oneofs (joined_with oneofs (new_oneof oneofs l)) (fs ++ f ∷ [])
-oneofs_grown t oneofs fs f labels.Plain w is few h short names distinct follow = record { names = names; distinct = distinct; follow = follow_same 0 (length oneofs) fs f (subst (λ (l : Label). Joins (length oneofs) l (length oneofs ≡ length oneofs) (length oneofs + 1 ≡ length oneofs)) (sym is) refl) follow; longer = omega arith }
-oneofs_grown t oneofs fs f labels.Optional w is few h short names distinct follow = record { names = names; distinct = distinct; follow = follow_same 0 (length oneofs) fs f (subst (λ (l : Label). Joins (length oneofs) l (length oneofs ≡ length oneofs) (length oneofs + 1 ≡ length oneofs)) (sym is) refl) follow; longer = omega arith }
-oneofs_grown t oneofs fs f labels.Repeated w is few h short names distinct follow = record { names = names; distinct = distinct; follow = follow_same 0 (length oneofs) fs f (subst (λ (l : Label). Joins (length oneofs) l (length oneofs ≡ length oneofs) (length oneofs + 1 ≡ length oneofs)) (sym is) refl) follow; longer = omega arith }
-oneofs_grown t oneofs fs f labels.Packed w is few h short names distinct follow = record { names = names; distinct = distinct; follow = follow_same 0 (length oneofs) fs f (subst (λ (l : Label). Joins (length oneofs) l (length oneofs ≡ length oneofs) (length oneofs + 1 ≡ length oneofs)) (sym is) refl) follow; longer = omega arith }
-oneofs_grown t oneofs fs f (labels.Map k) w is few h short names distinct follow = record { names = names; distinct = distinct; follow = follow_same 0 (length oneofs) fs f (subst (λ (l : Label). Joins (length oneofs) l (length oneofs ≡ length oneofs) (length oneofs + 1 ≡ length oneofs)) (sym is) refl) follow; longer = omega arith }
+oneofs_grown t oneofs fs f labels.Plain w is few h short names distinct follow =
+    record {
+      names = names;
+      distinct = distinct;
+      follow = follow_same 0 (length oneofs) fs f
+          (subst (λ (l : Label). Joins (length oneofs) l (length oneofs ≡ length oneofs)
+          (length oneofs + 1 ≡ length oneofs)) (sym is) refl) follow;
+      longer = omega arith;
+    }
+oneofs_grown t oneofs fs f labels.Optional w is few h short names distinct follow =
+    record {
+      names = names;
+      distinct = distinct;
+      follow = follow_same 0 (length oneofs) fs f
+          (subst (λ (l : Label). Joins (length oneofs) l (length oneofs ≡ length oneofs)
+          (length oneofs + 1 ≡ length oneofs)) (sym is) refl) follow;
+      longer = omega arith;
+    }
+oneofs_grown t oneofs fs f labels.Repeated w is few h short names distinct follow =
+    record {
+      names = names;
+      distinct = distinct;
+      follow = follow_same 0 (length oneofs) fs f
+          (subst (λ (l : Label). Joins (length oneofs) l (length oneofs ≡ length oneofs)
+          (length oneofs + 1 ≡ length oneofs)) (sym is) refl) follow;
+      longer = omega arith;
+    }
+oneofs_grown t oneofs fs f labels.Packed w is few h short names distinct follow =
+    record {
+      names = names;
+      distinct = distinct;
+      follow = follow_same 0 (length oneofs) fs f
+          (subst (λ (l : Label). Joins (length oneofs) l (length oneofs ≡ length oneofs)
+          (length oneofs + 1 ≡ length oneofs)) (sym is) refl) follow;
+      longer = omega arith;
+    }
+oneofs_grown t oneofs fs f (labels.Map k) w is few h short names distinct follow =
+    record {
+      names = names;
+      distinct = distinct;
+      follow = follow_same 0 (length oneofs) fs f
+          (subst (λ (l : Label). Joins (length oneofs) l (length oneofs ≡ length oneofs)
+          (length oneofs + 1 ≡ length oneofs)) (sym is) refl) follow;
+      longer = omega arith;
+    }
 oneofs_grown t oneofs fs f (labels.Member n) w is few h short names distinct follow =
     elim (is_among n oneofs) as (λ (b : Bool). is_among n oneofs ≡ b → OneofsGrown oneofs (joined_with oneofs (cond b None (Some n))) (fs ++ f ∷ [])) [
       | true ↦ λ known.
           let p = place_known n oneofs (omega arith) known in
-          record { names = names; distinct = distinct; follow = follow_same 0 (length oneofs) fs f (subst (λ (l : Label). Joins (length oneofs) l (length oneofs ≡ length oneofs) (length oneofs + 1 ≡ length oneofs)) (sym is) (inl (p.0, refl))) follow; longer = omega arith }
+          record {
+            names = names;
+            distinct = distinct;
+            follow = follow_same 0 (length oneofs) fs f
+                (subst (λ (l : Label). Joins (length oneofs) l (length oneofs ≡ length oneofs)
+                (length oneofs + 1 ≡ length oneofs)) (sym is) (inl (p.0, refl))) follow;
+            longer = omega arith;
+          }
       | false ↦ λ new.
           let at : place n oneofs ≡ length oneofs = member_new n oneofs few new in
           let more : length (oneofs ++ n ∷ []) ≡ length oneofs + 1 = length_push oneofs n in
           record {
             names = All-push IsName oneofs n names (record { form = h.1; short = leb-true (length n) 64 short });
             distinct = distinct_push oneofs n distinct (not_among n oneofs new);
-            follow = subst (λ (k : ℕ). OneofsFollow 0 k (fs ++ f ∷ [])) (sym more) (follow_new 0 (length oneofs) fs f (subst (λ (l : Label). Joins (length oneofs) l (length oneofs ≡ length oneofs + 1) (length oneofs + 1 ≡ length oneofs + 1)) (sym is) (inr (at, refl))) follow);
+            follow = subst (λ (k : ℕ). OneofsFollow 0 k (fs ++ f ∷ [])) (sym more)
+                (follow_new 0 (length oneofs) fs f
+                (subst (λ (l : Label). Joins (length oneofs) l (length oneofs ≡ length oneofs + 1)
+                (length oneofs + 1 ≡ length oneofs + 1)) (sym is) (inr (at, refl))) follow);
             longer = omega (arith, more);
           }
     ] refl
@@ -337,7 +452,9 @@ key_goes t (kinds.Scalar k) e = e
 key_goes t (kinds.Message n) e = absurd cc
 key_goes t (kinds.Choice n) e = absurd cc
 
-label_goes : (t : Types) (oneofs : List (List ℕ)) (l : LabelWord) (k : KindWord) (kw : List ℕ) → length oneofs ≤ 128 → KindIs kw k → clashes l k ≡ false → is_map_key_label l ≡ false → GoesWith (length (joined_with oneofs (new_oneof oneofs l))) (labeled t oneofs l) (resolved t k)
+label_goes : (t : Types) (oneofs : List (List ℕ)) (l : LabelWord) (k : KindWord) (kw : List ℕ) → length oneofs ≤ 128
+    → KindIs kw k → clashes l k ≡ false → is_map_key_label l ≡ false
+    → GoesWith (length (joined_with oneofs (new_oneof oneofs l))) (labeled t oneofs l) (resolved t k)
 label_goes t oneofs labels.Plain k kw few h clash key = tt
 label_goes t oneofs labels.Optional k kw few h clash key = optional_goes t kw k h clash
 label_goes t oneofs labels.Repeated k kw few h clash key = tt
@@ -349,7 +466,8 @@ label_goes t oneofs (labels.Member n) k kw few h clash key =
       | false ↦ λ new. omega (arith, member_new n oneofs few new, length_push oneofs n)
     ] refl
 
-last_below : (fs : List TheField) (n : ℕ) (last : TheField) → field_falls (fields (map numbered fs)) (Some n) ≡ false → repeats_number (fields (map numbered fs)) (Some n) ≡ false → last_of fs ≡ Some last → last.number < n
+last_below : (fs : List TheField) (n : ℕ) (last : TheField) → field_falls (fields (map numbered fs)) (Some n) ≡ false
+    → repeats_number (fields (map numbered fs)) (Some n) ≡ false → last_of fs ≡ Some last → last.number < n
 last_below fs n last falls repeats e =
     let at : last_of (map numbered fs) ≡ Some (numbered last) = last-map numbered fs ∙ ap (option_map numbered) e in
     let below : nat_lt n last.number ≡ false = at_last (is_field_below (Some n)) (map numbered fs) (numbered last) falls at in
@@ -397,28 +515,51 @@ fields_weaker N a b fs le all = λ k d within.
     record { number = f.number; name = f.name; label = goes_more a b (get_or fs k d).label (get_or fs k d).kind le f.label; kind = f.kind }
 
 pub placed_all : (N : Table) (m : TheMessage) → IsMessage N m → AllByRecursion (λ f. LabelPlaced (length m.oneofs) f.label) m.fields
-placed_all N m h = recursion_from_All (λ (f : TheField). LabelPlaced (length m.oneofs) f.label) m.fields (λ k d within. goes_placed (length m.oneofs) (get_or m.fields k d).label (get_or m.fields k d).kind (h.fields k d within).label)
+placed_all N m h = recursion_from_All (λ (f : TheField). LabelPlaced (length m.oneofs) f.label) m.fields
+    (λ k d within. goes_placed (length m.oneofs) (get_or m.fields k d).label (get_or m.fields k d).kind
+    (h.fields k d within).label)
 
 pub few_oneofs : (N : Table) (m : TheMessage) → IsMessage N m → length m.oneofs ≤ 128
 few_oneofs N m h = omega (arith, follow_le 0 (length m.oneofs) m.fields h.oneof_order, h.few)
 
-message_grown : (t : Types) (m : TheMessage) (n : ℕ) (f : FieldLine) (lw kw : List ℕ) (bytes : ℕ) (b : Before) → b.open_part ≡ open_part (open_parts.Message m) → IsSmall t → IsMessage (names_table t) m → f.number ≡ Some n → LabelIs lw f.label → KindIs kw f.kind → IsTrue (is_name_form f.name)
-    → IsClean t b bytes (Field f) → IsMessage (names_table t) (record { name = m.name; fields = m.fields ++ field_of t m.oneofs n f ∷ []; oneofs = joined_with m.oneofs (new_oneof m.oneofs f.label) })
+message_grown : (t : Types) (m : TheMessage) (n : ℕ) (f : FieldLine) (lw kw : List ℕ) (bytes : ℕ) (b : Before)
+    → b.open_part ≡ open_part (open_parts.Message m) → IsSmall t → IsMessage (names_table t) m → f.number ≡ Some n
+    → LabelIs lw f.label → KindIs kw f.kind → IsTrue (is_name_form f.name)
+    → IsClean t b bytes (Field f)
+    → IsMessage (names_table t) (record {
+      name = m.name;
+      fields = m.fields ++ field_of t m.oneofs n f ∷ [];
+      oneofs = joined_with m.oneofs (new_oneof m.oneofs f.label);
+    })
 message_grown t m n f lw kw bytes b part small ok number label kind form h =
     let N = names_table t in
     let g = field_of t m.oneofs n f in
     let here = map numbered m.fields in
     let few = few_oneofs N m ok in
     let clash = left_no (clashes f.label f.kind) (field_falls b.open_part f.number) h.syntax in
-    let falls : field_falls (fields here) (Some n) ≡ false = subst (λ (o : Option ℕ). field_falls (fields here) o ≡ false) number (subst (λ (p : faults.Open). field_falls p f.number ≡ false) part (right_no (clashes f.label f.kind) (field_falls b.open_part f.number) h.syntax)) in
-    let repeats : repeats_number (fields here) (Some n) ≡ false = subst (λ (o : Option ℕ). repeats_number (fields here) o ≡ false) number (subst (λ (p : faults.Open). repeats_number p f.number ≡ false) part (right_no (is_field_before b.open_part f.name) (repeats_number b.open_part f.number) h.duplicate)) in
-    let new : is_among f.name (map (λ f. f.name) m.fields) ≡ false = subst (λ (ns : List (List ℕ)). is_among f.name ns ≡ false) (names_numbered m.fields) (subst (λ (p : faults.Open). is_field_before p f.name ≡ false) part (left_no (is_field_before b.open_part f.name) (repeats_number b.open_part f.number) h.duplicate)) in
+    let falls : field_falls (fields here) (Some n) ≡ false =
+    subst (λ (o : Option ℕ). field_falls (fields here) o ≡ false) number
+    (subst (λ (p : faults.Open). field_falls p f.number ≡ false) part
+    (right_no (clashes f.label f.kind) (field_falls b.open_part f.number) h.syntax)) in
+    let repeats : repeats_number (fields here) (Some n) ≡ false =
+    subst (λ (o : Option ℕ). repeats_number (fields here) o ≡ false) number
+    (subst (λ (p : faults.Open). repeats_number p f.number ≡ false) part
+    (right_no (is_field_before b.open_part f.name) (repeats_number b.open_part f.number) h.duplicate)) in
+    let new : is_among f.name (map (λ f. f.name) m.fields) ≡ false =
+    subst (λ (ns : List (List ℕ)). is_among f.name ns ≡ false) (names_numbered m.fields)
+    (subst (λ (p : faults.Open). is_field_before p f.name ≡ false) part
+    (left_no (is_field_before b.open_part f.name) (repeats_number b.open_part f.number) h.duplicate)) in
     let in_range : has_field_number (Some n) ≡ true = subst (λ (o : Option ℕ). has_field_number o ≡ true) number (not_no (has_field_number f.number) h.number) in
     let limits = left_no (not ((is_short_label f.label && is_short_kind f.kind) && is_short f.name) || nat_le 128 (open_count b.open_part)) (nat_lt 65536 bytes) h.limit in
-    let shorts = not_no ((is_short_label f.label && is_short_kind f.kind) && is_short f.name) (left_no (not ((is_short_label f.label && is_short_kind f.kind) && is_short f.name)) (nat_le 128 (open_count b.open_part)) limits) in
+    let shorts = not_no ((is_short_label f.label && is_short_kind f.kind) && is_short f.name)
+    (left_no (not ((is_short_label f.label && is_short_kind f.kind) && is_short f.name))
+    (nat_le 128 (open_count b.open_part)) limits) in
     let short_label = both_left (is_short_label f.label) (is_short_kind f.kind) (both_left (is_short_label f.label && is_short_kind f.kind) (is_short f.name) shorts) in
     let short = both_right (is_short_label f.label && is_short_kind f.kind) (is_short f.name) shorts in
-    let room : length here < 128 = not_le 128 (length here) (subst (λ (p : faults.Open). nat_le 128 (open_count p) ≡ false) part (right_no (not ((is_short_label f.label && is_short_kind f.kind) && is_short f.name)) (nat_le 128 (open_count b.open_part)) limits)) in
+    let room : length here < 128 =
+    not_le 128 (length here) (subst (λ (p : faults.Open). nat_le 128 (open_count p) ≡ false) part
+    (right_no (not ((is_short_label f.label && is_short_kind f.kind) && is_short f.name))
+    (nat_le 128 (open_count b.open_part)) limits)) in
     let grow = oneofs_grown t m.oneofs m.fields g f.label lw refl few label short_label ok.oneofs ok.oneof_names ok.oneof_order in
     let unknown_label = left_no (is_unknown_label t f.label) (is_unknown_kind t f.kind) h.unknown in
     let unknown_kind = right_no (is_unknown_label t f.label) (is_unknown_kind t f.kind) h.unknown in
@@ -427,15 +568,24 @@ message_grown t m n f lw kw bytes b part small ok number label kind form h =
       few = omega (arith, length_push m.fields g, length-map m.fields numbered, room);
       fields = All-push (IsField N (length (joined_with m.oneofs (new_oneof m.oneofs f.label)))) m.fields g
           (fields_weaker N (length m.oneofs) (length (joined_with m.oneofs (new_oneof m.oneofs f.label))) m.fields grow.longer ok.fields)
-          (record { number = number_fits n in_range; name = record { form = form; short = leb-true (length f.name) 64 short }; label = label_goes t m.oneofs f.label f.kind kw few kind clash h.map_key; kind = kind_known t kw f.kind small kind unknown_kind });
+          (record {
+            number = number_fits n in_range;
+            name = record { form = form; short = leb-true (length f.name) 64 short };
+            label = label_goes t m.oneofs f.label f.kind kw few kind clash h.map_key;
+            kind = kind_known t kw f.kind small kind unknown_kind;
+          });
       ascend = ascends_push (λ (f g : TheField). f.number < g.number) m.fields g ok.ascend (λ last e. last_below m.fields n last falls repeats e);
-      names = subst AreDistinct (sym (map_push (λ (f : TheField). f.name) m.fields g)) (distinct_push (map (λ f. f.name) m.fields) f.name ok.names (not_among f.name (map (λ f. f.name) m.fields) new));
+      names = subst AreDistinct (sym (map_push (λ (f : TheField). f.name) m.fields g))
+          (distinct_push (map (λ f. f.name) m.fields) f.name ok.names
+          (not_among f.name (map (λ f. f.name) m.fields) new));
       oneofs = grow.names;
       oneof_names = grow.distinct;
       oneof_order = grow.follow;
     }
 
-pub sound_field : (t : Types) (d : Draft) (m : TheMessage) (bytes n : ℕ) (f : FieldLine) (lw kw : List ℕ) → IsSound t (with_part d (open_parts.Message m)) → IsSmall t → f.number ≡ Some n → LabelIs lw f.label → KindIs kw f.kind → IsTrue (is_name_form f.name)
+pub sound_field : (t : Types) (d : Draft) (m : TheMessage) (bytes n : ℕ) (f : FieldLine) (lw kw : List ℕ)
+    → IsSound t (with_part d (open_parts.Message m)) → IsSmall t → f.number ≡ Some n → LabelIs lw f.label
+    → KindIs kw f.kind → IsTrue (is_name_form f.name)
     → IsClean t (before (with_part d (open_parts.Message m))) bytes (Field f) → IsSound t (with_part d (with_field t (open_parts.Message m) (Some n) f))
 sound_field t d m bytes n f lw kw s small number label kind form h = record {
   enums_up = s.enums_up;
@@ -452,7 +602,9 @@ sound_field t d m bytes n f lw kw s small number label kind form h = record {
   ordered = s.ordered;
 }
 
-pub sound_method : (t : Types) (d : Draft) (bytes : ℕ) (m : MethodLine) → IsSound t d → IsSmall t → IsTrue (is_full_form m.service) → IsTrue (is_name_form m.name) → IsClean t (before d) bytes (Method m) → IsSound t (added_method t d m)
+pub sound_method : (t : Types) (d : Draft) (bytes : ℕ) (m : MethodLine) → IsSound t d → IsSmall t
+    → IsTrue (is_full_form m.service) → IsTrue (is_name_form m.name) → IsClean t (before d) bytes (Method m)
+    → IsSound t (added_method t d m)
 sound_method t d bytes m s small service name h =
     let o = d.open_part in
     let es = with_enum o d.enums in
@@ -460,17 +612,35 @@ sound_method t d bytes m s small service name h =
     let lacks = left_no (lacks_zero (open_part o)) (not (is_index m.index (length (method_names d)))) h.number in
     let enums : map (λ e. e.name) es ++ [] ≡ enum_names d = append-nil (map (λ e. e.name) es) ∙ closed_enums o d.enums in
     let messages : map (λ m. m.name) ms ++ [] ≡ message_names d = append-nil (map (λ m. m.name) ms) ∙ closed_messages o d.messages in
-    let limits = left_no (not (((is_short_full m.service && is_short m.name) && is_short_full m.input) && is_short_full m.output) || nat_le 256 (length (method_names d))) (nat_lt 65536 bytes) h.limit in
-    let shorts = not_no (((is_short_full m.service && is_short m.name) && is_short_full m.input) && is_short_full m.output) (left_no (not (((is_short_full m.service && is_short m.name) && is_short_full m.input) && is_short_full m.output)) (nat_le 256 (length (method_names d))) limits) in
-    let short_names = both_left (is_short_full m.service && is_short m.name) (is_short_full m.input) (both_left ((is_short_full m.service && is_short m.name) && is_short_full m.input) (is_short_full m.output) shorts) in
-    let room = not_le 256 (length (method_names d)) (right_no (not (((is_short_full m.service && is_short m.name) && is_short_full m.input) && is_short_full m.output)) (nat_le 256 (length (method_names d))) limits) in
-    let input = place_known m.input t.messages small.messages (not_no (is_among m.input t.messages) (left_no (not (is_among m.input t.messages)) (not (is_among m.output t.messages)) h.unknown)) in
-    let output = place_known m.output t.messages small.messages (not_no (is_among m.output t.messages) (right_no (not (is_among m.input t.messages)) (not (is_among m.output t.messages)) h.unknown)) in
+    let limits = left_no
+    (not (((is_short_full m.service && is_short m.name) && is_short_full m.input) && is_short_full m.output)
+    || nat_le 256 (length (method_names d))) (nat_lt 65536 bytes) h.limit in
+    let shorts = not_no (((is_short_full m.service && is_short m.name) && is_short_full m.input)
+    && is_short_full m.output)
+    (left_no (not (((is_short_full m.service && is_short m.name) && is_short_full m.input)
+    && is_short_full m.output)) (nat_le 256 (length (method_names d))) limits) in
+    let short_names = both_left (is_short_full m.service && is_short m.name) (is_short_full m.input)
+    (both_left ((is_short_full m.service && is_short m.name) && is_short_full m.input)
+    (is_short_full m.output) shorts) in
+    let room = not_le 256 (length (method_names d))
+    (right_no (not (((is_short_full m.service && is_short m.name) && is_short_full m.input)
+    && is_short_full m.output)) (nat_le 256 (length (method_names d))) limits) in
+    let input = place_known m.input t.messages small.messages
+    (not_no (is_among m.input t.messages)
+    (left_no (not (is_among m.input t.messages)) (not (is_among m.output t.messages)) h.unknown)) in
+    let output = place_known m.output t.messages small.messages
+    (not_no (is_among m.output t.messages)
+    (right_no (not (is_among m.input t.messages)) (not (is_among m.output t.messages)) h.unknown)) in
     record {
       enums_up = subst (Ascends IsBelow) (sym enums) s.enums_up;
       messages_up = subst (Ascends IsBelow) (sym messages) s.messages_up;
-      distinct = subst AreDistinct (sym (ap (λ (xs : List (List ℕ)). xs ++ (map (λ m. m.name) ms ++ [])) enums ∙ ap (λ (xs : List (List ℕ)). enum_names d ++ xs) messages)) s.distinct;
-      methods_distinct = subst AreDistinct (sym (map_push (λ (m : TheMethod). m.service ++ 32 ∷ m.name) d.methods (method_of t m))) (distinct_push (method_names d) (method_key m) s.methods_distinct (not_among (method_key m) (method_names d) h.duplicate));
+      distinct = subst AreDistinct
+          (sym (ap (λ (xs : List (List ℕ)). xs ++ (map (λ m. m.name) ms ++ [])) enums
+          ∙ ap (λ (xs : List (List ℕ)). enum_names d ++ xs) messages)) s.distinct;
+      methods_distinct =
+          subst AreDistinct (sym (map_push (λ (m : TheMethod). m.service ++ 32 ∷ m.name) d.methods (method_of t m)))
+          (distinct_push (method_names d) (method_key m) s.methods_distinct
+          (not_among (method_key m) (method_names d) h.duplicate));
       few_enums = omega (arith, ap length enums, s.few_enums);
       few_messages = omega (arith, ap length messages, s.few_messages);
       few_methods = omega (arith, length_push d.methods (method_of t m), length-map d.methods (λ (m : TheMethod). m.service ++ 32 ∷ m.name), room);

@@ -1,5 +1,7 @@
 -- Lines and their words: a line that is read is spelled so, and what is spelled so is read.
-use Rattle.std.proofs.Common.{◌≡◌, ◌≢◌, ℕ, suc, ℤ, pos, negsuc, ◌^◌, ◌<◌, ◌≤◌, ◌==◌, ◌&&◌, Bool, true, false, cond, List, [], ◌∷◌, ◌++◌, codes, Option, Some, None, refl, ap, sym, subst, ◌∙◌, arith, inl, inr, ◌⊎◌}
+use Rattle.std.proofs.Common.{◌≡◌, ◌≢◌, ℕ, suc, ℤ, pos, negsuc, ◌^◌, ◌<◌, ◌≤◌, ◌==◌, ◌&&◌, Bool, true, false, cond}
+use Rattle.std.proofs.Common.{List, [], ◌∷◌, ◌++◌, codes, Option, Some, None, refl, ap, sym, subst, ◌∙◌, arith, inl}
+use Rattle.std.proofs.Common.{inr, ◌⊎◌}
 use Rattle.std.specs.Prelude.{option_map, option_and_then, nat_lt, IsTrue, is_some}
 use Rattle.std.specs.List.{slice_split, onto_first, list_all, find, AllByRecursion}
 use Rattle.std.specs.Option.{option_or}
@@ -15,11 +17,16 @@ use Rattle.std.proofs.lemmas.Grind.{common_steps}
 use Rattle.mrpc_table.specs.Names.{is_name_start, is_name_byte, is_name_form, is_full_form, parts_of}
 use Rattle.mrpc_table.specs.Lines.{words_of, number_of}
 use Rattle.mrpc_table.specs.Scalars.{no_table, scalar_names, scalar_of}
-use Rattle.table_text.specs.Lines.{in_32_bits, whole_of, name_of, full_name_of, behind, kind_of, label_names, label_of, enum_of, value_of, message_of, field_of, method_of, line_of_words, line_of}
+use Rattle.table_text.specs.Lines.{in_32_bits, whole_of, name_of, full_name_of, behind, kind_of, label_names}
+use Rattle.table_text.specs.Lines.{label_of, enum_of, value_of, message_of, field_of, method_of, line_of_words}
+use Rattle.table_text.specs.Lines.{line_of}
 use Rattle.mrpc_table.specs.Text.{kind_text, spaced}
 use Rattle.table_text.specs.Judged.{is_within}
 use Rattle.mrpc_table.specs.declared.table.Kind.{Kind}
-use Rattle.mrpc_table.specs.declared.table.Kind.TheVariants.{Int32, Int64, Uint32, Uint64, Sint32, Sint64, Bool as TheBool, Fixed32, Fixed64, Sfixed32, Sfixed64, Float, Double, Text, Octets, Message as OfMessage, Choice}
+use Rattle.mrpc_table.specs.declared.table.Kind.TheVariants.{Int32, Int64, Uint32, Uint64, Sint32, Sint64}
+use Rattle.mrpc_table.specs.declared.table.Kind.TheVariants.{Bool as TheBool, Fixed32, Fixed64, Sfixed32, Sfixed64}
+use Rattle.mrpc_table.specs.declared.table.Kind.TheVariants.{Float, Double, Text, Octets, Message as OfMessage}
+use Rattle.mrpc_table.specs.declared.table.Kind.TheVariants.{Choice}
 use Rattle.mrpc_table.specs.declared.table.Table.{Table}
 use Rattle.table_text.specs.declared.line.KindWord.{KindWord}
 use Rattle.table_text.specs.declared.line.KindWord.TheVariants as kinds
@@ -31,7 +38,9 @@ use Rattle.table_text.specs.declared.line.Line.{Line}
 use Rattle.table_text.specs.declared.line.Line.TheVariants.{Enum, Value, Message, Field, Method}
 use Rattle.table_text.proofs.PlaceLemmas.{same_bytes}
 use Rattle.table_text.proofs.TableFacts.{both_left, both_right}
-use Rattle.table_text.proofs.ParseLemmas.{if_true, mapped, chained, either, number_is, number_of-decimal, WholeIs, whole_is, whole_of-text, ltb_tells, name_is, full_is, decimal_digits, behind_is, in_words}
+use Rattle.table_text.proofs.ParseLemmas.{if_true, mapped, chained, either, number_is, number_of-decimal, WholeIs}
+use Rattle.table_text.proofs.ParseLemmas.{whole_is, whole_of-text, ltb_tells, name_is, full_is, decimal_digits}
+use Rattle.table_text.proofs.ParseLemmas.{behind_is, in_words}
 
 -- ---- what a word says
 
@@ -59,40 +68,81 @@ NumberIs w None = ⊥
 
 pub kind_is : (w : List ℕ) (k : KindWord) → kind_of w ≡ Some k → KindIs w k
 kind_is w k e =
-    elim (either (option_map kinds.Scalar (scalar_of w)) (option_or (option_map kinds.Message (option_and_then full_name_of (behind (codes "message:") w))) (option_map kinds.Choice (option_and_then full_name_of (behind (codes "enum:") w)))) k e) [
+    elim (either (option_map kinds.Scalar (scalar_of w))
+    (option_or (option_map kinds.Message (option_and_then full_name_of (behind (codes "message:") w)))
+    (option_map kinds.Choice (option_and_then full_name_of (behind (codes "enum:") w)))) k e) [
       | inl scalar ↦
           let m = mapped kinds.Scalar (scalar_of w) k scalar in
-          let all : AllByRecursion (λ (r : List ℕ × Kind). ((T : Table) → r.0 ≡ kind_text T r.1) × IsScalar r.1) scalar_names = ((λ T. refl, tt), ((λ T. refl, tt), ((λ T. refl, tt), ((λ T. refl, tt), ((λ T. refl, tt), ((λ T. refl, tt), ((λ T. refl, tt), ((λ T. refl, tt), ((λ T. refl, tt), ((λ T. refl, tt), ((λ T. refl, tt), ((λ T. refl, tt), ((λ T. refl, tt), ((λ T. refl, tt), ((λ T. refl, tt), tt))))))))))))))) in
+          let all : AllByRecursion (λ (r : List ℕ × Kind). ((T : Table) → r.0 ≡ kind_text T r.1) × IsScalar r.1)
+          scalar_names = (
+            (λ T. refl, tt),
+            (
+              (λ T. refl, tt),
+              (
+                (λ T. refl, tt),
+                (
+                  (λ T. refl, tt),
+                  (
+                    (λ T. refl, tt),
+                    (
+                      (λ T. refl, tt),
+                      (
+                        (λ T. refl, tt),
+                        (
+                          (λ T. refl, tt),
+                          (
+                            (λ T. refl, tt),
+                            (
+                              (λ T. refl, tt),
+                              (
+                                (λ T. refl, tt),
+                                ((λ T. refl, tt), ((λ T. refl, tt), ((λ T. refl, tt), ((λ T. refl, tt), tt)))),
+                              ),
+                            ),
+                          ),
+                        ),
+                      ),
+                    ),
+                  ),
+                ),
+              ),
+            ),
+          ) in
           subst (KindIs w) m.2 (in_words w scalar_names m.0 m.1 (λ v j. ((T : Table) → v ≡ kind_text T j) × IsScalar j) all)
-      | inr named ↦ elim (either (option_map kinds.Message (option_and_then full_name_of (behind (codes "message:") w))) (option_map kinds.Choice (option_and_then full_name_of (behind (codes "enum:") w))) k named.1) [
-        | inl message ↦
-            let m = mapped kinds.Message (option_and_then full_name_of (behind (codes "message:") w)) k message in
-            let n = chained full_name_of (behind (codes "message:") w) m.0 m.1 in
-            let full = full_is n.0 m.0 n.2 in
-            subst (KindIs w) m.2 (behind_is (codes "message:") w n.0 n.1 ∙ ap (λ (t : List ℕ). codes "message:" ++ t) full.0, full.1)
-        | inr other ↦
-            let m = mapped kinds.Choice (option_and_then full_name_of (behind (codes "enum:") w)) k other.1 in
-            let n = chained full_name_of (behind (codes "enum:") w) m.0 m.1 in
-            let full = full_is n.0 m.0 n.2 in
-            subst (KindIs w) m.2 (behind_is (codes "enum:") w n.0 n.1 ∙ ap (λ (t : List ℕ). codes "enum:" ++ t) full.0, full.1)
-      ]
+      | inr named ↦ elim
+          (either (option_map kinds.Message (option_and_then full_name_of (behind (codes "message:") w)))
+          (option_map kinds.Choice (option_and_then full_name_of (behind (codes "enum:") w))) k named.1) [
+            | inl message ↦
+                let m = mapped kinds.Message (option_and_then full_name_of (behind (codes "message:") w)) k message in
+                let n = chained full_name_of (behind (codes "message:") w) m.0 m.1 in
+                let full = full_is n.0 m.0 n.2 in
+                subst (KindIs w) m.2 (behind_is (codes "message:") w n.0 n.1 ∙ ap (λ (t : List ℕ). codes "message:" ++ t) full.0, full.1)
+            | inr other ↦
+                let m = mapped kinds.Choice (option_and_then full_name_of (behind (codes "enum:") w)) k other.1 in
+                let n = chained full_name_of (behind (codes "enum:") w) m.0 m.1 in
+                let full = full_is n.0 m.0 n.2 in
+                subst (KindIs w) m.2 (behind_is (codes "enum:") w n.0 n.1 ∙ ap (λ (t : List ℕ). codes "enum:" ++ t) full.0, full.1)
+          ]
     ]
 
 pub label_is : (w : List ℕ) (l : LabelWord) → label_of w ≡ Some l → LabelIs w l
 label_is w l e =
-    elim (either (option_map (λ e. e.1) (find (λ e. bytes_eq w e.0) label_names)) (option_or (option_map labels.Map (option_and_then kind_of (behind (codes "map:") w))) (option_map labels.Member (option_and_then name_of (behind (codes "oneof:") w)))) l e) [
+    elim (either (option_map (λ e. e.1) (find (λ e. bytes_eq w e.0) label_names))
+    (option_or (option_map labels.Map (option_and_then kind_of (behind (codes "map:") w)))
+    (option_map labels.Member (option_and_then name_of (behind (codes "oneof:") w)))) l e) [
       | inl plain ↦ in_words w label_names l plain LabelIs (refl, (refl, (refl, (refl, tt))))
-      | inr named ↦ elim (either (option_map labels.Map (option_and_then kind_of (behind (codes "map:") w))) (option_map labels.Member (option_and_then name_of (behind (codes "oneof:") w))) l named.1) [
-        | inl map ↦
-            let m = mapped labels.Map (option_and_then kind_of (behind (codes "map:") w)) l map in
-            let n = chained kind_of (behind (codes "map:") w) m.0 m.1 in
-            subst (LabelIs w) m.2 (n.0, behind_is (codes "map:") w n.0 n.1, kind_is n.0 m.0 n.2)
-        | inr other ↦
-            let m = mapped labels.Member (option_and_then name_of (behind (codes "oneof:") w)) l other.1 in
-            let n = chained name_of (behind (codes "oneof:") w) m.0 m.1 in
-            let name = name_is n.0 m.0 n.2 in
-            subst (LabelIs w) m.2 (behind_is (codes "oneof:") w n.0 n.1 ∙ ap (λ (t : List ℕ). codes "oneof:" ++ t) name.0, name.1)
-      ]
+      | inr named ↦ elim (either (option_map labels.Map (option_and_then kind_of (behind (codes "map:") w)))
+          (option_map labels.Member (option_and_then name_of (behind (codes "oneof:") w))) l named.1) [
+            | inl map ↦
+                let m = mapped labels.Map (option_and_then kind_of (behind (codes "map:") w)) l map in
+                let n = chained kind_of (behind (codes "map:") w) m.0 m.1 in
+                subst (LabelIs w) m.2 (n.0, behind_is (codes "map:") w n.0 n.1, kind_is n.0 m.0 n.2)
+            | inr other ↦
+                let m = mapped labels.Member (option_and_then name_of (behind (codes "oneof:") w)) l other.1 in
+                let n = chained name_of (behind (codes "oneof:") w) m.0 m.1 in
+                let name = name_is n.0 m.0 n.2 in
+                subst (LabelIs w) m.2 (behind_is (codes "oneof:") w n.0 n.1 ∙ ap (λ (t : List ℕ). codes "oneof:" ++ t) name.0, name.1)
+          ]
     ]
 
 scalar_read : (k : Kind) → IsScalar k → kind_of (kind_text no_table k) ≡ Some (kinds.Scalar k)
@@ -147,8 +197,11 @@ abbrev pub LineIs : List (List ℕ) → Line → Type 0
 LineIs ws (Enum n) = (ws ≡ codes "enum" ∷ n ∷ []) × IsTrue (is_full_form n)
 LineIs ws (Value z n) = (w : List ℕ) × (ws ≡ codes "value" ∷ w ∷ n ∷ []) × WholeIs w z × IsTrue (is_name_form n)
 LineIs ws (Message n) = (ws ≡ codes "message" ∷ n ∷ []) × IsTrue (is_full_form n)
-LineIs ws (Field f) = (n : List ℕ) × (l : List ℕ) × (k : List ℕ) × (ws ≡ codes "field" ∷ n ∷ l ∷ k ∷ f.name ∷ []) × NumberIs n f.number × LabelIs l f.label × KindIs k f.kind × IsTrue (is_name_form f.name)
-LineIs ws (Method m) = (i : List ℕ) × (ws ≡ codes "method" ∷ i ∷ m.service ∷ m.name ∷ m.input ∷ m.output ∷ []) × NumberIs i m.index × IsTrue (is_full_form m.service) × IsTrue (is_name_form m.name) × IsTrue (is_full_form m.input) × IsTrue (is_full_form m.output)
+LineIs ws (Field f) = (n : List ℕ) × (l : List ℕ) × (k : List ℕ) × (ws ≡ codes "field" ∷ n ∷ l ∷ k ∷ f.name ∷ [])
+    × NumberIs n f.number × LabelIs l f.label × KindIs k f.kind × IsTrue (is_name_form f.name)
+LineIs ws (Method m) = (i : List ℕ) × (ws ≡ codes "method" ∷ i ∷ m.service ∷ m.name ∷ m.input ∷ m.output ∷ [])
+    × NumberIs i m.index × IsTrue (is_full_form m.service) × IsTrue (is_name_form m.name)
+    × IsTrue (is_full_form m.input) × IsTrue (is_full_form m.output)
 
 abbrev pub InRange : Line → Type 0
 InRange (Value z n) = is_within z ≡ true
@@ -198,13 +251,29 @@ field_is (w ∷ []) l e range = absurd cc
 field_is (w ∷ lw ∷ []) l e range = absurd cc
 field_is (w ∷ lw ∷ kw ∷ []) l e range = absurd cc
 field_is (w ∷ lw ∷ kw ∷ nw ∷ []) l e range =
-    let n = chained (λ n. option_and_then (λ l. option_and_then (λ k. option_map (λ m. Field (record { number = in_32_bits n; label = l; kind = k; name = m })) (name_of nw)) (kind_of kw)) (label_of lw)) (number_of w) l e in
-    let label = chained (λ l. option_and_then (λ k. option_map (λ m. Field (record { number = in_32_bits n.0; label = l; kind = k; name = m })) (name_of nw)) (kind_of kw)) (label_of lw) l n.2 in
+    let n = chained (λ n.
+    option_and_then (λ l.
+    option_and_then (λ k.
+    option_map (λ m. Field (record { number = in_32_bits n; label = l; kind = k; name = m })) (name_of nw))
+    (kind_of kw)) (label_of lw)) (number_of w) l e in
+    let label = chained
+    (λ l. option_and_then
+    (λ k. option_map (λ m. Field (record { number = in_32_bits n.0; label = l; kind = k; name = m }))
+    (name_of nw)) (kind_of kw)) (label_of lw) l n.2 in
     let kind = chained (λ k. option_map (λ m. Field (record { number = in_32_bits n.0; label = label.0; kind = k; name = m })) (name_of nw)) (kind_of kw) l label.2 in
     let m = mapped (λ m. Field (record { number = in_32_bits n.0; label = label.0; kind = kind.0; name = m })) (name_of nw) l kind.2 in
     let name = name_is nw m.0 m.1 in
     let some : is_some (in_32_bits n.0) ≡ true = subst InRange (sym m.2) range in
-    subst (LineIs (codes "field" ∷ w ∷ lw ∷ kw ∷ nw ∷ [])) m.2 (w, lw, kw, ap (λ (t : List ℕ). codes "field" ∷ w ∷ lw ∷ kw ∷ t ∷ []) name.0, number_within w n.0 (in_32_bits n.0) n.1 refl some, label_is lw label.0 label.1, kind_is kw kind.0 kind.1, name.1)
+    subst (LineIs (codes "field" ∷ w ∷ lw ∷ kw ∷ nw ∷ [])) m.2 (
+      w,
+      lw,
+      kw,
+      ap (λ (t : List ℕ). codes "field" ∷ w ∷ lw ∷ kw ∷ t ∷ []) name.0,
+      number_within w n.0 (in_32_bits n.0) n.1 refl some,
+      label_is lw label.0 label.1,
+      kind_is kw kind.0 kind.1,
+      name.1,
+    )
 field_is (w ∷ lw ∷ kw ∷ nw ∷ x ∷ ws) l e range = absurd cc
 
 method_is : (ws : List (List ℕ)) (l : Line) → method_of ws ≡ Some l → InRange l → LineIs (codes "method" ∷ ws) l
@@ -214,9 +283,21 @@ method_is (iw ∷ sw ∷ []) l e range = absurd cc
 method_is (iw ∷ sw ∷ nw ∷ []) l e range = absurd cc
 method_is (iw ∷ sw ∷ nw ∷ aw ∷ []) l e range = absurd cc
 method_is (iw ∷ sw ∷ nw ∷ aw ∷ bw ∷ []) l e range =
-    let i = chained (λ i. option_and_then (λ s. option_and_then (λ n. option_and_then (λ a. option_map (λ b. Method (record { index = in_32_bits i; service = s; name = n; input = a; output = b })) (full_name_of bw)) (full_name_of aw)) (name_of nw)) (full_name_of sw)) (number_of iw) l e in
-    let s = chained (λ s. option_and_then (λ n. option_and_then (λ a. option_map (λ b. Method (record { index = in_32_bits i.0; service = s; name = n; input = a; output = b })) (full_name_of bw)) (full_name_of aw)) (name_of nw)) (full_name_of sw) l i.2 in
-    let n = chained (λ n. option_and_then (λ a. option_map (λ b. Method (record { index = in_32_bits i.0; service = s.0; name = n; input = a; output = b })) (full_name_of bw)) (full_name_of aw)) (name_of nw) l s.2 in
+    let i = chained (λ i.
+    option_and_then (λ s.
+    option_and_then (λ n.
+    option_and_then (λ a.
+    option_map (λ b. Method (record { index = in_32_bits i; service = s; name = n; input = a; output = b }))
+    (full_name_of bw)) (full_name_of aw)) (name_of nw)) (full_name_of sw)) (number_of iw) l e in
+    let s = chained (λ s.
+    option_and_then (λ n.
+    option_and_then (λ a.
+    option_map (λ b. Method (record { index = in_32_bits i.0; service = s; name = n; input = a; output = b }))
+    (full_name_of bw)) (full_name_of aw)) (name_of nw)) (full_name_of sw) l i.2 in
+    let n = chained (λ n.
+    option_and_then (λ a.
+    option_map (λ b. Method (record { index = in_32_bits i.0; service = s.0; name = n; input = a; output = b }))
+    (full_name_of bw)) (full_name_of aw)) (name_of nw) l s.2 in
     let a = chained (λ a. option_map (λ b. Method (record { index = in_32_bits i.0; service = s.0; name = n.0; input = a; output = b })) (full_name_of bw)) (full_name_of aw) l n.2 in
     let b = mapped (λ b. Method (record { index = in_32_bits i.0; service = s.0; name = n.0; input = a.0; output = b })) (full_name_of bw) l a.2 in
     let service = full_is sw s.0 s.1 in
@@ -224,7 +305,15 @@ method_is (iw ∷ sw ∷ nw ∷ aw ∷ bw ∷ []) l e range =
     let input = full_is aw a.0 a.1 in
     let output = full_is bw b.0 b.1 in
     let some : is_some (in_32_bits i.0) ≡ true = subst InRange (sym b.2) range in
-    subst (LineIs (codes "method" ∷ iw ∷ sw ∷ nw ∷ aw ∷ bw ∷ [])) b.2 (iw, cc (service.0, name.0, input.0, output.0), number_within iw i.0 (in_32_bits i.0) i.1 refl some, service.1, name.1, input.1, output.1)
+    subst (LineIs (codes "method" ∷ iw ∷ sw ∷ nw ∷ aw ∷ bw ∷ [])) b.2 (
+      iw,
+      cc (service.0, name.0, input.0, output.0),
+      number_within iw i.0 (in_32_bits i.0) i.1 refl some,
+      service.1,
+      name.1,
+      input.1,
+      output.1,
+    )
 method_is (iw ∷ sw ∷ nw ∷ aw ∷ bw ∷ x ∷ ws) l e range = absurd cc
 
 first_is : (w : List ℕ) (text : List ℕ) (ws : List (List ℕ)) (l : Line) → bytes_eq w text ≡ true → LineIs (text ∷ ws) l → LineIs (w ∷ ws) l
@@ -292,7 +381,10 @@ words_read ws (Method m) h =
     let name = h.4 in
     let input = h.5 in
     let output = h.6 in
-    ap line_of_words h.1 ∙ rw (number.1, service, name, input, output) (ap (λ (o : Option ℕ). Some (Method (record { index = o; service = m.service; name = m.name; input = m.input; output = m.output }))) number.2)
+    ap line_of_words h.1 ∙ rw (number.1, service, name, input, output)
+    (ap (λ (o : Option ℕ).
+    Some (Method (record { index = o; service = m.service; name = m.name; input = m.input; output = m.output })))
+    number.2)
 
 -- ---- no word has a byte up to the space
 
@@ -323,7 +415,10 @@ start_is_byte c e = rw e refl
 
 name_bytes : (n : List ℕ) → is_name_form n ≡ true → list_all is_name_byte n ≡ true
 name_bytes [] e = absurd cc
-name_bytes (c ∷ cs) e = both (is_name_byte c) (list_all is_name_byte cs) (start_is_byte c (both_left (is_name_start c) (list_all is_name_byte cs) e)) (both_right (is_name_start c) (list_all is_name_byte cs) e)
+name_bytes (c ∷ cs) e =
+    both (is_name_byte c) (list_all is_name_byte cs)
+    (start_is_byte c (both_left (is_name_start c) (list_all is_name_byte cs) e))
+    (both_right (is_name_start c) (list_all is_name_byte cs) e)
 
 pub name_dark : (n : List ℕ) → IsTrue (is_name_form n) → dark n ≡ true
 name_dark n form = weaker is_name_byte (λ c. nat_lt 32 c) n name_byte_dark (name_bytes n form)
@@ -331,14 +426,20 @@ name_dark n form = weaker is_name_byte (λ c. nat_lt 32 c) n name_byte_dark (nam
 onto_all : (p : ℕ → Bool) (c : ℕ) (ps : List (List ℕ)) → list_all (λ w. list_all p w) (onto_first c ps) ≡ true → (p c ≡ true) × (list_all (λ w. list_all p w) ps ≡ true)
 onto_all p c [] e = (both_left (p c) true (both_left (p c && true) true e), refl)
 onto_all p c (q ∷ ps) e =
-    let first = both_left (p c && list_all p q) (list_all (λ w. list_all p w) ps) e in
-    (both_left (p c) (list_all p q) first, both (list_all p q) (list_all (λ w. list_all p w) ps) (both_right (p c) (list_all p q) first) (both_right (p c && list_all p q) (list_all (λ w. list_all p w) ps) e))
+    let first = both_left (p c && list_all p q) (list_all (λ w. list_all p w) ps) e in (
+      both_left (p c) (list_all p q) first,
+      both (list_all p q) (list_all (λ w. list_all p w) ps) (both_right (p c) (list_all p q) first)
+          (both_right (p c && list_all p q) (list_all (λ w. list_all p w) ps) e),
+    )
 
 -- what holds of each byte of each part, and of a dot, holds of each byte
 parts_all : (p : ℕ → Bool) (n : List ℕ) → p 46 ≡ true → list_all (λ w. list_all p w) (slice_split (λ c. c == 46) n) ≡ true → list_all p n ≡ true
 parts_all p [] dot e = refl
 parts_all p (c ∷ cs) dot e =
-    elim (c == 46) as (λ (b : Bool). (c == 46) ≡ b → list_all (λ w. list_all p w) (cond b ([] ∷ slice_split (λ c. c == 46) cs) (onto_first c (slice_split (λ c. c == 46) cs))) ≡ true → list_all p (c ∷ cs) ≡ true) [
+    elim (c == 46) as (λ (b : Bool). (c == 46) ≡ b
+    → list_all (λ w. list_all p w)
+    (cond b ([] ∷ slice_split (λ c. c == 46) cs) (onto_first c (slice_split (λ c. c == 46) cs))) ≡ true
+    → list_all p (c ∷ cs) ≡ true) [
       | true ↦ λ is f. both (p c) (list_all p cs) (ap p (eqb-true c 46 is) ∙ dot) (parts_all p cs dot f)
       | false ↦ λ is f. let g = onto_all p c (slice_split (λ c. c == 46) cs) f in both (p c) (list_all p cs) g.0 (parts_all p cs dot g.1)
     ] refl e
@@ -402,7 +503,14 @@ words_dark ws (Enum n) h = subst AllDark (sym h.0) (refl, (full_dark n h.1, tt))
 words_dark ws (Value z n) h = subst AllDark (sym h.1) (refl, (whole_dark h.0 z h.2, (name_dark n h.3, tt)))
 words_dark ws (Message n) h = subst AllDark (sym h.0) (refl, (full_dark n h.1, tt))
 words_dark ws (Field f) h = subst AllDark (sym h.3) (refl, (number_dark h.0 f.number h.4, (label_dark h.1 f.label h.5, (kind_dark h.2 f.kind h.6, (name_dark f.name h.7, tt)))))
-words_dark ws (Method m) h = subst AllDark (sym h.1) (refl, (number_dark h.0 m.index h.2, (full_dark m.service h.3, (name_dark m.name h.4, (full_dark m.input h.5, (full_dark m.output h.6, tt))))))
+words_dark ws (Method m) h =
+    subst AllDark (sym h.1) (
+      refl,
+      (
+        number_dark h.0 m.index h.2,
+        (full_dark m.service h.3, (name_dark m.name h.4, (full_dark m.input h.5, (full_dark m.output h.6, tt)))),
+      ),
+    )
 
 -- ---- words and lines, cut and joined
 

@@ -1,5 +1,7 @@
 -- A table's text within a text, line by line.
-use Rattle.std.proofs.Common.{◌≡◌, ◌≢◌, ℕ, ◌-◌, ◌==◌, Bool, true, false, cond, List, [], ◌∷◌, ◌++◌, length, get_or, take, All, Bor, Option, Some, None, refl, sym, ap, subst, ◌∙◌, append_assoc, arith, eq-eqb}
+use Rattle.std.proofs.Common.{◌≡◌, ◌≢◌, ℕ, ◌-◌, ◌==◌, Bool, true, false, cond, List, [], ◌∷◌, ◌++◌, length, get_or}
+use Rattle.std.proofs.Common.{take, All, Bor, Option, Some, None, refl, sym, ap, subst, ◌∙◌, append_assoc, arith}
+use Rattle.std.proofs.Common.{eq-eqb}
 use Rattle.std.specs.Prelude.{codes, Contains, IfSome, option_map, if◌then◌else◌}
 use Rattle.std.specs.List.{flat_map, AllByRecursion, onto_first, join_with_byte}
 use Rattle.std.specs.Str.{bytes_eq}
@@ -167,7 +169,9 @@ one_behind head text table rest other more h k =
 
 ended_by : (p q : List ℕ) (ps ls qs : List (List ℕ)) (b : Bool) → bytes_eq p (codes "end") ≡ b → (o : Option (List (List ℕ) × List (List ℕ))) → ended_at (q ∷ ps) ≡ o
     → ended_at (p ∷ q ∷ ps) ≡ Some (ls, qs) → AllByRecursion IsOneLine (p ∷ q ∷ ps)
-    → ((ms rs : List (List ℕ)) → ended_at (q ∷ ps) ≡ Some (ms, rs) → AllByRecursion IsOneLine (q ∷ ps) → AreTableLines ms × (join_with_byte 10 (q ∷ ps) ≡ flat_map fed ms ++ (codes "end\n" ++ join_with_byte 10 rs)))
+    → ((ms rs : List (List ℕ)) → ended_at (q ∷ ps) ≡ Some (ms, rs) → AllByRecursion IsOneLine (q ∷ ps)
+    → AreTableLines ms
+    × (join_with_byte 10 (q ∷ ps) ≡ flat_map fed ms ++ (codes "end\n" ++ join_with_byte 10 rs)))
     → AreTableLines ls × (join_with_byte 10 (p ∷ q ∷ ps) ≡ flat_map fed ls ++ (codes "end\n" ++ join_with_byte 10 qs))
 ended_by p q ps ls qs true is o later e one more =
     let parts = some_pair_parts [] ls (q ∷ ps) qs (sym (rw is refl) ∙ e) in
@@ -185,7 +189,8 @@ ended_by p q ps ls qs false is (Some r) later e one more =
     )
 
 -- what the line `end` among pieces says of them
-pub ended_parts : (ps ls qs : List (List ℕ)) → ended_at ps ≡ Some (ls, qs) → AllByRecursion IsOneLine ps → AreTableLines ls × (join_with_byte 10 ps ≡ flat_map fed ls ++ (codes "end\n" ++ join_with_byte 10 qs))
+pub ended_parts : (ps ls qs : List (List ℕ)) → ended_at ps ≡ Some (ls, qs) → AllByRecursion IsOneLine ps
+    → AreTableLines ls × (join_with_byte 10 ps ≡ flat_map fed ls ++ (codes "end\n" ++ join_with_byte 10 qs))
 ended_parts [] ls qs e one = absurd cc
 ended_parts (p ∷ []) ls qs e one = absurd cc
 ended_parts (p ∷ q ∷ ps) ls qs e one = ended_by p q ps ls qs (bytes_eq p (codes "end")) refl (ended_at (q ∷ ps)) refl e one (ended_parts (q ∷ ps))
@@ -209,19 +214,24 @@ pub passed_more : (text rest line behind : List ℕ) → Passed text rest → pi
 passed_more text rest line behind p e other =
     let c = cut_is rest line behind e in
     let one : flat_map fed (line ∷ []) ≡ fed line = flat_map-cons fed line [] ∙ append-nil (fed line) in
-    let lines_are : flat_map fed (p.lines ++ line ∷ []) ≡ flat_map fed p.lines ++ fed line = flat_map-append fed p.lines (line ∷ []) ∙ ap (λ (t : List ℕ). flat_map fed p.lines ++ t) one in
+    let lines_are : flat_map fed (p.lines ++ line ∷ []) ≡ flat_map fed p.lines ++ fed line =
+    flat_map-append fed p.lines (line ∷ []) ∙ ap (λ (t : List ℕ). flat_map fed p.lines ++ t) one in
     let rest_is : rest ≡ fed line ++ behind = c.text_is ∙ sym (append_assoc line (10 ∷ []) behind) in
     record {
       lines = p.lines ++ line ∷ [];
       good = good_push p.lines line p.good (c.one, other);
-      text_is = p.text_is ∙ ap (λ (t : List ℕ). flat_map fed p.lines ++ t) rest_is ∙ sym (append_assoc (flat_map fed p.lines) (fed line) behind) ∙ ap (λ (t : List ℕ). t ++ behind) (sym lines_are);
+      text_is = p.text_is ∙ ap (λ (t : List ℕ). flat_map fed p.lines ++ t) rest_is
+          ∙ sym (append_assoc (flat_map fed p.lines) (fed line) behind) ∙ ap (λ (t : List ℕ). t ++ behind)
+          (sym lines_are);
     }
 
 -- the line `end` stands next
-pub cut_here : (text rest line behind : List ℕ) → Passed text rest → pieces_of rest ≡ line ∷ pieces_of behind → line ≡ codes "end" → Cut text (take (length text - length rest) text) behind
+pub cut_here : (text rest line behind : List ℕ) → Passed text rest → pieces_of rest ≡ line ∷ pieces_of behind
+    → line ≡ codes "end" → Cut text (take (length text - length rest) text) behind
 cut_here text rest line behind p e same =
     let count : length text - length rest ≡ length (flat_map fed p.lines) = omega (arith, ap (length {A = ℕ}) p.text_is, length-append (flat_map fed p.lines) rest) in
-    let front : take (length text - length rest) text ≡ flat_map fed p.lines = ap (λ (n : ℕ). take n text) count ∙ ap (take (length (flat_map fed p.lines))) p.text_is ∙ take-append_seam (flat_map fed p.lines) rest in
+    let front : take (length text - length rest) text ≡ flat_map fed p.lines = ap (λ (n : ℕ). take n text) count
+    ∙ ap (take (length (flat_map fed p.lines))) p.text_is ∙ take-append_seam (flat_map fed p.lines) rest in
     let rest_is : rest ≡ codes "end\n" ++ behind = (cut_is rest line behind e).text_is ∙ ap (λ (l : List ℕ). l ++ 10 ∷ behind) same in
     record {
       lines = p.lines;
@@ -236,9 +246,13 @@ none_is o x e f = absurd cc
 -- no line ends in what is left
 pub cut_nowhere : (text rest table more : List ℕ) → Passed text rest → pieces_of rest ≡ rest ∷ [] → Cut text table more → ⊥
 cut_nowhere text rest table more p none c =
-    let unended : ended_at (pieces_of text) ≡ None = ap (λ (t : List ℕ). ended_at (pieces_of t)) p.text_is ∙ ap ended_at (pieces_lines p.lines rest p.good ∙ ap (λ (ps : List (List ℕ)). p.lines ++ ps) none) ∙ ended_none p.lines rest p.good in
+    let unended : ended_at (pieces_of text) ≡ None = ap (λ (t : List ℕ). ended_at (pieces_of t)) p.text_is
+    ∙ ap ended_at (pieces_lines p.lines rest p.good ∙ ap (λ (ps : List (List ℕ)). p.lines ++ ps) none)
+    ∙ ended_none p.lines rest p.good in
     none_is (ended_at (pieces_of text)) (c.lines, pieces_of more) unended (cut_ends text table more c)
 
-pub some_behind : (head text body : List ℕ) (r : Option (Bor (List ℕ) × Bor (List ℕ))) → text ≡ head ++ body → IfSome r (λ p. HasTableBehind [] body p.0.now p.1.now) → IfSome r (λ p. HasTableBehind head text p.0.now p.1.now)
+pub some_behind : (head text body : List ℕ) (r : Option (Bor (List ℕ) × Bor (List ℕ))) → text ≡ head ++ body
+    → IfSome r (λ p. HasTableBehind [] body p.0.now p.1.now)
+    → IfSome r (λ p. HasTableBehind head text p.0.now p.1.now)
 some_behind head text body None e h = tt
 some_behind head text body (Some p) e h = cut_to head text body p.0.now p.1.now e (cut_from [] body body p.0.now p.1.now refl h)

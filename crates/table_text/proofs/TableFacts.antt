@@ -4,7 +4,10 @@ use Rattle.std.specs.List.{slice_split, onto_first}
 use Rattle.mrpc_table.specs.Words.{is_key}
 use Rattle.mrpc_table.specs.Valid.{IsKnown, Joins, OneofsFollow}
 use Rattle.mrpc_table.specs.declared.table.Kind.{Kind}
-use Rattle.mrpc_table.specs.declared.table.Kind.TheVariants.{Int32, Int64, Uint32, Uint64, Sint32, Sint64, Bool as TheBool, Fixed32, Fixed64, Sfixed32, Sfixed64, Float, Double, Text, Octets, Message as OfMessage, Choice}
+use Rattle.mrpc_table.specs.declared.table.Kind.TheVariants.{Int32, Int64, Uint32, Uint64, Sint32, Sint64}
+use Rattle.mrpc_table.specs.declared.table.Kind.TheVariants.{Bool as TheBool, Fixed32, Fixed64, Sfixed32, Sfixed64}
+use Rattle.mrpc_table.specs.declared.table.Kind.TheVariants.{Float, Double, Text, Octets, Message as OfMessage}
+use Rattle.mrpc_table.specs.declared.table.Kind.TheVariants.{Choice}
 use Rattle.mrpc_table.specs.declared.table.Label.{Label}
 use Rattle.mrpc_table.specs.declared.table.Label.TheVariants.{Plain, Optional, Repeated, Packed, Map, Member}
 use Rattle.mrpc_table.specs.declared.table.Field.{Field}
@@ -23,7 +26,9 @@ pub has_part : (sep : ℕ) (text : List ℕ) → (part : List ℕ) × (parts : L
 has_part sep [] = ([], [], refl)
 has_part sep (x ∷ xs) =
     let rest = has_part sep xs in
-    elim (x == sep) as (λ (b : Bool). (part : List ℕ) × (parts : List (List ℕ)) × (cond b ([] ∷ slice_split (λ c. c == sep) xs) (onto_first x (slice_split (λ c. c == sep) xs)) ≡ part ∷ parts)) [
+    elim (x == sep) as (λ (b : Bool). (part : List ℕ) × (parts : List (List ℕ))
+    × (cond b ([] ∷ slice_split (λ c. c == sep) xs) (onto_first x (slice_split (λ c. c == sep) xs)) ≡ part
+    ∷ parts)) [
       | true ↦ ([], slice_split (λ c. c == sep) xs, refl)
       | false ↦ (x ∷ rest.0, rest.1, ap (onto_first x) rest.2)
     ]

@@ -1,5 +1,7 @@
 -- The canonical text of a table is whole lines, none of which is `end`; and a text is one, or has a first fault.
-use Rattle.std.proofs.Common.{◌≡◌, ◌≢◌, ◌⊎◌, ℕ, zero, suc, ◌+◌, ◌-◌, ◌<◌, ◌≤◌, ◌==◌, ◌||◌, not, Bool, true, false, cond, List, [], ◌∷◌, ◌++◌, codes, length, get_or, Option, Some, None, refl, ap, sym, subst, ◌∙◌, arith, inl, inr, eq-eqb}
+use Rattle.std.proofs.Common.{◌≡◌, ◌≢◌, ◌⊎◌, ℕ, zero, suc, ◌+◌, ◌-◌, ◌<◌, ◌≤◌, ◌==◌, ◌||◌, not, Bool, true, false}
+use Rattle.std.proofs.Common.{cond, List, [], ◌∷◌, ◌++◌, codes, length, get_or, Option, Some, None, refl, ap, sym}
+use Rattle.std.proofs.Common.{subst, ◌∙◌, arith, inl, inr, eq-eqb}
 use Rattle.std.specs.Prelude.{slice_get, All}
 use Rattle.std.specs.List.{flat_map, AllByRecursion, join_with_byte}
 use Rattle.std.proofs.lemmas.Bool.{cases_lt, ne_eqb, eqb-true}
@@ -58,7 +60,9 @@ whole_table t valid =
     let text = table_text t in
     let clean = (complete t text valid refl).0 in
     let ls = whole_lines text in
-    let one : AllByRecursion IsOneLine ls = recursion_from_All IsOneLine ls (All-take IsOneLine (length (pieces_of text) - 1) (pieces_of text) (All-from_recursion IsOneLine (pieces_of text) (one_line_each text))) in
+    let one : AllByRecursion IsOneLine ls =
+    recursion_from_All IsOneLine ls (All-take IsOneLine (length (pieces_of text) - 1) (pieces_of text)
+    (All-from_recursion IsOneLine (pieces_of text) (one_line_each text))) in
     record {
       lines = ls;
       good = both ls one (recursion_from_All (λ l. l ≢ codes "end") ls (no_end_line text clean));

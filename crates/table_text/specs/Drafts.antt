@@ -1,4 +1,4 @@
--- A table while its text is read: what a line adds to it, and what it says of the lines so far.
+-- The code's own: a table while its text is read: what a line adds to it, and what it says of the lines so far.
 use Rattle.std.specs.Prelude.{◌≡◌, ℕ, List, [], ◌∷◌, ◌++◌, map, Option, Some, None, if◌then◌else◌}
 use Rattle.std.specs.List.{fold}
 use Rattle.table_text.specs.Lines.{line_of}

@@ -1,4 +1,4 @@
--- What the names beside a draft say of it.
+-- The code's own: what the names beside a draft say of it.
 use Rattle.table_text.specs.Judged.{Types}
 use Rattle.table_text.specs.Places.{Holds}
 use Rattle.table_text.specs.Drafts.{enum_names, message_names, method_names, names_in, open_part, oneofs_of}

@@ -64,7 +64,7 @@ fn add_parts(message: &mut Message, field: Field, oneof: Option<Name>) -> Result
     }
 }
 
-/// A name is below another, byte by byte.
+// A name is below another, byte by byte.
 fn is_below<'a>(name: &'a [u8], other: &'a [u8]) -> bool
     ensures { result ≡ is_below name.now other.now }
 {

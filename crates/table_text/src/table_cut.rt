@@ -8,7 +8,7 @@ ghost use Rattle.table_text.specs.TableText.{HasTableBehind, IsEndless};
 
 use mrpc_table::cut;
 
-/// The line behind the text of a table.
+// The line behind the text of a table.
 const END: &[u8] = b"end";
 
 /// The text of the table that stands behind the head, up to the first line `end`, and what stands behind that line.

@@ -22,11 +22,13 @@ append_known-more None xs ys = refl
 append_known-more (Some bytes) xs ys = ap Some (append_assoc bytes xs ys)
 
 -- nothing was received, and nothing came
-pub receives-nothing : (came came_now : Option (List ℕ)) (waiting waiting_now : List ℕ) → came_now ≡ came → waiting_now ≡ waiting → Receives [] came waiting came_now waiting_now
+pub receives-nothing : (came came_now : Option (List ℕ)) (waiting waiting_now : List ℕ) → came_now ≡ came
+    → waiting_now ≡ waiting → Receives [] came waiting came_now waiting_now
 receives-nothing came came_now waiting waiting_now c w = ([], c ∙ sym (append_known-nil came), append-nil waiting ∙ sym w)
 
 -- first some bytes came, and then more
-pub receives-more : (came mid now : Option (List ℕ)) (waiting between left : List ℕ) → Receives [] came waiting mid between → Receives [] mid between now left → Receives [] came waiting now left
+pub receives-more : (came mid now : Option (List ℕ)) (waiting between left : List ℕ)
+    → Receives [] came waiting mid between → Receives [] mid between now left → Receives [] came waiting now left
 receives-more came mid now waiting between left first second = (
   first.0 ++ second.0,
   second.1 ∙ ap (λ known. append_known known second.0) first.1 ∙ append_known-more came first.0 second.0,
@@ -37,7 +39,9 @@ pub concat-snoc : (frames : List (List ℕ)) (frame : List ℕ) → concat (fram
 concat-snoc frames frame = concat-append frames (frame ∷ []) ∙ ap (λ bytes. concat frames ++ bytes) (append-nil frame)
 
 -- a frame more was taken, whole
-pub sent-whole : (sent now : Option (List ℕ)) (frames : List (List ℕ)) (frame : List ℕ) → IfSome sent (λ bytes. bytes ≡ concat frames) → now ≡ append_known sent frame → IfSome now (λ bytes. bytes ≡ concat (frames ++ frame ∷ []))
+pub sent-whole : (sent now : Option (List ℕ)) (frames : List (List ℕ)) (frame : List ℕ)
+    → IfSome sent (λ bytes. bytes ≡ concat frames) → now ≡ append_known sent frame
+    → IfSome now (λ bytes. bytes ≡ concat (frames ++ frame ∷ []))
 sent-whole None now frames frame is grew = rw grew tt
 sent-whole (Some bytes) now frames frame is grew = rw grew (ap (λ front. front ++ frame) is ∙ sym (concat-snoc frames frame))
 
@@ -47,19 +51,25 @@ sent-front None frames is = tt
 sent-front (Some bytes) frames is = ([], append-nil (concat frames) ∙ sym is)
 
 -- a part of a frame more was taken
-pub sent-part : (sent now : Option (List ℕ)) (frames : List (List ℕ)) (part : List ℕ) → IfSome sent (λ bytes. bytes ≡ concat frames) → now ≡ append_known sent part → IfSome now (λ bytes. IsPrefix (concat frames) bytes)
+pub sent-part : (sent now : Option (List ℕ)) (frames : List (List ℕ)) (part : List ℕ)
+    → IfSome sent (λ bytes. bytes ≡ concat frames) → now ≡ append_known sent part
+    → IfSome now (λ bytes. IsPrefix (concat frames) bytes)
 sent-part None now frames part is grew = rw grew tt
 sent-part (Some bytes) now frames part is grew = rw grew (part, ap (λ front. front ++ part) (sym is))
 
 -- what came and was received stands in order
-pub came-in-order : (came now : Option (List ℕ)) (pieces : List (List ℕ)) (piece waiting left : List ℕ) → IfSome came (λ bytes. bytes ≡ concat pieces ++ waiting) → Receives piece came waiting now left → IfSome now (λ bytes. bytes ≡ concat (pieces ++ piece ∷ []) ++ left)
+pub came-in-order : (came now : Option (List ℕ)) (pieces : List (List ℕ)) (piece waiting left : List ℕ)
+    → IfSome came (λ bytes. bytes ≡ concat pieces ++ waiting) → Receives piece came waiting now left
+    → IfSome now (λ bytes. bytes ≡ concat (pieces ++ piece ∷ []) ++ left)
 came-in-order None now pieces piece waiting left is (read, grew, moved) = rw grew tt
 came-in-order (Some bytes) now pieces piece waiting left is (read, grew, moved) =
     rw grew (ap (λ front. front ++ read) is ∙ append_assoc (concat pieces) waiting read ∙ ap (λ rest. concat pieces ++ rest) moved
     ∙ sym (append_assoc (concat pieces) piece left) ∙ ap (λ front. front ++ left) (sym (concat-snoc pieces piece)))
 
 -- what came waits behind what waited
-pub came-waits : (came now : Option (List ℕ)) (given waiting left : List ℕ) → IfSome came (λ bytes. bytes ≡ given ++ waiting) → Receives [] came waiting now left → IfSome now (λ bytes. bytes ≡ given ++ left)
+pub came-waits : (came now : Option (List ℕ)) (given waiting left : List ℕ)
+    → IfSome came (λ bytes. bytes ≡ given ++ waiting) → Receives [] came waiting now left
+    → IfSome now (λ bytes. bytes ≡ given ++ left)
 came-waits None now given waiting left is (read, grew, moved) = rw grew tt
 came-waits (Some bytes) now given waiting left is (read, grew, moved) =
     rw grew (ap (λ front. front ++ read) is ∙ append_assoc given waiting read ∙ ap (λ rest. given ++ rest) moved)

@@ -1,4 +1,5 @@
-// The pieces that went one way, one behind another. Only contracts read the list, and it takes no memory.
+//! The pieces that went one way, one behind another. Only contracts read the list, and it takes no memory.
+
 ghost use Rattle.std.specs.Prelude.{◌≡◌, List, [], ◌∷◌, ◌++◌, ℕ};
 ghost use Rattle.std.specs.Borrow.{ftrue};
 

@@ -1,4 +1,5 @@
-// Bytes that were read from a socket before they were asked for.
+//! Bytes that were read from a socket before they were asked for.
+
 ghost use Rattle.std.specs.Prelude.{◌≡◌, ◌≢◌, ◌<◌, ◌≤◌, ◌+◌, [], ◌++◌, ◌==◌, length, min, take, drop};
 ghost use Rattle.mrpc_base.specs.Linking.{OnCame, OnNoneCame};
 ghost use Rattle.tcp_fabric.specs.Link.{Receives};

@@ -1,4 +1,5 @@
-// A socket that is read ahead while it takes no bytes.
+//! A socket that is read ahead while it takes no bytes.
+
 ghost use Rattle.std.specs.Prelude.{◌≡◌, ◌≢◌, ◌<◌, ◌≤◌, [], ◌++◌, length, take, OnOk, IfErr};
 ghost use Rattle.std.specs.Io.KnownBytes.{append_known};
 ghost use Rattle.mrpc_base.specs.Linking.{OnCame, OnNoneCame};

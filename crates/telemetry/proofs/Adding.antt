@@ -1,5 +1,6 @@
 -- Sums of counts, as entries are put in.
-use Rattle.std.proofs.Common.{◌≡◌, ℕ, ◌+◌, ◌<◌, ◌≤◌, ◌^◌, Bool, true, false, List, [], ◌∷◌, Option, Some, None, unwrap_or, option_map, sum_by, refl, ap, sym, ◌∙◌, arith, inl, inr, ◌⊎◌}
+use Rattle.std.proofs.Common.{◌≡◌, ℕ, ◌+◌, ◌<◌, ◌≤◌, ◌^◌, Bool, true, false, List, [], ◌∷◌, Option, Some, None}
+use Rattle.std.proofs.Common.{unwrap_or, option_map, sum_by, refl, ap, sym, ◌∙◌, arith, inl, inr, ◌⊎◌}
 use Rattle.std.specs.List.{AllByRecursion}
 use Rattle.std.specs.List.Sorted.{IsStrictlySortedBy}
 use Rattle.std.specs.Map.{keys_of, lookup, values_of}
@@ -42,11 +43,14 @@ found_or_none f none None = sym none
 found_or_none f none (Some c) = refl
 
 -- the sum after an entry was put in
-pub sum-inserted : (f : Counts → ℕ) → f no_counts ≡ 0 → (es : List (ℕ × Counts)) (k : ℕ) (v : Counts) → IsStrictlySortedBy nat_cmp (keys_of es) → sum_by f (values_of (insert_entry nat_cmp es k v)) + f (counts_in es k) ≡ sum_by f (values_of es) + f v
+pub sum-inserted : (f : Counts → ℕ) → f no_counts ≡ 0 → (es : List (ℕ × Counts)) (k : ℕ) (v : Counts)
+    → IsStrictlySortedBy nat_cmp (keys_of es)
+    → sum_by f (values_of (insert_entry nat_cmp es k v)) + f (counts_in es k) ≡ sum_by f (values_of es) + f v
 sum-inserted f none es k v sorted = rw (← found_or_none f none (lookup (is_at (nat_cmp k)) es)) (sum_by-insert_entry f nat_cmp_total es k v sorted)
 
 -- what one happening more does to the sums
-pub sums-added : (es : List (ℕ × Counts)) (k : ℕ) (what : What) → IsStrictlySortedBy nat_cmp (keys_of es) → sums_of (insert_entry nat_cmp es k (one_more what (counts_in es k))) ≡ one_more what (sums_of es)
+pub sums-added : (es : List (ℕ × Counts)) (k : ℕ) (what : What) → IsStrictlySortedBy nat_cmp (keys_of es)
+    → sums_of (insert_entry nat_cmp es k (one_more what (counts_in es k))) ≡ one_more what (sums_of es)
 sums-added es k Took sorted =
     let t = sum-inserted (λ c. c.took) refl es k (one_more Took (counts_in es k)) sorted in
     let s = sum-inserted (λ c. c.sent) refl es k (one_more Took (counts_in es k)) sorted in

@@ -1,5 +1,7 @@
 -- Totals as the counts of a list of happenings.
-use Rattle.std.proofs.Common.{◌≡◌, ◌≢◌, ℕ, zero, suc, ◌+◌, ◌<◌, ◌==◌, ◌&&◌, true, false, if◌then◌else◌, List, [], ◌∷◌, ◌++◌, sum_by, refl, ap, sym, ◌∙◌, arith, inl, inr, ◌⊎◌, Contains, length, get_or, zero-add, subst}
+use Rattle.std.proofs.Common.{◌≡◌, ◌≢◌, ℕ, zero, suc, ◌+◌, ◌<◌, ◌==◌, ◌&&◌, true, false, if◌then◌else◌, List, [], ◌∷◌}
+use Rattle.std.proofs.Common.{◌++◌, sum_by, refl, ap, sym, ◌∙◌, arith, inl, inr, ◌⊎◌, Contains, length, get_or}
+use Rattle.std.proofs.Common.{zero-add, subst}
 use Rattle.std.specs.List.{AllByRecursion, flat_map}
 use Rattle.std.specs.List.Sorted.{IsStrictlyIncreasing, IsStrictlySortedBy}
 use Rattle.std.specs.Map.{keys_of, values_of}
@@ -96,18 +98,25 @@ later_in : (k m : ℕ) (c : Counts) (rest : List (ℕ × Counts)) → m ≢ k �
 later_in k m c rest ne = rw (is_at-same m k, ne_eqb m k ne) refl
 
 -- the rest of the totals counts the happenings of the other methods
-others_counted : (k : ℕ) (c : Counts) (rest : List (ℕ × Counts)) (hs : List Happened) → IsStrictlySortedBy nat_cmp (keys_of ((k, c) ∷ rest)) → IsCountOf hs ((k, c) ∷ rest) → IsCountOf (others k hs) rest
+others_counted : (k : ℕ) (c : Counts) (rest : List (ℕ × Counts)) (hs : List Happened)
+    → IsStrictlySortedBy nat_cmp (keys_of ((k, c) ∷ rest)) → IsCountOf hs ((k, c) ∷ rest)
+    → IsCountOf (others k hs) rest
 others_counted k c rest hs sorted counted m = elim (bool_cases (m == k)) [
   | inl same ↦
       let e : m ≡ k = eqb-true m k same in
-      rw e (counts-below k c rest sorted ∙ sym (same_counts (counts_of (others k hs) k) no_counts (others-none k Took hs) (others-none k Sent hs) (others-none k Refused hs) (others-none k Standing hs)))
+      rw e (counts-below k c rest sorted
+      ∙ sym (same_counts (counts_of (others k hs) k) no_counts (others-none k Took hs) (others-none k Sent hs)
+      (others-none k Refused hs) (others-none k Standing hs)))
   | inr other ↦
       let ne = eqb-false m k other in
       sym (later_in k m c rest ne) ∙ counted m
-      ∙ sym (same_counts (counts_of (others k hs) m) (counts_of hs m) (others-same k m Took hs ne) (others-same k m Sent hs ne) (others-same k m Refused hs ne) (others-same k m Standing hs ne))
+      ∙ sym (same_counts (counts_of (others k hs) m) (counts_of hs m) (others-same k m Took hs ne)
+      (others-same k m Sent hs ne) (others-same k m Refused hs ne) (others-same k m Standing hs ne))
 ]
 
-sum_is_count : (w : What) (hs : List Happened) (totals : List (ℕ × Counts)) → IsStrictlySortedBy nat_cmp (keys_of totals) → IsCountOf hs totals → sum_by (number_of w) (values_of totals) ≡ count_all hs w
+sum_is_count : (w : What) (hs : List Happened) (totals : List (ℕ × Counts))
+    → IsStrictlySortedBy nat_cmp (keys_of totals) → IsCountOf hs totals
+    → sum_by (number_of w) (values_of totals) ≡ count_all hs w
 sum_is_count w hs [] sorted counted = rw (empty_of_none hs counted) refl
 sum_is_count w hs ((k, c) ∷ rest) sorted counted =
     let here : number_of w c ≡ count_of hs k w = ap (number_of w) (sym (first_in k c rest) ∙ counted k) ∙ number-counts_of w hs k in
@@ -121,7 +130,10 @@ sum_is_count w hs ((k, c) ∷ rest) sorted counted =
 
 pub sums_count : SumsCount
 sums_count happened totals sound counted =
-    same_counts _ _ (sum_is_count Took happened totals sound.ascends counted) (sum_is_count Sent happened totals sound.ascends counted) (sum_is_count Refused happened totals sound.ascends counted) (sum_is_count Standing happened totals sound.ascends counted)
+    same_counts _ _ (sum_is_count Took happened totals sound.ascends counted)
+    (sum_is_count Sent happened totals sound.ascends counted)
+    (sum_is_count Refused happened totals sound.ascends counted)
+    (sum_is_count Standing happened totals sound.ascends counted)
 
 -- the methods of which a call was taken
 abbrev pub taken : List (ℕ × Counts) → List ℕ
@@ -140,7 +152,8 @@ lines_taken g (e ∷ es) agree = elim (bool_cases (e.1.took == 0)) [
 above : (k y : ℕ) → nat_cmp k y ≡ Less → k < y
 above k y less = grind arith
 
-agree_more : (k : ℕ) (c : Counts) (es xs : List (ℕ × Counts)) → AllByRecursion (λ y. nat_cmp k y ≡ Less) (keys_of xs) → AllByRecursion (λ e. counts_in es e.0 ≡ e.1) xs → AllByRecursion (λ e. counts_in ((k, c) ∷ es) e.0 ≡ e.1) xs
+agree_more : (k : ℕ) (c : Counts) (es xs : List (ℕ × Counts)) → AllByRecursion (λ y. nat_cmp k y ≡ Less) (keys_of xs)
+    → AllByRecursion (λ e. counts_in es e.0 ≡ e.1) xs → AllByRecursion (λ e. counts_in ((k, c) ∷ es) e.0 ≡ e.1) xs
 agree_more k c es [] below agree = tt
 agree_more k c es (x ∷ xs) below agree = (later_in k x.0 c es (let lt = above k x.0 below.0 in λ e. omega arith) ∙ agree.0, agree_more k c es xs below.1 agree.1)
 
@@ -150,7 +163,8 @@ unfolding IsStrictlySortedBy
 agree_all [] sorted = tt
 agree_all ((k, c) ∷ es) sorted = (first_in k c es, agree_more k c es es sorted.0 (agree_all es sorted.1))
 
-counted_all : (hs : List Happened) (es xs : List (ℕ × Counts)) → IsCountOf hs es → AllByRecursion (λ e. counts_in es e.0 ≡ e.1) xs → AllByRecursion (λ e. counts_of hs e.0 ≡ e.1) xs
+counted_all : (hs : List Happened) (es xs : List (ℕ × Counts)) → IsCountOf hs es
+    → AllByRecursion (λ e. counts_in es e.0 ≡ e.1) xs → AllByRecursion (λ e. counts_of hs e.0 ≡ e.1) xs
 counted_all hs es [] counted agree = tt
 counted_all hs es (x ∷ xs) counted agree = (sym (counted x.0) ∙ agree.0, counted_all hs es xs counted agree.1)
 

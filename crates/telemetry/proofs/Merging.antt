@@ -1,5 +1,6 @@
 -- Totals that are added up, entry by entry.
-use Rattle.std.proofs.Common.{◌≡◌, ℕ, ◌+◌, ◌≤◌, ◌==◌, Bool, true, false, if◌then◌else◌, cond, List, [], ◌∷◌, Option, Some, unwrap_or, refl, ap, sym, ◌∙◌, arith, inl, inr, ◌⊎◌}
+use Rattle.std.proofs.Common.{◌≡◌, ℕ, ◌+◌, ◌≤◌, ◌==◌, Bool, true, false, if◌then◌else◌, cond, List, [], ◌∷◌, Option}
+use Rattle.std.proofs.Common.{Some, unwrap_or, refl, ap, sym, ◌∙◌, arith, inl, inr, ◌⊎◌}
 use Rattle.std.proofs.lemmas.Bool.{eqb-true}
 use Rattle.std.specs.List.Sorted.{IsStrictlySortedBy}
 use Rattle.std.specs.Map.{keys_of, values_of}
@@ -21,9 +22,12 @@ pub begin : (counts others : List (ℕ × Counts)) → IsStrictlySortedBy nat_cm
 begin counts others sorted left = record { each = λ m. refl; sums = refl; ascends = sorted; left_ascends = left }
 
 -- the sums of two counts that are both there fit
-pub sum_fits : (counts others merged rest : List (ℕ × Counts)) (k : ℕ) (c : Counts) → IsMerging counts others merged ((k, c) ∷ rest) → IsSmall (plus (sums_of counts) (sums_of others)) → IsSmall (plus (counts_in merged k) c)
+pub sum_fits : (counts others merged rest : List (ℕ × Counts)) (k : ℕ) (c : Counts)
+    → IsMerging counts others merged ((k, c) ∷ rest) → IsSmall (plus (sums_of counts) (sums_of others))
+    → IsSmall (plus (counts_in merged k) c)
 sum_fits counts others merged rest k c merging small =
-    let sums : plus (sums_of merged) (plus c (sums_of rest)) ≡ plus (sums_of counts) (sums_of others) = ap (λ s. plus (sums_of merged) s) (sym (sum_counts-cons c (values_of rest))) ∙ merging.sums in
+    let sums : plus (sums_of merged) (plus c (sums_of rest)) ≡ plus (sums_of counts) (sums_of others) =
+    ap (λ s. plus (sums_of merged) s) (sym (sum_counts-cons c (values_of rest))) ∙ merging.sums in
     let took : (sums_of merged).took + (c.took + (sums_of rest).took) ≡ (sums_of counts).took + (sums_of others).took = ap (λ (s : Counts). s.took) sums in
     let took_in : (counts_in merged k).took ≤ (sums_of merged).took = in-le-sum (λ s. s.took) refl merged k in
     let sent : (sums_of merged).sent + (c.sent + (sums_of rest).sent) ≡ (sums_of counts).sent + (sums_of others).sent = ap (λ (s : Counts). s.sent) sums in
@@ -35,7 +39,8 @@ sum_fits counts others merged rest k c merging small =
     record { took = omega (arith, small.took); sent = omega (arith, small.sent); refused = omega (arith, small.refused); standing = omega (arith, small.standing) }
 
 -- the sums after an entry's counts were added
-sums-merged : (merged : List (ℕ × Counts)) (k : ℕ) (c : Counts) → IsStrictlySortedBy nat_cmp (keys_of merged) → sums_of (insert_entry nat_cmp merged k (plus (counts_in merged k) c)) ≡ plus (sums_of merged) c
+sums-merged : (merged : List (ℕ × Counts)) (k : ℕ) (c : Counts) → IsStrictlySortedBy nat_cmp (keys_of merged)
+    → sums_of (insert_entry nat_cmp merged k (plus (counts_in merged k) c)) ≡ plus (sums_of merged) c
 sums-merged merged k c sorted =
     let t = sum-inserted (λ s. s.took) refl merged k (plus (counts_in merged k) c) sorted in
     let s = sum-inserted (λ s. s.sent) refl merged k (plus (counts_in merged k) c) sorted in
@@ -53,7 +58,9 @@ pub merge_more : (counts others merged rest fresh : List (ℕ × Counts)) (k : �
     → IsMerging counts others fresh rest
 merge_more counts others merged rest fresh k c merging is sorted at = record {
   each = λ m. each_more m (bool_cases (m == k));
-  sums = ap (λ s. plus s (sums_of rest)) (ap sums_of is ∙ sums-merged merged k c merging.ascends) ∙ plus-assoc (sums_of merged) c (sums_of rest) ∙ ap (λ s. plus (sums_of merged) s) (sym (sum_counts-cons c (values_of rest))) ∙ merging.sums;
+  sums = ap (λ s. plus s (sums_of rest)) (ap sums_of is ∙ sums-merged merged k c merging.ascends)
+      ∙ plus-assoc (sums_of merged) c (sums_of rest) ∙ ap (λ s. plus (sums_of merged) s)
+      (sym (sum_counts-cons c (values_of rest))) ∙ merging.sums;
   ascends = sorted;
   left_ascends = sorted-tail (k, c) rest merging.left_ascends;
 }
@@ -70,7 +77,9 @@ merge_more counts others merged rest fresh k c merging is sorted at = record {
         let later : counts_in ((k, c) ∷ rest) m ≡ counts_in rest m = rw (is_at-same m k, other) refl in
         rw here (rw later at (merging.each m))
 
-pub merge_done : (counts others merged : List (ℕ × Counts)) → IsMerging counts others merged [] → ((m : ℕ) → counts_in merged m ≡ plus (counts_in counts m) (counts_in others m)) × (sums_of merged ≡ plus (sums_of counts) (sums_of others))
+pub merge_done : (counts others merged : List (ℕ × Counts)) → IsMerging counts others merged []
+    → ((m : ℕ) → counts_in merged m ≡ plus (counts_in counts m) (counts_in others m))
+    × (sums_of merged ≡ plus (sums_of counts) (sums_of others))
 merge_done counts others merged merging =
     (λ m. sym (plus-none (counts_in merged m)) ∙ merging.each m, sym (plus-none (sums_of merged)) ∙ merging.sums)
 

@@ -6,10 +6,18 @@ use Rattle.telemetry.specs.Counts.{Happened, all_counts, counts_of, no_counts}
 use Rattle.telemetry.specs.Totals.{counts_in, entry_line, method_line, sums_of}
 
 abbrev happened : List Happened
-happened = record { method = 700; what = Took } ∷ record { method = 3; what = Took } ∷ record { method = 700; what = Refused } ∷ record { method = 9; what = Sent } ∷ record { method = 3; what = Took } ∷ record { method = 3; what = Standing } ∷ []
+happened = record { method = 700; what = Took } ∷ record { method = 3; what = Took } ∷ record {
+  method = 700;
+  what = Refused;
+} ∷ record { method = 9; what = Sent } ∷ record { method = 3; what = Took } ∷ record {
+  method = 3;
+  what = Standing;
+} ∷ []
 
 abbrev totals : List (ℕ × Counts)
-totals = (3, record { took = 2; sent = 0; refused = 0; standing = 1 }) ∷ (9, record { took = 0; sent = 1; refused = 0; standing = 0 }) ∷ (700, record { took = 1; sent = 0; refused = 1; standing = 0 }) ∷ []
+totals = (3, record { took = 2; sent = 0; refused = 0; standing = 1 })
+    ∷ (9, record { took = 0; sent = 1; refused = 0; standing = 0 })
+    ∷ (700, record { took = 1; sent = 0; refused = 1; standing = 0 }) ∷ []
 
 of_700 : counts_of happened 700 ≡ record { took = 1; sent = 0; refused = 1; standing = 0 }
 of_700 = refl

@@ -70,13 +70,15 @@ module _ (last : Drawing) where
     one_joined (s ∷ seats) [] are is = ap (λ x. x ∷ seats) (is_together ∙ ap (λ x. together x last) is) ∙ ap (λ l. together s last ∷ l) (sym (none_joined seats))
     one_joined (s ∷ seats) (o ∷ others) are is = ap (λ l. together s o ∷ l) (one_joined seats others are.1 is)
 
-    pub rest_are_of : (seats others : List Drawing) → AreOfQuotas seats (others ++ last ∷ []) → d ≡ slice_index_or seats (length others) d → AreOfQuotas (slice_set seats (length others) new) others
+    pub rest_are_of : (seats others : List Drawing) → AreOfQuotas seats (others ++ last ∷ [])
+        → d ≡ slice_index_or seats (length others) d → AreOfQuotas (slice_set seats (length others) new) others
     rest_are_of [] [] are is = absurd are
     rest_are_of [] (o ∷ others) are is = absurd are
     rest_are_of (s ∷ seats) [] are is = tt
     rest_are_of (s ∷ seats) (o ∷ others) are is = (are.0, rest_are_of seats others are.1 is)
 
-    pub all_stay : (P : Drawing → Type 0) → (P d → P new) → (seats : List Drawing) (t : ℕ) → t < length seats → d ≡ slice_index_or seats t d → All P seats → All P (slice_set seats t new)
+    pub all_stay : (P : Drawing → Type 0) → (P d → P new) → (seats : List Drawing) (t : ℕ) → t < length seats
+        → d ≡ slice_index_or seats t d → All P seats → All P (slice_set seats t new)
     all_stay P keeps [] t inside is all = absurd (omega (arith, inside))
     all_stay P keeps (s ∷ seats) zero inside is all = All-cons P new seats (keeps (subst P (sym is) (All-head P s seats all))) (All-tail P s seats all)
     all_stay P keeps (s ∷ seats) (suc t) inside is all = All-cons P s _ (All-head P s seats all) (all_stay P keeps seats t (omega (arith, inside)) is (All-tail P s seats all))

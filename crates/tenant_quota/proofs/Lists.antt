@@ -9,7 +9,8 @@ use lib.ListN.{get_elem?}
 module _ {V : Type 0} where
   module _ (f : V → List ℕ) where
     -- a seat's tickets become more
-    pub out_more : (views : List V) (seat : ℕ) (v w : V) (more : List ℕ) → get_elem? views seat ≡ some v → f w ≡ f v ++ more → IsPermutation (flat_map f views ++ more) (flat_map f (set views seat w))
+    pub out_more : (views : List V) (seat : ℕ) (v w : V) (more : List ℕ) → get_elem? views seat ≡ some v
+        → f w ≡ f v ++ more → IsPermutation (flat_map f views ++ more) (flat_map f (set views seat w))
     out_more [] seat v w more at e = absurd (some-ne-none v (sym at))
     out_more (x ∷ xs) zero v w more at e =
         let here : f w ≡ f x ++ more = e ∙ ap (λ y. f y ++ more) (sym (some-injective x v at)) in
@@ -26,7 +27,8 @@ module _ {V : Type 0} where
     out_nothing (x ∷ xs) none = ap (λ l. l ++ flat_map f xs) (none zero x refl) ∙ out_nothing xs (λ j v e. none (suc j) v e)
 
     -- where no other seat has tickets
-    pub out_alone : (views : List V) (seat : ℕ) (v : V) → get_elem? views seat ≡ some v → ((j : ℕ) (u : V) → get_elem? views j ≡ some u → j ≢ seat → f u ≡ []) → flat_map f views ≡ f v
+    pub out_alone : (views : List V) (seat : ℕ) (v : V) → get_elem? views seat ≡ some v
+        → ((j : ℕ) (u : V) → get_elem? views j ≡ some u → j ≢ seat → f u ≡ []) → flat_map f views ≡ f v
     out_alone [] seat v at others = absurd (some-ne-none v (sym at))
     out_alone (x ∷ xs) zero v at others =
         ap (λ l. f x ++ l) (out_nothing xs (λ j u e. others (suc j) u e (λ h. omega arith))) ∙ append-nil (f x) ∙ ap f (some-injective x v at)
@@ -53,7 +55,8 @@ module _ {V : Type 0} where
         (f x + r.0, omega (arith, e, c))
 
     -- where one seat has all, the others have none
-    pub others_none : (views : List V) (seat : ℕ) (v : V) → get_elem? views seat ≡ some v → f v ≡ sum_by f views → (j : ℕ) (u : V) → get_elem? views j ≡ some u → j ≢ seat → f u ≡ 0
+    pub others_none : (views : List V) (seat : ℕ) (v : V) → get_elem? views seat ≡ some v → f v ≡ sum_by f views
+        → (j : ℕ) (u : V) → get_elem? views j ≡ some u → j ≢ seat → f u ≡ 0
     others_none [] seat v at all j u there apart = absurd (some-ne-none v (sym at))
     others_none (x ∷ xs) zero v at all zero u there apart = absurd (apart refl)
     others_none (x ∷ xs) zero v at all (suc j) u there apart =

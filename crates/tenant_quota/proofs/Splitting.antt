@@ -1,5 +1,6 @@
 -- Seats of a list of which some first ones were split.
-use Rattle.std.proofs.Common.{◌≡◌, ℕ, zero, suc, ◌+◌, ◌-◌, ◌/◌, ◌<◌, ◌≤◌, List, [], ◌∷◌, ◌++◌, length, map, All, refl, sym, ap, ◌∙◌, subst, append-nil, arith}
+use Rattle.std.proofs.Common.{◌≡◌, ℕ, zero, suc, ◌+◌, ◌-◌, ◌/◌, ◌<◌, ◌≤◌, List, [], ◌∷◌, ◌++◌, length, map, All, refl}
+use Rattle.std.proofs.Common.{sym, ap, ◌∙◌, subst, append-nil, arith}
 use Rattle.std.specs.Prelude.{slice_index_or, slice_set}
 use Rattle.std.proofs.lemmas.List.Elements.{All-nil, All-cons, All-head, All-tail}
 use Rattle.tenant_quota.specs.Drawing.{Drawing, kept_half, new_half, together, all_together}
@@ -20,12 +21,14 @@ next_is zero seats d is = is
 next_is (suc n) [] d is = is
 next_is (suc n) (s ∷ seats) d is = next_is n seats d is
 
-pub one_split : (n : ℕ) (seats : List Drawing) (d new : Drawing) → n < length seats → d ≡ slice_index_or seats n d → new ≡ kept_half d → slice_set (split_front n seats) n new ≡ split_front (suc n) seats
+pub one_split : (n : ℕ) (seats : List Drawing) (d new : Drawing) → n < length seats → d ≡ slice_index_or seats n d
+    → new ≡ kept_half d → slice_set (split_front n seats) n new ≡ split_front (suc n) seats
 one_split n [] d new inside at is = absurd (omega (arith, inside))
 one_split zero (s ∷ seats) d new inside at is = ap (λ x. x ∷ seats) (is ∙ ap kept_half at)
 one_split (suc n) (s ∷ seats) d new inside at is = ap (λ l. kept_half s ∷ l) (one_split n seats d new (omega (arith, inside)) at is)
 
-pub one_half : (n : ℕ) (seats : List Drawing) (d half : Drawing) → n < length seats → d ≡ slice_index_or seats n d → half ≡ new_half d → halves_of n seats ++ half ∷ [] ≡ halves_of (suc n) seats
+pub one_half : (n : ℕ) (seats : List Drawing) (d half : Drawing) → n < length seats → d ≡ slice_index_or seats n d
+    → half ≡ new_half d → halves_of n seats ++ half ∷ [] ≡ halves_of (suc n) seats
 one_half n [] d half inside at is = absurd (omega (arith, inside))
 one_half zero (s ∷ seats) d half inside at is = ap (λ x. x ∷ []) (is ∙ ap new_half at)
 one_half (suc n) (s ∷ seats) d half inside at is = ap (λ l. new_half s ∷ l) (one_half n seats d half (omega (arith, inside)) at is)

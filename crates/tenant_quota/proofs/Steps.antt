@@ -1,5 +1,7 @@
 -- Each step keeps the rule of a quota.
-use Rattle.std.proofs.Common.{◌≡◌, ◌≢◌, ℕ, zero, suc, ◌+◌, ◌-◌, ◌/◌, ◌%◌, ◌^◌, ◌<◌, ◌≤◌, ◌⊎◌, inl, inr, ⊎_elim, List, [], ◌∷◌, ◌++◌, length, set, get_or, replicate, refl, sym, ap, ◌∙◌, subst, append-nil, length-set, arith}
+use Rattle.std.proofs.Common.{◌≡◌, ◌≢◌, ℕ, zero, suc, ◌+◌, ◌-◌, ◌/◌, ◌%◌, ◌^◌, ◌<◌, ◌≤◌, ◌⊎◌, inl, inr, ⊎_elim, List}
+use Rattle.std.proofs.Common.{[], ◌∷◌, ◌++◌, length, set, get_or, replicate, refl, sym, ap, ◌∙◌, subst, append-nil}
+use Rattle.std.proofs.Common.{length-set, arith}
 use Rattle.std.specs.Prelude.{IsPermutation, flat_map}
 use Rattle.std.proofs.lemmas.List.{set-set, set_comm}
 use Rattle.std.proofs.lemmas.List.Concat.{flat_map-append}
@@ -65,8 +67,11 @@ get_set_else (x ∷ xs) zero (suc j) n h = refl
 get_set_else (x ∷ xs) (suc i) zero n h = refl
 get_set_else (x ∷ xs) (suc i) (suc j) n h = get_set_else xs i j n (λ e. h (ap suc e))
 
-fits_set : (windows : ℕ) (views : List View) (id : ℕ) (w : View) → Fits windows w → ((j : ℕ) (u : View) → get_elem? views j ≡ some u → Fits windows u) → (j : ℕ) (u : View) → get_elem? (set views id w) j ≡ some u → Fits windows u
-fits_set windows views id w new old j u e = ⊎_elim (λ (x : (j ≡ id) × (w ≡ u)). subst (Fits windows) x.1 new) (λ (x : (j ≢ id) × (get_elem? views j ≡ some u)). old j u x.1) (at_set views id j w u e)
+fits_set : (windows : ℕ) (views : List View) (id : ℕ) (w : View) → Fits windows w
+    → ((j : ℕ) (u : View) → get_elem? views j ≡ some u → Fits windows u) → (j : ℕ) (u : View)
+    → get_elem? (set views id w) j ≡ some u → Fits windows u
+fits_set windows views id w new old j u e = ⊎_elim (λ (x : (j ≡ id) × (w ≡ u)). subst (Fits windows) x.1 new)
+    (λ (x : (j ≢ id) × (get_elem? views j ≡ some u)). old j u x.1) (at_set views id j w u e)
 
 there : (views : List View) (id : ℕ) (v w : View) → get_elem? views id ≡ some v → get_elem? (set views id w) id ≡ some w
 there [] id v w e = absurd (some-ne-none v (sym e))
@@ -82,7 +87,8 @@ module _ (windows slots id i : ℕ) (me : Seated) (shares : 1 ≤ me.0.share) (i
   drawn_word s h at window within (inl same) =
       let n = get_or s.words i 0 in
       let f : View → List ℕ = λ u. tickets_in i u.draws in
-      let here : tickets_in i (me.0.draws ++ (i, n) ∷ []) ≡ tickets_in i me.0.draws ++ n ∷ [] = tickets-append i me.0.draws ((i, n) ∷ []) ∙ ap (λ l. tickets_in i me.0.draws ++ l) (ticket_here i n) in
+      let here : tickets_in i (me.0.draws ++ (i, n) ∷ []) ≡ tickets_in i me.0.draws ++ n ∷ [] =
+      tickets-append i me.0.draws ((i, n) ∷ []) ∙ ap (λ l. tickets_in i me.0.draws ++ l) (ticket_here i n) in
       let moved = out_more f s.views id me.0 (drew me.0 i n) (n ∷ []) at here in
       let more = counts_more n (tickets_out i s.views) (h.words i inside) in
       subst (λ w. Counts (get_or (set s.words i ((n + 1) % 2 ^ 64)) w 0) (tickets_out w (set s.views id (drew me.0 i n)))) (sym same)
@@ -91,7 +97,9 @@ module _ (windows slots id i : ℕ) (me : Seated) (shares : 1 ≤ me.0.share) (i
   drawn_word s h at window within (inr apart) =
       let n = get_or s.words i 0 in
       let f : View → List ℕ = λ u. tickets_in window u.draws in
-      let here : tickets_in window (me.0.draws ++ (i, n) ∷ []) ≡ tickets_in window me.0.draws ++ [] = tickets-append window me.0.draws ((i, n) ∷ []) ∙ ap (λ l. tickets_in window me.0.draws ++ l) (ticket_elsewhere window i n (λ e. apart (sym e))) in
+      let here : tickets_in window (me.0.draws ++ (i, n) ∷ []) ≡ tickets_in window me.0.draws ++ [] =
+      tickets-append window me.0.draws ((i, n) ∷ []) ∙ ap (λ l. tickets_in window me.0.draws ++ l)
+      (ticket_elsewhere window i n (λ e. apart (sym e))) in
       let moved = out_more f s.views id me.0 (drew me.0 i n) [] at here in
       let old = subst (Counts (get_or s.words window 0)) (sym (append-nil (tickets_out window s.views))) (h.words window within) in
       subst (λ w. Counts w (tickets_out window (set s.views id (drew me.0 i n)))) (sym (get_set_else s.words i window ((n + 1) % 2 ^ 64) apart))
@@ -149,7 +157,8 @@ splits_it windows id v two s h at =
     }
 
 -- a seat's tickets are gone
-out_less : (f : View → List ℕ) (views : List View) (seat : ℕ) (u : View) → get_elem? views seat ≡ some u → f nobody ≡ [] → IsPermutation (flat_map f views) (flat_map f (set views seat nobody) ++ f u)
+out_less : (f : View → List ℕ) (views : List View) (seat : ℕ) (u : View) → get_elem? views seat ≡ some u
+    → f nobody ≡ [] → IsPermutation (flat_map f views) (flat_map f (set views seat nobody) ++ f u)
 out_less f views seat u at empty =
     let back : set (set views seat nobody) seat u ≡ views = set-set views seat nobody u ∙ set_again views seat u at in
     let more = out_more f (set views seat nobody) seat nobody u (f u) (there views seat u nobody at) (ap (λ l. l ++ f u) (sym empty)) in
@@ -184,7 +193,14 @@ settles_it windows slots id i me s h sized at fits =
     let n = get_or s.words i 0 in
     let words : set s.words i n ≡ s.words = set_own s.words i in
     let views : set s.views id me.0 ≡ s.views = set_again s.views id me.0 at in
-    let kept : IsQuota windows (stepped s i n id me.1 me.0 keeps) = subst (λ (x : List ℕ × List View). IsQuota windows (record { words = x.0; homes = s.homes; views = x.1 })) (λ k. (sym words k, sym views k)) (record { sized = h.sized; words = h.words; shares = h.shares; seats = h.seats }) in
+    let kept : IsQuota windows (stepped s i n id me.1 me.0 keeps) =
+    subst (λ (x : List ℕ × List View). IsQuota windows (record { words = x.0; homes = s.homes; views = x.1 }))
+    (λ k. (sym words k, sym views k)) (record {
+      sized = h.sized;
+      words = h.words;
+      shares = h.shares;
+      seats = h.seats;
+    }) in
     (me.0, keeps, tt, kept, record { same = refl; told = told windows id s h me.0 at })
 
 pub told_nothing : (windows share : ℕ) → Told (record { windows = windows; draws = []; share = share })

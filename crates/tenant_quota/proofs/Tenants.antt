@@ -10,15 +10,19 @@ module _ (window ticket : ℕ) (d new : Drawing) (drew : new.draws ≡ d.draws +
       ∙ ap (λ (y : Drawing). tickets_in window y.draws ++ ticket ∷ []) is
 
   same : (x : Drawing) → d ≡ x → (w : ℕ) → w ≢ window → tickets_in w new.draws ≡ tickets_in w x.draws
-  same x is w apart = ap (tickets_in w) drew ∙ tickets-append w d.draws ((window, ticket) ∷ []) ∙ ap (λ l. tickets_in w d.draws ++ l) (ticket_elsewhere w window ticket (λ e. apart (sym e)))
+  same x is w apart = ap (tickets_in w) drew ∙ tickets-append w d.draws ((window, ticket) ∷ [])
+      ∙ ap (λ l. tickets_in w d.draws ++ l) (ticket_elsewhere w window ticket (λ e. apart (sym e)))
       ∙ append-nil (tickets_in w d.draws) ∙ ap (λ (y : Drawing). tickets_in w y.draws) is
 
-  pub tenant_more : (seats : List Drawing) (t : ℕ) → t < length seats → d ≡ slice_index_or seats t d → IfSome (drawn_by (slice_set seats t new) t window) (λ tickets. IsSomeAnd (drawn_by seats t window) (λ before. tickets ≡ before ++ ticket ∷ []))
+  pub tenant_more : (seats : List Drawing) (t : ℕ) → t < length seats → d ≡ slice_index_or seats t d
+      → IfSome (drawn_by (slice_set seats t new) t window)
+      (λ tickets. IsSomeAnd (drawn_by seats t window) (λ before. tickets ≡ before ++ ticket ∷ []))
   tenant_more [] t inside is = absurd (omega (arith, inside))
   tenant_more (x ∷ xs) zero inside is = more x is
   tenant_more (x ∷ xs) (suc t) inside is = tenant_more xs t (omega (arith, inside)) is
 
-  pub tenant_others : (seats : List Drawing) (t : ℕ) → d ≡ slice_index_or seats t d → (j w : ℕ) → (j ≢ t) ⊎ (w ≢ window) → drawn_by (slice_set seats t new) j w ≡ drawn_by seats j w
+  pub tenant_others : (seats : List Drawing) (t : ℕ) → d ≡ slice_index_or seats t d → (j w : ℕ)
+      → (j ≢ t) ⊎ (w ≢ window) → drawn_by (slice_set seats t new) j w ≡ drawn_by seats j w
   tenant_others [] t is j w apart = refl
   tenant_others (x ∷ xs) zero is zero w (inl off) = absurd (off refl)
   tenant_others (x ∷ xs) zero is zero w (inr off) = ap Some (same x is w off)

@@ -14,7 +14,8 @@ halves_together (s ∷ seats) = ap (λ x. x ∷ all_together (map kept_half seat
 some_is : {X : Type 0} (x y : X) → Some x ≡ Some y → x ≡ y
 some_is x y e = cc
 
-pub drawn_together : (seats others : List Drawing) (tenant window : ℕ) (mine theirs : List ℕ) → drawn_by seats tenant window ≡ Some mine → drawn_by others tenant window ≡ Some theirs
+pub drawn_together : (seats others : List Drawing) (tenant window : ℕ) (mine theirs : List ℕ)
+    → drawn_by seats tenant window ≡ Some mine → drawn_by others tenant window ≡ Some theirs
     → drawn_by (all_together seats others) tenant window ≡ Some (mine ++ theirs)
 drawn_together [] others tenant window mine theirs e f = absurd (cc)
 drawn_together (s ∷ seats) [] tenant window mine theirs e f = absurd (cc)
@@ -53,7 +54,8 @@ tail_is x y xs ys e = cc
 first_is : {X : Type 0} (x y : X) (xs ys : List X) → x ∷ xs ≡ y ∷ ys → x ≡ y
 first_is x y xs ys e = cc
 
-pub both_shares : (old new others later : List Drawing) → shares_of new ≡ shares_of old → shares_of later ≡ shares_of others → shares_of (all_together new later) ≡ shares_of (all_together old others)
+pub both_shares : (old new others later : List Drawing) → shares_of new ≡ shares_of old
+    → shares_of later ≡ shares_of others → shares_of (all_together new later) ≡ shares_of (all_together old others)
 both_shares [] [] others later s t = refl
 both_shares [] (y ∷ new) others later s t = absurd (cc)
 both_shares (x ∷ old) [] others later s t = absurd (cc)
@@ -91,4 +93,6 @@ all_once_more times (s ∷ seats) all =
 pub all_enough : (times : ℕ) (seats : List Drawing) → All (λ seat. WasSplit times seat.share) seats → times < 64 → All (λ seat. 2 ≤ seat.share) seats
 all_enough times [] all few = All-nil (λ seat. 2 ≤ seat.share)
 all_enough times (s ∷ seats) all few =
-    All-cons (λ seat. 2 ≤ seat.share) s seats (enough times s.share (All-head (λ seat. WasSplit times seat.share) s seats all) few) (all_enough times seats (All-tail (λ seat. WasSplit times seat.share) s seats all) few)
+    All-cons (λ seat. 2 ≤ seat.share) s seats
+    (enough times s.share (All-head (λ seat. WasSplit times seat.share) s seats all) few)
+    (all_enough times seats (All-tail (λ seat. WasSplit times seat.share) s seats all) few)

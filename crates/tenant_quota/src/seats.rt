@@ -12,9 +12,15 @@ use std::alloc::{AllocError, Global};
 use std::marker::Model;
 
 /// Seats of the quotas of tenants, one for each, which are numbered from 0. Contracts see it as the list of its seats.
-#[derive(Drop)]
 pub struct Seats {
     seats: Vec<Seat>,
+}
+
+// By hand, so that a drop is one call where it is needed, and not a drop of each part.
+impl Drop for Seats {
+    fn drop(self) {
+        let Seats { seats: _seats } = self;
+    }
 }
 
 impl Model for Seats {
@@ -93,7 +99,8 @@ impl Seats {
     pub fn into_vec(self) -> Vec<Seat>
         ensures { result.items ≡ self }
     {
-        self.seats
+        let Seats { seats } = self;
+        seats
     }
 
     /// The law of tickets: of each seat that has all shares of its quota, the tickets of each window are 0, 1, 2 and so

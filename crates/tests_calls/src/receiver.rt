@@ -143,7 +143,7 @@ impl Scene {
 
     /// How many bytes lie in no whole frame.
     pub fn rest(&self) -> u64 {
-        self.inbound.rest()
+        self.inbound.left_over()
     }
 
     // The policy of a line.

@@ -1,5 +1,7 @@
 -- Rows by ascending connection.
-use Rattle.std.proofs.Common.{◌≡◌, ◌≢◌, ℕ, zero, suc, ◌+◌, ◌-◌, ◌<◌, ◌≤◌, ◌==◌, ◌&&◌, Bool, true, false, not, cond, List, [], ◌∷◌, ◌++◌, length, get_or, take, drop, map, filter, refl, ap, sym, subst, ◌∙◌, arith, ◌⊎◌, inl, inr, append-nil, append_assoc, length-drop, Result, Ok, Err, IfOk}
+use Rattle.std.proofs.Common.{◌≡◌, ◌≢◌, ℕ, zero, suc, ◌+◌, ◌-◌, ◌<◌, ◌≤◌, ◌==◌, ◌&&◌, Bool, true, false, not, cond}
+use Rattle.std.proofs.Common.{List, [], ◌∷◌, ◌++◌, length, get_or, take, drop, map, filter, refl, ap, sym, subst, ◌∙◌}
+use Rattle.std.proofs.Common.{arith, ◌⊎◌, inl, inr, append-nil, append_assoc, length-drop, Result, Ok, Err, IfOk}
 use Rattle.std.specs.List.{AllByRecursion}
 use Rattle.std.specs.List.Sorted.{ties, IsNonDecreasingBy, IsStableByKey}
 use Rattle.std.specs.Ordering.{nat_cmp, is_lt}
@@ -22,7 +24,9 @@ of-append : (c : ℕ) (xs ys : List Happening) → of_connection c (xs ++ ys) �
 of-append c [] ys = refl
 of-append c (x ∷ xs) ys =
     ap (λ (zs : List Told). cond (x.conn == c) (x.what ∷ zs) zs) (of-append c xs ys)
-    ∙ elim (x.conn == c) as (λ b. cond b (x.what ∷ (of_connection c xs ++ of_connection c ys)) (of_connection c xs ++ of_connection c ys) ≡ cond b (x.what ∷ of_connection c xs) (of_connection c xs) ++ of_connection c ys) [ true ↦ refl | false ↦ refl ]
+    ∙ elim (x.conn == c) as (λ b. cond b (x.what ∷ (of_connection c xs ++ of_connection c ys))
+    (of_connection c xs ++ of_connection c ys) ≡ cond b (x.what ∷ of_connection c xs) (of_connection c xs)
+    ++ of_connection c ys) [ true ↦ refl | false ↦ refl ]
 
 abbrev Only : ℕ → List Happening → Type 0
 Only c hs = AllByRecursion (λ h. h.conn ≡ c) hs
@@ -71,17 +75,21 @@ rows_above c hs [] above each = tt
 rows_above c hs (r ∷ rs) above each = (row_above c hs r above each.0, rows_above c hs rs above each.1)
 
 -- rows of what was told of other connections stay
-rows_stay : (xs ys : List Happening) (c : ℕ) (rs : List Row) → ((d : ℕ) → c < d → of_connection d xs ≡ of_connection d ys) → AllByRecursion (λ r. c < r.conn) rs → AllByRecursion (IsRow xs) rs → AllByRecursion (IsRow ys) rs
+rows_stay : (xs ys : List Happening) (c : ℕ) (rs : List Row)
+    → ((d : ℕ) → c < d → of_connection d xs ≡ of_connection d ys) → AllByRecursion (λ r. c < r.conn) rs
+    → AllByRecursion (IsRow xs) rs → AllByRecursion (IsRow ys) rs
 rows_stay xs ys c [] same above each = tt
 rows_stay xs ys c (r ∷ rs) same above each =
     ((each.0.0 ∙ ap (row_of r.conn) (same r.conn above.0), each.0.1), rows_stay xs ys c rs same above.1 each.1)
 
 -- the row of a connection in front of those of greater ones
-one_row : (c : ℕ) (own hs : List Happening) (rs : List Row) (r : Row) → Only c own → Above c hs → 0 < length own → r ≡ row_of c (whats own) → AreRows hs rs → AreRows (own ++ hs) (r ∷ rs)
+one_row : (c : ℕ) (own hs : List Happening) (rs : List Row) (r : Row) → Only c own → Above c hs → 0 < length own
+    → r ≡ row_of c (whats own) → AreRows hs rs → AreRows (own ++ hs) (r ∷ rs)
 one_row c own hs rs r only above some is rows =
     let here : of_connection c (own ++ hs) ≡ whats own =
     of-append c own hs ∙ ap (λ (zs : List Told). of_connection c own ++ zs) (of-above c c hs (omega arith) above) ∙ append-nil (of_connection c own) ∙ of-own c own only in
-    let there : (d : ℕ) → c ≢ d → of_connection d (own ++ hs) ≡ of_connection d hs = λ d ne. of-append d own hs ∙ ap (λ (zs : List Told). zs ++ of_connection d hs) (of-differs c d own ne only) in
+    let there : (d : ℕ) → c ≢ d → of_connection d (own ++ hs) ≡ of_connection d hs =
+    λ d ne. of-append d own hs ∙ ap (λ (zs : List Told). zs ++ of_connection d hs) (of-differs c d own ne only) in
     let conn : r.conn ≡ c = ap (λ (x : Row). x.conn) is in
     let long : r.happenings ≡ length own = ap (λ (x : Row). x.happenings) is ∙ length-whats own in
     let behind = rows_above c hs rs above rows.each in
@@ -148,7 +156,8 @@ of-ties : (c : ℕ) (es : List Event) → of_connection c (map happening es) ≡
 of-ties c [] = refl
 of-ties c (e ∷ es) =
     elim (eqb_tells e.conn c) [
-      | inl same ↦ ap (λ b. cond b (told_by e.what ∷ of_connection c (map happening es)) (of_connection c (map happening es))) same.0 ∙ ap (λ (zs : List Told). told_by e.what ∷ zs) (of-ties c es)
+      | inl same ↦ ap (λ b. cond b (told_by e.what ∷ of_connection c (map happening es))
+          (of_connection c (map happening es))) same.0 ∙ ap (λ (zs : List Told). told_by e.what ∷ zs) (of-ties c es)
           ∙ sym (ap (λ b. all_told (cond b (e ∷ filter (ties below (some_event c)) es) (filter (ties below (some_event c)) es))) (ties-same e.conn c same.1))
       | inr other ↦ ap (λ b. cond b (told_by e.what ∷ of_connection c (map happening es)) (of_connection c (map happening es))) other.0 ∙ of-ties c es
           ∙ sym (ap (λ b. all_told (cond b (e ∷ filter (ties below (some_event c)) es) (filter (ties below (some_event c)) es))) (ties-differ e.conn c other.1))
@@ -211,7 +220,9 @@ row_at es at end conn r more sorted further within first same other is rows =
     let fits : n ≤ length rest = omega (arith, left, within) in
     let at_place : (k : ℕ) (d : Event) → get_or rest k d ≡ get_or es (at + k) d = λ k d. get_or-drop at es k d in
     let back : drop n rest ≡ drop end es = behind_both es at n ∙ ap (λ (m : ℕ). drop m es) sum in
-    let rest_same : (k : ℕ) (d : Event) → k < n → (get_or rest k d).conn ≡ conn = λ k d lt. ap (λ (e : Event). e.conn) (at_place k d) ∙ same (at + k) d (omega arith) (omega (arith, lt, sum)) in
+    let rest_same : (k : ℕ) (d : Event) → k < n → (get_or rest k d).conn ≡ conn =
+    λ k d lt. ap (λ (e : Event). e.conn) (at_place k d) ∙ same (at + k) d (omega arith)
+    (omega (arith, lt, sum)) in
     let rest_other : (d : Event) → n < length rest → (get_or rest n d).conn ≢ conn =
     λ d lt e. other d (omega (arith, lt, left, sum)) (sym (ap (λ (m : ℕ). (get_or es m d).conn) sum) ∙ sym (ap (λ (x : Event). x.conn) (at_place n d)) ∙ e) in
     let rest_first : (d : Event) → (get_or rest 0 d).conn ≡ conn = λ d. rest_same 0 d (omega (arith, further)) in

@@ -1,5 +1,6 @@
 -- Reading lines.
-use Rattle.std.proofs.Common.{◌≡◌, ℕ, suc, ◌+◌, ◌-◌, ◌==◌, List, [], ◌∷◌, ◌++◌, length, take, filter_map, Option, Some, None, MatchOption, Bor, refl, ap, sym, ◌∙◌, arith}
+use Rattle.std.proofs.Common.{◌≡◌, ℕ, suc, ◌+◌, ◌-◌, ◌==◌, List, [], ◌∷◌, ◌++◌, length, take, filter_map, Option}
+use Rattle.std.proofs.Common.{Some, None, MatchOption, Bor, refl, ap, sym, ◌∙◌, arith}
 use Rattle.std.specs.List.{slice_split, join_with_byte, cons_option}
 use Rattle.std.proofs.lemmas.List.Splits.{join_with_byte-slice_split, length-slice_split}
 use Rattle.mrpc_table.specs.Lines.{pieces_of, whole_lines}

@@ -5,7 +5,7 @@ ghost use Rattle.toml_places.specs.Places.{IsWithin};
 
 use crate::span::Span;
 
-/// Where a scan of a list is.
+// Where a scan of a list is.
 #[derive(Clone, Copy)]
 enum Scan {
     /// In front of the list.

@@ -1,11 +1,14 @@
 -- A varint stands at a place or a fault does; so does a payload, and a record.
-use Rattle.std.proofs.Common.{◌≡◌, ◌≢◌, ℕ, suc, zero, ◌+◌, ◌-◌, ◌/◌, ◌%◌, ◌^◌, ◌<◌, ◌≤◌, ◌⊎◌, List, [], length, take, drop, All, get_or, refl, ap, subst, arith, inl, inr, ⊎_elim}
+use Rattle.std.proofs.Common.{◌≡◌, ◌≢◌, ℕ, suc, zero, ◌+◌, ◌-◌, ◌/◌, ◌%◌, ◌^◌, ◌<◌, ◌≤◌, ◌⊎◌, List, [], length, take}
+use Rattle.std.proofs.Common.{drop, All, get_or, refl, ap, subst, arith, inl, inr, ⊎_elim}
 use Rattle.std.specs.List.{slice_range}
 use Rattle.std.specs.Int.{w32, w64, from_le_bytes}
 use Rattle.std.proofs.lemmas.Bool.{cases_lt}
 use Rattle.std.proofs.lemmas.List.{length-drop, take_all}
 use Rattle.std.proofs.lemmas.List.Elements.{All-nil}
-use Rattle.wire_base.specs.Records.{group_sum, VarintAt, NoVarintAt, PayloadAt, NoPayloadAt, no_varint, no_length, short_i64, short_i32, short_len, IsWireType, TagAt, RecordAt, FaultAt, no_tag, tag_range, number_zero, wire_type, no_payload}
+use Rattle.wire_base.specs.Records.{group_sum, VarintAt, NoVarintAt, PayloadAt, NoPayloadAt, no_varint, no_length}
+use Rattle.wire_base.specs.Records.{short_i64, short_i32, short_len, IsWireType, TagAt, RecordAt, FaultAt, no_tag}
+use Rattle.wire_base.specs.Records.{tag_range, number_zero, wire_type, no_payload}
 use Rattle.wire_base.specs.declared.records.Payload.{Payload}
 use Rattle.wire_base.specs.declared.records.Payload.TheVariants.{Varint, I64, I32, Len}
 use Rattle.wire_base.specs.declared.records.Record.{Record}

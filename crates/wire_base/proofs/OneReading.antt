@@ -1,5 +1,6 @@
 -- One varint or fault, and one record or fault, stands at a place.
-use Rattle.std.proofs.Common.{◌≡◌, ℕ, ◌+◌, ◌-◌, ◌/◌, ◌%◌, ◌^◌, ◌<◌, ◌≤◌, ◌⊎◌, List, [], ◌∷◌, ◌++◌, length, take, drop, All, Result, Ok, Err, refl, ap, sym, subst, ◌∙◌, arith, inl, inr, ⊎_elim}
+use Rattle.std.proofs.Common.{◌≡◌, ℕ, ◌+◌, ◌-◌, ◌/◌, ◌%◌, ◌^◌, ◌<◌, ◌≤◌, ◌⊎◌, List, [], ◌∷◌, ◌++◌, length, take, drop}
+use Rattle.std.proofs.Common.{All, Result, Ok, Err, refl, ap, sym, subst, ◌∙◌, arith, inl, inr, ⊎_elim}
 use Rattle.std.specs.List.{slice_range}
 use Rattle.std.specs.Int.{w32, w64, from_le_bytes}
 use Rattle.std.specs.Result.{IfOk, IfErr}
@@ -7,7 +8,9 @@ use Rattle.std.proofs.lemmas.Bool.{cases_lt}
 use Rattle.std.proofs.lemmas.List.{take-take}
 use Rattle.std.proofs.lemmas.List.Elements.{All-head, All-tail, All-take}
 use Rattle.std.proofs.lemmas.List.Folds.{drop_split}
-use Rattle.wire_base.specs.Records.{HasVarintForm, group_sum, VarintAt, NoVarintAt, PayloadAt, RecordAt, IsWithin, IsWireType, NoPayloadAt, no_varint, no_length, short_i64, short_i32, short_len, FaultAt, no_tag, tag_range, number_zero, wire_type, no_payload}
+use Rattle.wire_base.specs.Records.{HasVarintForm, group_sum, VarintAt, NoVarintAt, PayloadAt, RecordAt, IsWithin}
+use Rattle.wire_base.specs.Records.{IsWireType, NoPayloadAt, no_varint, no_length, short_i64, short_i32, short_len}
+use Rattle.wire_base.specs.Records.{FaultAt, no_tag, tag_range, number_zero, wire_type, no_payload}
 use Rattle.wire_base.specs.declared.records.Payload.{Payload}
 use Rattle.wire_base.specs.declared.records.Payload.TheVariants.{Varint, I64, I32, Len}
 use Rattle.wire_base.specs.declared.records.Record.{Record}
@@ -45,7 +48,9 @@ pub VarintAt-same : {bytes : List ℕ} {at v m w n : ℕ} → VarintAt bytes at 
 VarintAt-same {bytes} {at} {v} {m} {w} {n} a b =
     let to_m = VarintAt-moves a in
     let to_n = VarintAt-moves b in
-    let same : slice_range bytes at m ≡ slice_range bytes at n = same_front (slice_range bytes at m) (slice_range bytes at n) (drop m bytes) (drop n bytes) a.spelled.form b.spelled.form (sym (drop_split bytes at m (omega arith)) ∙ drop_split bytes at n (omega arith)) in
+    let same : slice_range bytes at m ≡ slice_range bytes at n =
+    same_front (slice_range bytes at m) (slice_range bytes at n) (drop m bytes) (drop n bytes) a.spelled.form
+    b.spelled.form (sym (drop_split bytes at m (omega arith)) ∙ drop_split bytes at n (omega arith)) in
     let within_m = a.within in
     let within_n = b.within in (
       a.spelled.value ∙ ap (λ s. group_sum s % 2 ^ 64) same ∙ sym b.spelled.value,
@@ -58,7 +63,9 @@ VarintAt-no_fault {bytes} {at} {v} {next} NoVarint here fault =
     let long = length-slice_range bytes at next (let e = VarintAt-moves here in omega arith) here.within in
     let short = here.spelled.short in
     let part : take (next - at) (slice_range bytes at (at + 10)) ≡ slice_range bytes at next = take-take (next - at) (at + 10 - at) (drop at bytes) (omega (arith, long, short)) in
-    form_ends (slice_range bytes at next) here.spelled.form (let top : All (λ b. 128 ≤ b) (take (next - at) (slice_range bytes at (at + 10))) = All-take (λ b. 128 ≤ b) (next - at) (slice_range bytes at (at + 10)) fault.top in rw part at top)
+    form_ends (slice_range bytes at next) here.spelled.form
+    (let top : All (λ b. 128 ≤ b) (take (next - at) (slice_range bytes at (at + 10))) =
+    All-take (λ b. 128 ≤ b) (next - at) (slice_range bytes at (at + 10)) fault.top in rw part at top)
 VarintAt-no_fault {bytes} {at} {v} {next} Short here fault =
     form_ends (slice_range bytes at next) here.spelled.form (All-take (λ b. 128 ≤ b) (next - at) (drop at bytes) fault.top)
 VarintAt-no_fault TagRange here fault = fault
@@ -108,7 +115,9 @@ abbrev IsVarintType : ℕ → Type 0
 IsVarintType w = (w ≡ 0) ⊎ (w ≡ 2)
 
 -- the payload has no varint, or it is too short behind what it has
-pub NoPayloadAt-cases : {bytes : List ℕ} {at w : ℕ} {reason : WireReason} → NoPayloadAt bytes at w reason → (IsVarintType w × NoVarintAt bytes at reason) ⊎ ((reason ≡ Short) × ((s : WireReason) → NoVarintAt bytes at s → IsVarintType w → ⊥))
+pub NoPayloadAt-cases : {bytes : List ℕ} {at w : ℕ} {reason : WireReason} → NoPayloadAt bytes at w reason
+    → (IsVarintType w × NoVarintAt bytes at reason) ⊎ ((reason ≡ Short) × ((s : WireReason) → NoVarintAt bytes at s
+    → IsVarintType w → ⊥))
 NoPayloadAt-cases (no_varint e f) = inl (inl e, f)
 NoPayloadAt-cases (no_length e f) = inl (inr e, f)
 NoPayloadAt-cases (short_i64 e r h) = inr (r, λ s f t. ⊎_elim (λ z. omega (arith, e, z)) (λ z. omega (arith, e, z)) t)
@@ -168,7 +177,9 @@ record_same r s p q e = λ i. record { number = p i; payload = q i; next = e i }
 pub RecordAt-same : (bytes : List ℕ) (at : ℕ) (r s : Record) → RecordAt bytes at r → RecordAt bytes at s → r ≡ s
 RecordAt-same bytes at r s a b =
     let same = VarintAt-same a.tagged.stands b.tagged.stands in
-    let other : PayloadAt bytes a.start (a.tag % 8) s.payload s.next = subst (λ (k : ℕ). PayloadAt bytes k (a.tag % 8) s.payload s.next) (sym same.1) (subst (λ (t : ℕ). PayloadAt bytes b.start (t % 8) s.payload s.next) (sym same.0) b.payload) in
+    let other : PayloadAt bytes a.start (a.tag % 8) s.payload s.next =
+    subst (λ (k : ℕ). PayloadAt bytes k (a.tag % 8) s.payload s.next) (sym same.1)
+    (subst (λ (t : ℕ). PayloadAt bytes b.start (t % 8) s.payload s.next) (sym same.0) b.payload) in
     let payloads = PayloadAt-same bytes a.start (a.tag % 8) r.payload s.payload r.next s.next a.payload other in
     record_same r s (a.number ∙ ap (λ t. t / 8) same.0 ∙ sym b.number) payloads.0 payloads.1
 
@@ -182,7 +193,9 @@ RecordAt-no_fault bytes at r f a (wire_type t s p e v unknown) =
     unknown (subst (λ (t : ℕ). IsWireType (t % 8)) same.0 (PayloadAt-known bytes a.start (a.tag % 8) r.payload r.next a.payload))
 RecordAt-no_fault bytes at r f a (no_payload t s p v h) =
     let same = VarintAt-same a.tagged.stands v.stands in
-    let other : PayloadAt bytes s (t % 8) r.payload r.next = subst (λ (k : ℕ). PayloadAt bytes k (t % 8) r.payload r.next) same.1 (subst (λ (t : ℕ). PayloadAt bytes a.start (t % 8) r.payload r.next) same.0 a.payload) in
+    let other : PayloadAt bytes s (t % 8) r.payload r.next =
+    subst (λ (k : ℕ). PayloadAt bytes k (t % 8) r.payload r.next) same.1
+    (subst (λ (t : ℕ). PayloadAt bytes a.start (t % 8) r.payload r.next) same.0 a.payload) in
     PayloadAt-no_fault bytes s (t % 8) r.payload r.next f.reason other h
 
 -- one fault stands at a place
@@ -206,31 +219,43 @@ FaultAt-same bytes at f g (wire_type t s p e v unknown) (no_tag p' v') = absurd 
 FaultAt-same bytes at f g (wire_type t s p e v unknown) (tag_range t' s' p' e' v' h') = let same = VarintAt-same v.stands v' in absurd (omega (arith, same.0, v.small, h'))
 FaultAt-same bytes at f g (wire_type t s p e v unknown) (number_zero t' s' p' e' v' h' z') = let same = VarintAt-same v.stands v' in absurd (v.numbered (ap (λ t. t / 8) same.0 ∙ z'))
 FaultAt-same bytes at f g (wire_type t s p e v unknown) (wire_type t' s' p' e' v' unknown') = fault_same f g (e ∙ sym e') (p ∙ sym p')
-FaultAt-same bytes at f g (wire_type t s p e v unknown) (no_payload t' s' p' v' h') = let same = VarintAt-same v.stands v'.stands in absurd (unknown (subst (λ (t : ℕ). IsWireType (t % 8)) (sym same.0) (NoPayloadAt-known h')))
+FaultAt-same bytes at f g (wire_type t s p e v unknown) (no_payload t' s' p' v' h') = let same =
+    VarintAt-same v.stands v'.stands in
+    absurd (unknown (subst (λ (t : ℕ). IsWireType (t % 8)) (sym same.0) (NoPayloadAt-known h')))
 FaultAt-same bytes at f g (no_payload t s p v h) (no_tag p' v') = absurd (VarintAt-no_fault g.reason v.stands v')
 FaultAt-same bytes at f g (no_payload t s p v h) (tag_range t' s' p' e' v' h') = let same = VarintAt-same v.stands v' in absurd (omega (arith, same.0, v.small, h'))
 FaultAt-same bytes at f g (no_payload t s p v h) (number_zero t' s' p' e' v' h' z') = let same = VarintAt-same v.stands v' in absurd (v.numbered (ap (λ t. t / 8) same.0 ∙ z'))
-FaultAt-same bytes at f g (no_payload t s p v h) (wire_type t' s' p' e' v' unknown') = let same = VarintAt-same v.stands v'.stands in absurd (unknown' (subst (λ (t : ℕ). IsWireType (t % 8)) same.0 (NoPayloadAt-known h)))
+FaultAt-same bytes at f g (no_payload t s p v h) (wire_type t' s' p' e' v' unknown') = let same =
+    VarintAt-same v.stands v'.stands in
+    absurd (unknown' (subst (λ (t : ℕ). IsWireType (t % 8)) same.0 (NoPayloadAt-known h)))
 FaultAt-same bytes at f g (no_payload t s p v h) (no_payload t' s' p' v' h') =
     let same = VarintAt-same v.stands v'.stands in
-    let other : NoPayloadAt bytes s (t % 8) g.reason = subst (λ (k : ℕ). NoPayloadAt bytes k (t % 8) g.reason) (sym same.1) (subst (λ (u : ℕ). NoPayloadAt bytes s' (u % 8) g.reason) (sym same.0) h') in
+    let other : NoPayloadAt bytes s (t % 8) g.reason =
+    subst (λ (k : ℕ). NoPayloadAt bytes k (t % 8) g.reason) (sym same.1)
+    (subst (λ (u : ℕ). NoPayloadAt bytes s' (u % 8) g.reason) (sym same.0) h') in
     fault_same f g (NoPayloadAt-same bytes s (t % 8) f.reason g.reason h other) (p ∙ same.1 ∙ sym p')
 
 -- what was read is the one varint, or the one fault
-pub varint-each : (bytes : List ℕ) (at : ℕ) (r : Result (ℕ × ℕ) WireFault) → IfOk r (λ x. VarintAt bytes at x.0 x.1) → IfErr r (λ f. (f.place ≡ at) × NoVarintAt bytes at f.reason) → (v next : ℕ) → VarintAt bytes at v next → r ≡ Ok (v, next)
+pub varint-each : (bytes : List ℕ) (at : ℕ) (r : Result (ℕ × ℕ) WireFault) → IfOk r (λ x. VarintAt bytes at x.0 x.1)
+    → IfErr r (λ f. (f.place ≡ at) × NoVarintAt bytes at f.reason) → (v next : ℕ) → VarintAt bytes at v next
+    → r ≡ Ok (v, next)
 varint-each bytes at (Ok x) found fault v next here = let same = VarintAt-same found here in ap Ok (λ i. (same.0 i, same.1 i))
 varint-each bytes at (Err f) found fault v next here = absurd (VarintAt-no_fault f.reason here fault.1)
 
-pub varint-each_fault : (bytes : List ℕ) (at : ℕ) (r : Result (ℕ × ℕ) WireFault) → IfOk r (λ x. VarintAt bytes at x.0 x.1) → IfErr r (λ f. (f.place ≡ at) × NoVarintAt bytes at f.reason) → (reason : WireReason) → NoVarintAt bytes at reason → r ≡ Err (record { reason = reason; place = at })
+pub varint-each_fault : (bytes : List ℕ) (at : ℕ) (r : Result (ℕ × ℕ) WireFault)
+    → IfOk r (λ x. VarintAt bytes at x.0 x.1) → IfErr r (λ f. (f.place ≡ at) × NoVarintAt bytes at f.reason)
+    → (reason : WireReason) → NoVarintAt bytes at reason → r ≡ Err (record { reason = reason; place = at })
 varint-each_fault bytes at (Ok x) found fault reason here = absurd (VarintAt-no_fault reason found here)
 varint-each_fault bytes at (Err f) found fault reason here = ap Err (fault_same f (record { reason = reason; place = at }) (NoVarintAt-same bytes at f.reason reason fault.1 here) fault.0)
 
 -- what was read is the one record, or the one fault
-pub record-each : (bytes : List ℕ) (at : ℕ) (r : Result Record WireFault) → IfOk r (λ x. RecordAt bytes at x) → IfErr r (λ f. FaultAt bytes at f) → (s : Record) → RecordAt bytes at s → r ≡ Ok s
+pub record-each : (bytes : List ℕ) (at : ℕ) (r : Result Record WireFault) → IfOk r (λ x. RecordAt bytes at x)
+    → IfErr r (λ f. FaultAt bytes at f) → (s : Record) → RecordAt bytes at s → r ≡ Ok s
 record-each bytes at (Ok x) found fault s here = ap Ok (RecordAt-same bytes at x s found here)
 record-each bytes at (Err f) found fault s here = absurd (RecordAt-no_fault bytes at s f here fault)
 
-pub record-each_fault : (bytes : List ℕ) (at : ℕ) (r : Result Record WireFault) → IfOk r (λ x. RecordAt bytes at x) → IfErr r (λ f. FaultAt bytes at f) → (g : WireFault) → FaultAt bytes at g → r ≡ Err g
+pub record-each_fault : (bytes : List ℕ) (at : ℕ) (r : Result Record WireFault) → IfOk r (λ x. RecordAt bytes at x)
+    → IfErr r (λ f. FaultAt bytes at f) → (g : WireFault) → FaultAt bytes at g → r ≡ Err g
 record-each_fault bytes at (Ok x) found fault g here = absurd (RecordAt-no_fault bytes at x g found here)
 record-each_fault bytes at (Err f) found fault g here = ap Err (FaultAt-same bytes at f g fault here)
 

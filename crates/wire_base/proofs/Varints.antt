@@ -1,5 +1,6 @@
 -- The bytes of a varint, as they are written and as they are read.
-use Rattle.std.proofs.Common.{◌≡◌, ℕ, zero, suc, ◌+◌, ◌-◌, ◌*◌, ◌/◌, ◌%◌, ◌^◌, ◌<◌, ◌≤◌, List, [], ◌∷◌, ◌++◌, length, take, drop, set, All, get_or, refl, ap, sym, subst, ◌∙◌, arith, ⊎_elim, length-set}
+use Rattle.std.proofs.Common.{◌≡◌, ℕ, zero, suc, ◌+◌, ◌-◌, ◌*◌, ◌/◌, ◌%◌, ◌^◌, ◌<◌, ◌≤◌, List, [], ◌∷◌, ◌++◌, length}
+use Rattle.std.proofs.Common.{take, drop, set, All, get_or, refl, ap, sym, subst, ◌∙◌, arith, ⊎_elim, length-set}
 use Rattle.std.specs.List.{slice_range}
 use Rattle.std.proofs.lemmas.Bool.{cases_lt}
 use Rattle.std.proofs.lemmas.Bool.Decides.{nat_tests}
@@ -57,7 +58,9 @@ pub group_sum-last : (bs : List ℕ) (b : ℕ) → group_sum (bs ++ b ∷ []) �
 group_sum-last [] b = omega arith
 group_sum-last (x ∷ bs) b =
     let again = group_sum-last bs b in
-    let power : 2 ^ (7 * length (x ∷ bs)) ≡ 128 * 2 ^ (7 * length bs) = ap (λ k. 2 ^ k) (let e : 7 * length (x ∷ bs) ≡ 7 + 7 * length bs = omega arith in e) ∙ pow-add 2 7 (7 * length bs) in
+    let power : 2 ^ (7 * length (x ∷ bs)) ≡ 128 * 2 ^ (7 * length bs) =
+    ap (λ k. 2 ^ k) (let e : 7 * length (x ∷ bs) ≡ 7 + 7 * length bs = omega arith in e)
+    ∙ pow-add 2 7 (7 * length bs) in
     let moved : b % 128 * (128 * 2 ^ (7 * length bs)) ≡ 128 * (b % 128 * 2 ^ (7 * length bs)) = omega arith in
     omega (arith, again, ap (λ p. b % 128 * p) power, moved)
 
@@ -72,19 +75,28 @@ pub length-slice_range : (bytes : List ℕ) (at i : ℕ) → at ≤ i → i ≤ 
 length-slice_range bytes at i from within = length-take-le (i - at) (drop at bytes) (omega (arith, length-drop at bytes))
 
 -- the value once one more group was added
-pub value-more : (bytes : List ℕ) (at i g v : ℕ) → at ≤ i → i < length bytes → g ≡ get_or bytes i 0 % 128 → v ≡ group_sum (slice_range bytes at i) % 2 ^ 64 → (v + (g * 2 ^ (7 * (i - at))) % 2 ^ 64) % 2 ^ 64 ≡ group_sum (slice_range bytes at (i + 1)) % 2 ^ 64
+pub value-more : (bytes : List ℕ) (at i g v : ℕ) → at ≤ i → i < length bytes → g ≡ get_or bytes i 0 % 128
+    → v ≡ group_sum (slice_range bytes at i) % 2 ^ 64
+    → (v + (g * 2 ^ (7 * (i - at))) % 2 ^ 64) % 2 ^ 64 ≡ group_sum (slice_range bytes at (i + 1)) % 2 ^ 64
 value-more bytes at i g v from within group value =
     let b = get_or bytes i 0 in
     let front = slice_range bytes at i in
     let long : length front ≡ i - at = length-slice_range bytes at i from (omega arith) in
-    let sum : group_sum (slice_range bytes at (i + 1)) ≡ group_sum front + b % 128 * 2 ^ (7 * (i - at)) = ap group_sum (slice_range-more bytes at i b from within refl) ∙ group_sum-last front b ∙ ap (λ k. group_sum front + b % 128 * 2 ^ (7 * k)) long in
-    ap (λ h. (v + (h * 2 ^ (7 * (i - at))) % 2 ^ 64) % 2 ^ 64) group ∙ ap (λ u. (u + (b % 128 * 2 ^ (7 * (i - at))) % 2 ^ 64) % 2 ^ 64) value ∙ sym (add-mod (group_sum front) (b % 128 * 2 ^ (7 * (i - at))) (2 ^ 64)) ∙ ap (λ s. s % 2 ^ 64) (sym sum)
+    let sum : group_sum (slice_range bytes at (i + 1)) ≡ group_sum front + b % 128 * 2 ^ (7 * (i - at)) =
+    ap group_sum (slice_range-more bytes at i b from within refl) ∙ group_sum-last front b
+    ∙ ap (λ k. group_sum front + b % 128 * 2 ^ (7 * k)) long in
+    ap (λ h. (v + (h * 2 ^ (7 * (i - at))) % 2 ^ 64) % 2 ^ 64) group
+    ∙ ap (λ u. (u + (b % 128 * 2 ^ (7 * (i - at))) % 2 ^ 64) % 2 ^ 64) value
+    ∙ sym (add-mod (group_sum front) (b % 128 * 2 ^ (7 * (i - at))) (2 ^ 64)) ∙ ap (λ s. s % 2 ^ 64) (sym sum)
 
-pub top-more : (bytes : List ℕ) (at i b : ℕ) → at ≤ i → i < length bytes → b ≡ get_or bytes i 0 → 128 ≤ b → All (λ x. 128 ≤ x) (slice_range bytes at i) → All (λ x. 128 ≤ x) (slice_range bytes at (i + 1))
+pub top-more : (bytes : List ℕ) (at i b : ℕ) → at ≤ i → i < length bytes → b ≡ get_or bytes i 0 → 128 ≤ b
+    → All (λ x. 128 ≤ x) (slice_range bytes at i) → All (λ x. 128 ≤ x) (slice_range bytes at (i + 1))
 top-more bytes at i b from within is high top = rw (slice_range-more bytes at i b from within is) (All-push (λ x. 128 ≤ x) (slice_range bytes at i) b top high)
 
 -- the last byte is there
-pub VarintAt-last : (bytes : List ℕ) (at i b v : ℕ) → at ≤ i → i < at + 10 → i < length bytes → b ≡ get_or bytes i 0 → b < 128 → All (λ x. 128 ≤ x) (slice_range bytes at i) → v ≡ group_sum (slice_range bytes at (i + 1)) % 2 ^ 64 → VarintAt bytes at v (i + 1)
+pub VarintAt-last : (bytes : List ℕ) (at i b v : ℕ) → at ≤ i → i < at + 10 → i < length bytes → b ≡ get_or bytes i 0
+    → b < 128 → All (λ x. 128 ≤ x) (slice_range bytes at i) → v ≡ group_sum (slice_range bytes at (i + 1)) % 2 ^ 64
+    → VarintAt bytes at v (i + 1)
 VarintAt-last bytes at i b v from near within is low top value = record {
   within = omega arith;
   spelled = record {
@@ -98,14 +110,19 @@ pub length-groups-end : (i n : ℕ) → 10 ≤ i → length (groups (10 - i) n) 
 length-groups-end i n h = ap (λ m. length (groups m n)) (let e : 10 - i ≡ 0 = omega arith in e) ∙ ap length (groups-last n)
 
 -- the bytes that were written, and one more behind them
-pub groups-written : (bytes : List ℕ) (i b n m v : ℕ) → i < 9 → i < length bytes → 128 ≤ n → b ≡ n % 128 + 128 → m ≡ n / 128 → take i bytes ++ groups (9 - i) n ≡ groups 9 v → take (i + 1) (set bytes i b) ++ groups (9 - (i + 1)) m ≡ groups 9 v
+pub groups-written : (bytes : List ℕ) (i b n m v : ℕ) → i < 9 → i < length bytes → 128 ≤ n → b ≡ n % 128 + 128
+    → m ≡ n / 128 → take i bytes ++ groups (9 - i) n ≡ groups 9 v
+    → take (i + 1) (set bytes i b) ++ groups (9 - (i + 1)) m ≡ groups 9 v
 groups-written bytes i b n m v near long large byte rest written =
     let last : take (i + 1) (set bytes i b) ≡ take i bytes ++ b ∷ [] = take_more_set bytes i b long in
     let tail = groups (9 - (i + 1)) (n / 128) in
-    ap (λ xs. xs ++ groups (9 - (i + 1)) m) last ∙ ap (λ k. (take i bytes ++ b ∷ []) ++ groups (9 - (i + 1)) k) rest ∙ append_assoc (take i bytes) (b ∷ []) tail ∙ ap (λ k. take i bytes ++ k ∷ tail) byte ∙ ap (λ xs. take i bytes ++ xs) (sym (groups-step i n near large)) ∙ written
+    ap (λ xs. xs ++ groups (9 - (i + 1)) m) last ∙ ap (λ k. (take i bytes ++ b ∷ []) ++ groups (9 - (i + 1)) k) rest
+    ∙ append_assoc (take i bytes) (b ∷ []) tail ∙ ap (λ k. take i bytes ++ k ∷ tail) byte
+    ∙ ap (λ xs. take i bytes ++ xs) (sym (groups-step i n near large)) ∙ written
 
 -- the last byte is written
-pub groups-done : (bytes : List ℕ) (i n v : ℕ) → i < 10 → i < length bytes → groups (9 - i) n ≡ n ∷ [] → take i bytes ++ groups (9 - i) n ≡ groups 9 v → take (i + 1) (set bytes i n) ≡ groups 9 v
+pub groups-done : (bytes : List ℕ) (i n v : ℕ) → i < 10 → i < length bytes → groups (9 - i) n ≡ n ∷ []
+    → take i bytes ++ groups (9 - i) n ≡ groups 9 v → take (i + 1) (set bytes i n) ≡ groups 9 v
 groups-done bytes i n v near long one written =
     take_more_set bytes i n long ∙ ap (λ xs. take i bytes ++ xs) (sym one) ∙ written
 
@@ -130,7 +147,8 @@ group_sum-groups zero n h = rw (groups-last n) (let e : n % 128 + 128 * 0 ≡ n 
 group_sum-groups (suc m) n h =
     ⊎_elim
     (λ small. rw (groups-small (suc m) n small) (let e : n % 128 + 128 * 0 ≡ n = omega arith in e))
-    (λ large. rw (groups-large m n large) (let again = group_sum-groups m (n / 128) (rest-below m n h) in let e : (n % 128 + 128) % 128 + 128 * group_sum (groups m (n / 128)) ≡ n = omega (arith, again) in e))
+    (λ large. rw (groups-large m n large) (let again = group_sum-groups m (n / 128) (rest-below m n h) in
+    let e : (n % 128 + 128) % 128 + 128 * group_sum (groups m (n / 128)) ≡ n = omega (arith, again) in e))
     (cases_lt n 128)
 
 length-groups : (m n : ℕ) → length (groups m n) ≤ m + 1
@@ -257,7 +275,8 @@ one-group zero n one = groups-last n
 one-group (suc m) n one =
     ⊎_elim (λ small. groups-small (suc m) n small) (λ large. absurd (omega (arith, one, groups-longer m n large, length-groups-some m (n / 128)))) (cases_lt n 128)
 
-length-left : (bytes : List ℕ) (i n v : ℕ) → i ≤ length bytes → length bytes ≡ length (groups 9 v) → take i bytes ++ groups (9 - i) n ≡ groups 9 v → length (groups (9 - i) n) ≡ length bytes - i
+length-left : (bytes : List ℕ) (i n v : ℕ) → i ≤ length bytes → length bytes ≡ length (groups 9 v)
+    → take i bytes ++ groups (9 - i) n ≡ groups 9 v → length (groups (9 - i) n) ≡ length bytes - i
 length-left bytes i n v within sized spelled =
     omega (arith, sized, ap length spelled, length-append (take i bytes) (groups (9 - i) n), length-take-le i bytes within)
 

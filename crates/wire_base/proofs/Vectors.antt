@@ -27,7 +27,8 @@ varint-minus_two : number_bytes Int32 (2 ^ 64 - 2) ≡ 254 ∷ replicate 8 255 +
 unfolding varint groups
 varint-minus_two = refl
 
-zigzag-vectors : (zigzag_of 0 ∷ zigzag_of (2 ^ 64 - 1) ∷ zigzag_of 1 ∷ zigzag_of (2 ^ 64 - 2) ∷ zigzag_of 2147483647 ∷ zigzag_of (2 ^ 64 - 2147483648) ∷ []) ≡ 0 ∷ 1 ∷ 2 ∷ 3 ∷ 4294967294 ∷ 4294967295 ∷ []
+zigzag-vectors : (zigzag_of 0 ∷ zigzag_of (2 ^ 64 - 1) ∷ zigzag_of 1 ∷ zigzag_of (2 ^ 64 - 2) ∷ zigzag_of 2147483647
+    ∷ zigzag_of (2 ^ 64 - 2147483648) ∷ []) ≡ 0 ∷ 1 ∷ 2 ∷ 3 ∷ 4294967294 ∷ 4294967295 ∷ []
 zigzag-vectors = refl
 
 -- the guide's record of 150 in field 1
@@ -95,18 +96,27 @@ table_of fields = record { messages = record { name = 77 ∷ []; fields = fields
 abbrev field_of : ℕ → Label → Kind → Field
 field_of n label kind = record { number = n; name = 97 ∷ []; kind = kind; label = label }
 
-packed : encoding (table_of (field_of 6 Packed Uint64 ∷ [])) 0 (field 6 (many (item (number 3) (item (number 270) (item (number 86942) no_items)))) no_fields) ≡ 0x32 ∷ 0x06 ∷ 0x03 ∷ 0x8e ∷ 0x02 ∷ 0x9e ∷ 0xa7 ∷ 0x05 ∷ []
+packed : encoding (table_of (field_of 6 Packed Uint64 ∷ [])) 0
+    (field 6 (many (item (number 3) (item (number 270) (item (number 86942) no_items)))) no_fields) ≡ 0x32 ∷ 0x06
+    ∷ 0x03 ∷ 0x8e ∷ 0x02 ∷ 0x9e ∷ 0xa7 ∷ 0x05 ∷ []
 unfolding varint groups
 packed = refl
 
-signed : encoding (table_of (field_of 1 Plain Int32 ∷ field_of 2 Plain Sint32 ∷ field_of 3 Plain Uint64 ∷ [])) 0 (field 1 (one (number (2 ^ 64 - 1))) (field 2 (one (number (2 ^ 64 - 1))) (field 3 (one (number (2 ^ 64 - 1))) no_fields))) ≡ 8 ∷ replicate 9 255 ++ 1 ∷ 16 ∷ 1 ∷ 24 ∷ replicate 9 255 ++ 1 ∷ []
+signed : encoding (table_of (field_of 1 Plain Int32 ∷ field_of 2 Plain Sint32 ∷ field_of 3 Plain Uint64 ∷ [])) 0
+    (field 1 (one (number (2 ^ 64 - 1)))
+    (field 2 (one (number (2 ^ 64 - 1))) (field 3 (one (number (2 ^ 64 - 1))) no_fields))) ≡ 8 ∷ replicate 9 255 ++ 1
+    ∷ 16 ∷ 1 ∷ 24 ∷ replicate 9 255 ++ 1 ∷ []
 unfolding varint groups
 signed = refl
 
-present : encoding (table_of (field_of 1 Plain Uint64 ∷ field_of 2 Optional Uint64 ∷ field_of 3 (Member 0) Uint64 ∷ field_of 4 (Member 0) Text ∷ [])) 0 (field 2 (one (number 0)) (field 3 (one (number 0)) no_fields)) ≡ 0x10 ∷ 0 ∷ 0x18 ∷ 0 ∷ []
+present : encoding (table_of (field_of 1 Plain Uint64 ∷ field_of 2 Optional Uint64 ∷ field_of 3 (Member 0) Uint64
+    ∷ field_of 4 (Member 0) Text ∷ [])) 0 (field 2 (one (number 0)) (field 3 (one (number 0)) no_fields)) ≡ 0x10 ∷ 0
+    ∷ 0x18 ∷ 0 ∷ []
 unfolding varint groups
 present = refl
 
-entries : encoding (table_of (field_of 1 (Map Uint64) Text ∷ [])) 0 (field 1 (pairs (pair (number 1) (run []) (pair (number 5) (run (98 ∷ [])) no_pairs))) no_fields) ≡ 0x0a ∷ 4 ∷ 8 ∷ 1 ∷ 0x12 ∷ 0 ∷ 0x0a ∷ 5 ∷ 8 ∷ 5 ∷ 0x12 ∷ 1 ∷ 0x62 ∷ []
+entries : encoding (table_of (field_of 1 (Map Uint64) Text ∷ [])) 0
+    (field 1 (pairs (pair (number 1) (run []) (pair (number 5) (run (98 ∷ [])) no_pairs))) no_fields) ≡ 0x0a ∷ 4 ∷ 8
+    ∷ 1 ∷ 0x12 ∷ 0 ∷ 0x0a ∷ 5 ∷ 8 ∷ 5 ∷ 0x12 ∷ 1 ∷ 0x62 ∷ []
 unfolding varint groups
 entries = refl

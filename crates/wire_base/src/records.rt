@@ -95,7 +95,7 @@ pub fn read_tag(bytes: &[u8], at: usize) -> Result<(u32, usize), WireFault>
     }
 }
 
-/// The payload of a wire type at a place, and the place behind it.
+// The payload of a wire type at a place, and the place behind it.
 fn read_payload(bytes: &[u8], start: usize, wire_type: u32) -> Result<(Payload, usize), WireFault>
     requires place { start ≤ length bytes.now }
     requires known { IsWireType wire_type }
@@ -169,7 +169,7 @@ pub fn read_delimited(bytes: &[u8], at: usize) -> Result<(usize, usize), WireFau
     Ok((first, first + len as usize))
 }
 
-/// The bytes end inside what stands at the place.
+// The bytes end inside what stands at the place.
 fn short(place: usize) -> WireFault
     ensures { result ≡ record { reason = Short; place = place } }
 {

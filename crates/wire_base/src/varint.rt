@@ -101,7 +101,7 @@ pub fn varint_len(v: u64) -> usize
     }
 }
 
-/// The same for a number below 2^28.
+// The same for a number below 2^28.
 fn short_len(v: u64) -> usize
     requires { v < 2 ^ 28 }
     ensures { result ≡ length (varint v) }
@@ -115,7 +115,7 @@ fn short_len(v: u64) -> usize
     }
 }
 
-/// The same for a number of 2^28 or more.
+// The same for a number of 2^28 or more.
 fn long_len(v: u64) -> usize
     requires { 2 ^ 28 ≤ v }
     ensures { result ≡ length (varint v) }
@@ -154,7 +154,7 @@ pub fn read_varint(bytes: &[u8], at: usize) -> Result<(u64, usize), WireFault>
     }
 }
 
-/// The same, a byte at a time.
+// The same, a byte at a time.
 fn read_long(bytes: &[u8], at: usize) -> Result<(u64, usize), WireFault>
     requires { at ≤ length bytes.now }
     ensures found { IfOk result (λ r. VarintAt bytes.now at r.0 r.1) }

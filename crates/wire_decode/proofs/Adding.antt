@@ -103,7 +103,9 @@ same-after cs c after = append_assoc cs (c ∷ []) after
 pub added-next : (form : Form) (front : Node) (m n : ℕ) (before c : Content) → m ≢ n → IsAdded form (push_field front m before) n c (push_field (push_field front m before) n c)
 added-next form front m n before c differs = record {
   others = λ k h. contents-pushed_other k n c (push_field front m before) h;
-  same = λ label k e inner after. ap (field_content inner label k) (ap (λ cs. cs ++ after) (contents-pushed n c (push_field front m before)) ∙ same-after (contents_of n (push_field front m before)) c after);
+  same = λ label k e inner after. ap (field_content inner label k)
+      (ap (λ cs. cs ++ after) (contents-pushed n c (push_field front m before))
+      ∙ same-after (contents_of n (push_field front m before)) c after);
   rise = λ h most. rise-pushed n c (push_field front m before) h (below-last n m before front h (let le = most-last n m before front most in omega (arith, le, differs)));
   most = λ k le h. most-pushed k n c (push_field front m before) le h;
 }
@@ -133,14 +135,18 @@ most-split m n c (field k d t) h = let rest = most-split m n c t h.1 in (rest.0,
 pub gathered-start : (fs : List Field) → IsGathered fs no_fields no_fields
 gathered-start fs = record { rise = tt; most = λ m h. tt; same = λ n f at inner after. refl }
 
-pub gathered-more : (fs : List Field) (raw held new : Node) (n : ℕ) (c : Content) (form : Form) → IsGathered fs raw held → ((f : Field) → field_at fs n ≡ Some f → form ≡ form_of f.label f.kind) → IsAdded form held n c new → AreAtMost n raw → IsGathered fs (push_field raw n c) new
+pub gathered-more : (fs : List Field) (raw held new : Node) (n : ℕ) (c : Content) (form : Form)
+    → IsGathered fs raw held → ((f : Field) → field_at fs n ≡ Some f → form ≡ form_of f.label f.kind)
+    → IsAdded form held n c new → AreAtMost n raw → IsGathered fs (push_field raw n c) new
 gathered-more fs raw held new n c form g known added most = record {
   rise = added.rise g.rise (g.most n most);
   most = λ m h. let s = most-split m n c raw h in added.most m s.0 (g.most m s.1);
   same = λ m f at inner after.
       ⊎_elim
       (λ s. let e : n ≡ m = sym s.1 in
-      let P : ℕ → Type 0 = λ x. field_at fs x ≡ Some f → field_content inner f.label f.kind (contents_of x new ++ after) ≡ field_content inner f.label f.kind (contents_of x (push_field raw n c) ++ after) in
+      let P : ℕ → Type 0 = λ x. field_at fs x ≡ Some f
+      → field_content inner f.label f.kind (contents_of x new ++ after) ≡ field_content inner f.label f.kind
+      (contents_of x (push_field raw n c) ++ after) in
       let here : P n = λ at_n.
       added.same f.label f.kind (sym (known f at_n)) inner after
       ∙ g.same n f at_n inner (c ∷ after)

@@ -11,17 +11,25 @@ use Rattle.mrpc_table.specs.declared.table.Table.{Table}
 use Rattle.mrpc_table.specs.MapEntries.{last_of_each}
 use Rattle.wire_decode.specs.Words.{is_list, is_map}
 use Rattle.wire_decode.specs.Reads.{Reads, read_end, is_message, entry_fields, numbers}
-use Rattle.wire_decode.specs.Merged.{contents_of, items_in, values_in, singles_in, joined, last_value, singular, element, entry, present, present_if_set, some_items, some_pairs, field_content, counted, with_content}
+use Rattle.wire_decode.specs.Merged.{contents_of, items_in, values_in, singles_in, joined, last_value, singular}
+use Rattle.wire_decode.specs.Merged.{element, entry, present, present_if_set, some_items, some_pairs, field_content}
+use Rattle.wire_decode.specs.Merged.{counted, with_content}
 use Rattle.wire_decode.specs.Ordered.{is_single, single_content}
 use Rattle.wire_decode.specs.Meaning as rule
-use Rattle.wire_decode.specs.Meaning.{Value, single, packed, delimited, counted_values, values_of, values_but, joined_payloads, item_or_default, MeansIn, means_in, AreFields, no_field, one_field, FieldMeans, no_value, one_message, elements, entries, ValueMeans, of_number, of_piece, of_run, of_message, AreItems, no_items, more_items, AreEntries, no_entries, more_entries}
+use Rattle.wire_decode.specs.Meaning.{Value, single, packed, delimited, counted_values, values_of, values_but}
+use Rattle.wire_decode.specs.Meaning.{joined_payloads, item_or_default, MeansIn, means_in, AreFields, no_field}
+use Rattle.wire_decode.specs.Meaning.{one_field, FieldMeans, no_value, one_message, elements, entries, ValueMeans}
+use Rattle.wire_decode.specs.Meaning.{of_number, of_piece, of_run, of_message, AreItems, no_items, more_items}
+use Rattle.wire_decode.specs.Meaning.{AreEntries, no_entries, more_entries}
 use Rattle.wire_decode.proofs.WireLaws.{Law}
 use Rattle.wire_decode.proofs.Unique.{reads-same}
 use Rattle.wire_decode.proofs.Merging.{element-same, content-none, field-here}
 use Rattle.wire_decode.proofs.Reading.{join-none}
 use Rattle.wire_decode.proofs.Shifting.{reads-joined}
 use Rattle.wire_decode.proofs.Taken.{contents_but, taken, merged_taken, meaning, taken-suc, entry-same}
-use Rattle.wire_decode.proofs.Alike.{Alike, alike_number, alike_piece, alike_run, alike_message, alike_entry, AllAlike, Match, match-counted, match-field, match-but, Agree, Inner, Entries, AllEntries, values-of, contents-of}
+use Rattle.wire_decode.proofs.Alike.{Alike, alike_number, alike_piece, alike_run, alike_message, alike_entry}
+use Rattle.wire_decode.proofs.Alike.{AllAlike, Match, match-counted, match-field, match-but, Agree, Inner, Entries}
+use Rattle.wire_decode.proofs.Alike.{AllEntries, values-of, contents-of}
 
 -- ---- labels
 
@@ -47,7 +55,9 @@ map-clash label key outside e = (let h : false ≡ true = sym outside ∙ ap is_
 message-clash : (k : Kind) (i : ℕ) → is_message k ≡ false → k ≡ OfMessage i → ⊥
 message-clash k i outside e = (let h : false ≡ true = sym outside ∙ ap is_message e in cc)
 
-single-content : (inner : ℕ → Node → Node) (label : Label) (k : Kind) (cs : List Content) (i : Item) → is_single label ≡ true → singular inner k (singles_in cs) ≡ Some i → field_content inner label k cs ≡ single_content label i
+single-content : (inner : ℕ → Node → Node) (label : Label) (k : Kind) (cs : List Content) (i : Item)
+    → is_single label ≡ true → singular inner k (singles_in cs) ≡ Some i
+    → field_content inner label k cs ≡ single_content label i
 single-content inner Plain k cs i h e = ap present_if_set e
 single-content inner Optional k cs i h e = ap present e
 single-content inner (Member o) k cs i h e = ap present e
@@ -55,7 +65,8 @@ single-content inner Repeated k cs i h e = absurd (cc)
 single-content inner Packed k cs i h e = absurd (cc)
 single-content inner (Map key) k cs i h e = absurd (cc)
 
-list-content : (inner : ℕ → Node → Node) (label : Label) (k : Kind) (cs : List Content) → is_list label ≡ true → field_content inner label k cs ≡ some_items (map (element inner k) (values_in cs))
+list-content : (inner : ℕ → Node → Node) (label : Label) (k : Kind) (cs : List Content) → is_list label ≡ true
+    → field_content inner label k cs ≡ some_items (map (element inner k) (values_in cs))
 list-content inner Repeated k cs h = refl
 list-content inner Packed k cs h = refl
 list-content inner Plain k cs h = absurd (cc)
@@ -67,7 +78,8 @@ singular-last : (inner : ℕ → Node → Node) (k : Kind) (is : List Item) → 
 singular-last inner (OfMessage i) is h = absurd (cc)
 singular-last inner _ is h = refl
 
-singular-some : (inner : ℕ → Node → Node) (i : ℕ) (c : Content) (cs : List Content) (j : Item) → c ≡ one j → singular inner (OfMessage i) (singles_in (c ∷ cs)) ≡ Some (node (inner i (joined (singles_in (c ∷ cs)))))
+singular-some : (inner : ℕ → Node → Node) (i : ℕ) (c : Content) (cs : List Content) (j : Item) → c ≡ one j
+    → singular inner (OfMessage i) (singles_in (c ∷ cs)) ≡ Some (node (inner i (joined (singles_in (c ∷ cs)))))
 singular-some inner i c cs j e = subst (λ (x : Content). singular inner (OfMessage i) (singles_in (x ∷ cs)) ≡ Some (node (inner i (joined (singles_in (x ∷ cs)))))) (sym e) refl
 
 -- ---- values of kinds that are no message
@@ -83,7 +95,8 @@ means-plain T room k v is plain (of_piece ns e i) = i ∙ sym (ap plain_items e)
 means-plain T room k v is plain (of_run bytes p e i) = i ∙ sym (ap plain_items e)
 means-plain T room k v is plain (of_message m inside bytes t kind room_is e means i) = absurd (message-clash k m plain kind)
 
-alike-item : (T : Table) (room : ℕ) (label : Label) (k : Kind) (v : Value) (c : Content) → is_single label ≡ true → is_message k ≡ false → Alike T room label k v c → (i : Item) × (c ≡ one i) × ValueMeans T room k v (i ∷ [])
+alike-item : (T : Table) (room : ℕ) (label : Label) (k : Kind) (v : Value) (c : Content) → is_single label ≡ true
+    → is_message k ≡ false → Alike T room label k v c → (i : Item) × (c ≡ one i) × ValueMeans T room k v (i ∷ [])
 alike-item T room label k v c one_only plain (alike_number n no_map p e i) = (number n, i, of_number n e refl)
 alike-item T room label k v c one_only plain (alike_piece ns list p e i) = absurd (single-no_list label one_only list)
 alike-item T room label k v c one_only plain (alike_run bytes no_map p e i) = (run bytes, i, of_run bytes plain e refl)
@@ -137,14 +150,16 @@ pub record IsMessage (T : Table) (inside i : ℕ) (v : Value) (c : Content) : Ty
   pub content : c ≡ one (node tree)
   pub reads : Reads T inside (fields_of T i) bytes 0 tree
 
-message-room : (T : Table) (room : ℕ) (label : Label) (k : Kind) (i : ℕ) (v : Value) (c : Content) → is_map label ≡ false → k ≡ OfMessage i → Alike T room label k v c → (inside : ℕ) × (room ≡ suc inside)
+message-room : (T : Table) (room : ℕ) (label : Label) (k : Kind) (i : ℕ) (v : Value) (c : Content)
+    → is_map label ≡ false → k ≡ OfMessage i → Alike T room label k v c → (inside : ℕ) × (room ≡ suc inside)
 message-room T room label k i v c outside kind (alike_number n no_map p e is) = absurd (message-clash k i p kind)
 message-room T room label k i v c outside kind (alike_piece ns list p e is) = absurd (message-clash k i p kind)
 message-room T room label k i v c outside kind (alike_run bytes no_map p e is) = absurd (message-clash k i p kind)
 message-room T room label k i v c outside kind (alike_message m inside bytes t no_map kind_is room_is e reads is) = (inside, room_is)
 message-room T room label k i v c outside kind (alike_entry key bytes t map_is e reads is) = absurd (map-clash label key outside map_is)
 
-is-message : (T : Table) (room inside : ℕ) (label : Label) (k : Kind) (i : ℕ) (v : Value) (c : Content) → is_map label ≡ false → k ≡ OfMessage i → room ≡ suc inside → Alike T room label k v c → IsMessage T inside i v c
+is-message : (T : Table) (room inside : ℕ) (label : Label) (k : Kind) (i : ℕ) (v : Value) (c : Content)
+    → is_map label ≡ false → k ≡ OfMessage i → room ≡ suc inside → Alike T room label k v c → IsMessage T inside i v c
 is-message T room inside label k i v c outside kind room_is (alike_number n no_map p e is) = absurd (message-clash k i p kind)
 is-message T room inside label k i v c outside kind room_is (alike_piece ns list p e is) = absurd (message-clash k i p kind)
 is-message T room inside label k i v c outside kind room_is (alike_run bytes no_map p e is) = absurd (message-clash k i p kind)
@@ -152,11 +167,19 @@ is-message T room inside label k i v c outside kind room_is (alike_message m dee
     let messages : OfMessage m ≡ OfMessage i = sym kind_is ∙ kind in
     let place : m ≡ i = cc in
     let rooms : deep ≡ inside = (let h : suc deep ≡ suc inside = sym deep_is ∙ room_is in omega (arith, h)) in
-    record { bytes = bytes; tree = t; value = e; content = is; reads = subst (λ (x : ℕ). Reads T inside (fields_of T x) bytes 0 t) place (subst (λ (x : ℕ). Reads T x (fields_of T m) bytes 0 t) rooms reads) }
+    record {
+      bytes = bytes;
+      tree = t;
+      value = e;
+      content = is;
+      reads = subst (λ (x : ℕ). Reads T inside (fields_of T x) bytes 0 t) place
+          (subst (λ (x : ℕ). Reads T x (fields_of T m) bytes 0 t) rooms reads);
+    }
 is-message T room inside label k i v c outside kind room_is (alike_entry key bytes t map_is e reads is) = absurd (map-clash label key outside map_is)
 
 -- the payloads joined, and their contents
-joined-alike : (T : Table) (room inside : ℕ) (label : Label) (k : Kind) (i : ℕ) (vs : List Value) (cs : List Content) → is_map label ≡ false → k ≡ OfMessage i → room ≡ suc inside → AllAlike T room label k vs cs
+joined-alike : (T : Table) (room inside : ℕ) (label : Label) (k : Kind) (i : ℕ) (vs : List Value) (cs : List Content)
+    → is_map label ≡ false → k ≡ OfMessage i → room ≡ suc inside → AllAlike T room label k vs cs
     → Reads T inside (fields_of T i) (joined_payloads vs) 0 (joined (singles_in cs))
 joined-alike T room inside label k i [] [] outside kind room_is h = read_end refl refl
 joined-alike T room inside label k i [] (c ∷ cs) outside kind room_is h = absurd h
@@ -173,7 +196,8 @@ joined-alike T room inside label k i (v ∷ vs) (c ∷ cs) outside kind room_is 
 taken-room : (T : Table) (room inside i : ℕ) (raw : Node) → room ≡ suc inside → merged_taken T room i raw ≡ meaning T inside (fields_of T i) raw
 taken-room T room inside i raw e = ap (λ x. merged_taken T x i raw) e ∙ taken-suc T inside i raw
 
-message-content : (T : Table) (room inside : ℕ) (label : Label) (k : Kind) (i : ℕ) (v : Value) (c : Content) (cs : List Content) → is_single label ≡ true → k ≡ OfMessage i → room ≡ suc inside → Alike T room label k v c
+message-content : (T : Table) (room inside : ℕ) (label : Label) (k : Kind) (i : ℕ) (v : Value) (c : Content)
+    (cs : List Content) → is_single label ≡ true → k ≡ OfMessage i → room ≡ suc inside → Alike T room label k v c
     → field_content (merged_taken T room) label k (c ∷ cs) ≡ single_content label (node (meaning T inside (fields_of T i) (joined (singles_in (c ∷ cs)))))
 message-content T room inside label k i v c cs one_only kind room_is h =
     let m = is-message T room inside label k i v c (single-no_map label one_only) kind room_is h in
@@ -195,17 +219,23 @@ values-split f (pairs ps) cs = refl
 
 piece-items : (inner : ℕ → Node → Node) (k : Kind) (ns : List ℕ) → is_message k ≡ false → map (element inner k) (items_in (numbers ns)) ≡ map number ns
 piece-items inner k [] plain = refl
-piece-items inner k (n ∷ ns) plain = ap (λ i. i ∷ map (element inner k) (items_in (numbers ns))) (element-same inner k (number n) plain) ∙ ap (λ is. number n ∷ is) (piece-items inner k ns plain)
+piece-items inner k (n ∷ ns) plain = ap (λ i. i ∷ map (element inner k) (items_in (numbers ns)))
+    (element-same inner k (number n) plain) ∙ ap (λ is. number n ∷ is) (piece-items inner k ns plain)
 
-message-element : (T : Table) (room inside : ℕ) (k : Kind) (i : ℕ) (t : Node) → k ≡ OfMessage i → room ≡ suc inside → element (merged_taken T room) k (node t) ≡ node (meaning T inside (fields_of T i) t)
+message-element : (T : Table) (room inside : ℕ) (k : Kind) (i : ℕ) (t : Node) → k ≡ OfMessage i → room ≡ suc inside
+    → element (merged_taken T room) k (node t) ≡ node (meaning T inside (fields_of T i) t)
 message-element T room inside k i t kind room_is =
     ap (λ x. element (merged_taken T room) x (node t)) kind ∙ ap (λ x. node (merged_taken T room i x)) (join-none t) ∙ ap node (taken-room T room inside i t room_is)
 
-items-of : (T : Table) (room : ℕ) (label : Label) (k : Kind) (v : Value) (c : Content) → Inner T room → is_list label ≡ true → Alike T room label k v c → ValueMeans T room k v (map (element (merged_taken T room) k) (values_in (c ∷ [])))
+items-of : (T : Table) (room : ℕ) (label : Label) (k : Kind) (v : Value) (c : Content) → Inner T room
+    → is_list label ≡ true → Alike T room label k v c
+    → ValueMeans T room k v (map (element (merged_taken T room) k) (values_in (c ∷ [])))
 items-of T room label k v c inner list (alike_number n no_map plain e is) =
     of_number n e (ap (λ x. map (element (merged_taken T room) k) (values_in (x ∷ []))) is ∙ ap (λ i. i ∷ []) (element-same (merged_taken T room) k (number n) plain))
 items-of T room label k v c inner list (alike_piece ns list_is plain e is) =
-    of_piece ns e (ap (λ x. map (element (merged_taken T room) k) (values_in (x ∷ []))) is ∙ ap (map (element (merged_taken T room) k)) (append-nil (items_in (numbers ns))) ∙ piece-items (merged_taken T room) k ns plain)
+    of_piece ns e (ap (λ x. map (element (merged_taken T room) k) (values_in (x ∷ []))) is
+    ∙ ap (map (element (merged_taken T room) k)) (append-nil (items_in (numbers ns)))
+    ∙ piece-items (merged_taken T room) k ns plain)
 items-of T room label k v c inner list (alike_run bytes no_map plain e is) =
     of_run bytes plain e (ap (λ x. map (element (merged_taken T room) k) (values_in (x ∷ []))) is ∙ ap (λ i. i ∷ []) (element-same (merged_taken T room) k (run bytes) plain))
 items-of T room label k v c inner list (alike_message i inside bytes t no_map kind room_is e reads is) =
@@ -213,16 +243,21 @@ items-of T room label k v c inner list (alike_message i inside bytes t no_map ki
     (ap (λ x. map (element (merged_taken T room) k) (values_in (x ∷ []))) is ∙ ap (λ j. j ∷ []) (message-element T room inside k i t kind room_is))
 items-of T room label k v c inner list (alike_entry key bytes t map_is e reads is) = absurd (map-clash label key (list-no_map label list) map_is)
 
-items-to : (T : Table) (room : ℕ) (label : Label) (k : Kind) (vs : List Value) (cs : List Content) → Inner T room → is_list label ≡ true → AllAlike T room label k vs cs → AreItems T room k vs (map (element (merged_taken T room) k) (values_in cs))
+items-to : (T : Table) (room : ℕ) (label : Label) (k : Kind) (vs : List Value) (cs : List Content) → Inner T room
+    → is_list label ≡ true → AllAlike T room label k vs cs
+    → AreItems T room k vs (map (element (merged_taken T room) k) (values_in cs))
 items-to T room label k [] [] inner list h = no_items refl refl
 items-to T room label k [] (c ∷ cs) inner list h = absurd h
 items-to T room label k (v ∷ vs) [] inner list h = absurd h
 items-to T room label k (v ∷ vs) (c ∷ cs) inner list h =
     let f = element (merged_taken T room) k in
-    more_items v vs (map f (values_in (c ∷ []))) (map f (values_in cs)) refl (items-of T room label k v c inner list h.0) (items-to T room label k vs cs inner list h.1) (values-split f c cs)
+    more_items v vs (map f (values_in (c ∷ []))) (map f (values_in cs)) refl
+    (items-of T room label k v c inner list h.0) (items-to T room label k vs cs inner list h.1)
+    (values-split f c cs)
 
 -- a message that means two is one
-message-items : Law → (T : Table) (room inside i : ℕ) (k : Kind) (v : Value) (bytes : List ℕ) (t : Node) (is : List Item) → Inner T room → k ≡ OfMessage i → room ≡ suc inside → v ≡ delimited bytes
+message-items : Law → (T : Table) (room inside i : ℕ) (k : Kind) (v : Value) (bytes : List ℕ) (t : Node)
+    (is : List Item) → Inner T room → k ≡ OfMessage i → room ≡ suc inside → v ≡ delimited bytes
     → Reads T inside (fields_of T i) bytes 0 t → ValueMeans T room k v is → is ≡ node (meaning T inside (fields_of T i) t) ∷ []
 message-items law T room inside i k v bytes t is inner kind room_is value reads (of_number n e j) = absurd (let h : delimited bytes ≡ single n = sym value ∙ e in cc)
 message-items law T room inside i k v bytes t is inner kind room_is value reads (of_piece ns e j) = absurd (let h : delimited bytes ≡ packed ns = sym value ∙ e in cc)
@@ -234,11 +269,15 @@ message-items law T room inside i k v bytes t is inner kind room_is value reads 
     let strings : delimited other ≡ delimited bytes = sym e ∙ value in
     let string : other ≡ bytes = cc in
     let here : MeansIn T inside (fields_of T i) bytes u =
-    subst (λ (x : List ℕ). MeansIn T inside (fields_of T i) x u) string (subst (λ (x : ℕ). MeansIn T inside (fields_of T x) other u) place (subst (λ (x : ℕ). MeansIn T x (fields_of T m) other u) rooms means)) in
+    subst (λ (x : List ℕ). MeansIn T inside (fields_of T i) x u) string
+    (subst (λ (x : ℕ). MeansIn T inside (fields_of T x) other u) place
+    (subst (λ (x : ℕ). MeansIn T x (fields_of T m) other u) rooms means)) in
     let b = (inner inside i room_is).back bytes u here in
     j ∙ ap (λ x. node x ∷ []) (b.2 ∙ ap (meaning T inside (fields_of T i)) (reads-same law b.1 reads))
 
-items-same : Law → (T : Table) (room : ℕ) (label : Label) (k : Kind) (v : Value) (c : Content) (is : List Item) → Inner T room → is_list label ≡ true → Alike T room label k v c → ValueMeans T room k v is → is ≡ map (element (merged_taken T room) k) (values_in (c ∷ []))
+items-same : Law → (T : Table) (room : ℕ) (label : Label) (k : Kind) (v : Value) (c : Content) (is : List Item)
+    → Inner T room → is_list label ≡ true → Alike T room label k v c → ValueMeans T room k v is
+    → is ≡ map (element (merged_taken T room) k) (values_in (c ∷ []))
 items-same law T room label k v c is inner list (alike_number n no_map plain e j) h =
     means-plain T room k v is plain h ∙ sym (means-plain T room k v _ plain (items-of T room label k v c inner list (alike_number n no_map plain e j)))
 items-same law T room label k v c is inner list (alike_piece ns list_is plain e j) h =
@@ -250,7 +289,9 @@ items-same law T room label k v c is inner list (alike_message i inside bytes t 
     ∙ sym (ap (λ x. map (element (merged_taken T room) k) (values_in (x ∷ []))) j ∙ ap (λ x. x ∷ []) (message-element T room inside k i t kind room_is))
 items-same law T room label k v c is inner list (alike_entry key bytes t map_is e reads j) h = absurd (map-clash label key (list-no_map label list) map_is)
 
-items-back : Law → (T : Table) (room : ℕ) (label : Label) (k : Kind) (vs : List Value) (cs : List Content) (is : List Item) → Inner T room → is_list label ≡ true → AllAlike T room label k vs cs → AreItems T room k vs is → is ≡ map (element (merged_taken T room) k) (values_in cs)
+items-back : Law → (T : Table) (room : ℕ) (label : Label) (k : Kind) (vs : List Value) (cs : List Content)
+    (is : List Item) → Inner T room → is_list label ≡ true → AllAlike T room label k vs cs → AreItems T room k vs is
+    → is ≡ map (element (merged_taken T room) k) (values_in cs)
 items-back law T room label k [] [] is inner list h (no_items e j) = j
 items-back law T room label k [] [] is inner list h (more_items v rest first others e means more j) = absurd (cc)
 items-back law T room label k [] (c ∷ cs) is inner list h g = absurd h
@@ -291,7 +332,9 @@ pairs-split : (T : Table) (room : ℕ) (key k : Kind) (c : Content) (cs : List C
 pairs-split T room key k c cs t e =
     ap (λ x. map (entry (merged_taken T room) key k) (values_in (x ∷ cs))) e ∙ ap (λ p. p ∷ map (entry (merged_taken T room) key k) (values_in cs)) (entry-same T room key k t)
 
-pairs-to : (T : Table) (room : ℕ) (label : Label) (key k : Kind) (vs : List Value) (cs : List Content) → Agree T room (entry_fields key k) → label ≡ Map key → AllAlike T room label k vs cs → AreEntries T room key k vs (map (entry (merged_taken T room) key k) (values_in cs))
+pairs-to : (T : Table) (room : ℕ) (label : Label) (key k : Kind) (vs : List Value) (cs : List Content)
+    → Agree T room (entry_fields key k) → label ≡ Map key → AllAlike T room label k vs cs
+    → AreEntries T room key k vs (map (entry (merged_taken T room) key k) (values_in cs))
 pairs-to T room label key k [] [] agree m h = no_entries refl refl
 pairs-to T room label key k [] (c ∷ cs) agree m h = absurd h
 pairs-to T room label key k (v ∷ vs) [] agree m h = absurd h
@@ -300,7 +343,9 @@ pairs-to T room label key k (v ∷ vs) (c ∷ cs) agree m h =
     more_entries p.bytes (meaning T room (entry_fields key k) p.tree) vs (map (entry (merged_taken T room) key k) (values_in cs)) (ap (λ x. x ∷ vs) p.value)
     (agree.to p.bytes p.tree p.reads) (pairs-to T room label key k vs cs agree m h.1) (pairs-split T room key k c cs p.tree p.content)
 
-pairs-back : Law → (T : Table) (room : ℕ) (label : Label) (key k : Kind) (vs : List Value) (cs : List Content) (es : List (Item × Item)) → Agree T room (entry_fields key k) → label ≡ Map key → AllAlike T room label k vs cs → AreEntries T room key k vs es
+pairs-back : Law → (T : Table) (room : ℕ) (label : Label) (key k : Kind) (vs : List Value) (cs : List Content)
+    (es : List (Item × Item)) → Agree T room (entry_fields key k) → label ≡ Map key → AllAlike T room label k vs cs
+    → AreEntries T room key k vs es
     → es ≡ map (entry (merged_taken T room) key k) (values_in cs)
 pairs-back law T room label key k [] [] es agree m h (no_entries e j) = j
 pairs-back law T room label key k [] [] es agree m h (more_entries bytes t rest others e means more j) = absurd (cc)
@@ -317,7 +362,8 @@ pairs-back law T room label key k (v ∷ vs) (c ∷ cs) es agree m h (more_entri
     let same : b.0 ≡ p.tree = reads-same law b.1 (subst (λ (x : List ℕ). Reads T room (entry_fields key k) x 0 p.tree) string p.reads) in
     let tree : t ≡ meaning T room (entry_fields key k) p.tree = b.2 ∙ ap (meaning T room (entry_fields key k)) same in
     let later = pairs-back law T room label key k vs cs others agree m h.1 (subst (λ (x : List Value). AreEntries T room key k x others) (sym rests) more) in
-    j ∙ ap (λ x. (item_or_default 1 key x, item_or_default 2 k x) ∷ others) tree ∙ ap (λ xs. pair_of T room key k p.tree ∷ xs) later ∙ sym (pairs-split T room key k c cs p.tree p.content)
+    j ∙ ap (λ x. (item_or_default 1 key x, item_or_default 2 k x) ∷ others) tree
+    ∙ ap (λ xs. pair_of T room key k p.tree ∷ xs) later ∙ sym (pairs-split T room key k c cs p.tree p.content)
 
 -- ---- a field
 
@@ -339,16 +385,24 @@ single-to T room label (OfMessage i) v vs c cs inner one_only h more =
     (message-content T room r.0 label (OfMessage i) i v c cs one_only refl r.1 h)
 single-to T room label k v vs c cs inner one_only h more = plain-to T room label k v vs c cs one_only refl h more
 
-field-to : (T : Table) (room : ℕ) (label : Label) (k : Kind) (vs : List Value) (cs : List Content) → Inner T room → Entries T room label k → AllAlike T room label k vs cs → FieldMeans T room label k vs (field_content (merged_taken T room) label k cs)
+field-to : (T : Table) (room : ℕ) (label : Label) (k : Kind) (vs : List Value) (cs : List Content) → Inner T room
+    → Entries T room label k → AllAlike T room label k vs cs
+    → FieldMeans T room label k vs (field_content (merged_taken T room) label k cs)
 field-to T room label k [] [] inner ents h = no_value refl (content-none (merged_taken T room) label k)
 field-to T room label k [] (c ∷ cs) inner ents h = absurd h
 field-to T room label k (v ∷ vs) [] inner ents h = absurd h
 field-to T room Plain k (v ∷ vs) (c ∷ cs) inner ents h = single-to T room Plain k v vs c cs inner refl h.0 h.1
 field-to T room Optional k (v ∷ vs) (c ∷ cs) inner ents h = single-to T room Optional k v vs c cs inner refl h.0 h.1
 field-to T room (Member o) k (v ∷ vs) (c ∷ cs) inner ents h = single-to T room (Member o) k v vs c cs inner refl h.0 h.1
-field-to T room Repeated k (v ∷ vs) (c ∷ cs) inner ents h = elements (map (element (merged_taken T room) k) (values_in (c ∷ cs))) refl (items-to T room Repeated k (v ∷ vs) (c ∷ cs) inner refl h) refl
-field-to T room Packed k (v ∷ vs) (c ∷ cs) inner ents h = elements (map (element (merged_taken T room) k) (values_in (c ∷ cs))) refl (items-to T room Packed k (v ∷ vs) (c ∷ cs) inner refl h) refl
-field-to T room (Map key) k (v ∷ vs) (c ∷ cs) inner ents h = entries key (map (entry (merged_taken T room) key k) (values_in (c ∷ cs))) refl (pairs-to T room (Map key) key k (v ∷ vs) (c ∷ cs) (ents key refl) refl h) refl
+field-to T room Repeated k (v ∷ vs) (c ∷ cs) inner ents h =
+    elements (map (element (merged_taken T room) k) (values_in (c ∷ cs))) refl
+    (items-to T room Repeated k (v ∷ vs) (c ∷ cs) inner refl h) refl
+field-to T room Packed k (v ∷ vs) (c ∷ cs) inner ents h =
+    elements (map (element (merged_taken T room) k) (values_in (c ∷ cs))) refl
+    (items-to T room Packed k (v ∷ vs) (c ∷ cs) inner refl h) refl
+field-to T room (Map key) k (v ∷ vs) (c ∷ cs) inner ents h =
+    entries key (map (entry (merged_taken T room) key k) (values_in (c ∷ cs))) refl
+    (pairs-to T room (Map key) key k (v ∷ vs) (c ∷ cs) (ents key refl) refl h) refl
 
 none-alike : (T : Table) (room : ℕ) (label : Label) (k : Kind) (vs : List Value) (cs : List Content) → vs ≡ [] → AllAlike T room label k vs cs → cs ≡ []
 none-alike T room label k [] [] e h = refl
@@ -359,7 +413,8 @@ append-some : (before : List Value) (v : Value) → before ++ v ∷ [] ≡ [] �
 append-some [] v e = cc
 append-some (b ∷ bs) v e = cc
 
-last-back : (T : Table) (room : ℕ) (label : Label) (k : Kind) (vs : List Value) (cs : List Content) (before : List Value) (last : Value) (i : Item) → is_single label ≡ true → is_message k ≡ false
+last-back : (T : Table) (room : ℕ) (label : Label) (k : Kind) (vs : List Value) (cs : List Content)
+    (before : List Value) (last : Value) (i : Item) → is_single label ≡ true → is_message k ≡ false
     → AllAlike T room label k vs cs → vs ≡ before ++ last ∷ [] → ValueMeans T room k last (i ∷ []) → field_content (merged_taken T room) label k cs ≡ single_content label i
 last-back T room label k [] [] before last i one_only plain h split means = absurd (append-some before last (sym split))
 last-back T room label k [] (c ∷ cs) before last i one_only plain h split means = absurd h
@@ -372,7 +427,8 @@ last-back T room label k (v ∷ vs) (c ∷ cs) before last i one_only plain h sp
     let item : r.item ≡ i = cc in
     single-content (merged_taken T room) label k (c ∷ cs) i one_only (singular-last (merged_taken T room) k (singles_in (c ∷ cs)) plain ∙ r.found ∙ ap Some item)
 
-message-back : Law → (T : Table) (room inside i : ℕ) (label : Label) (k : Kind) (vs : List Value) (cs : List Content) (t : Node) → Inner T room → is_single label ≡ true → k ≡ OfMessage i → room ≡ suc inside → vs ≢ []
+message-back : Law → (T : Table) (room inside i : ℕ) (label : Label) (k : Kind) (vs : List Value) (cs : List Content)
+    (t : Node) → Inner T room → is_single label ≡ true → k ≡ OfMessage i → room ≡ suc inside → vs ≢ []
     → AllAlike T room label k vs cs → MeansIn T inside (fields_of T i) (joined_payloads vs) t → field_content (merged_taken T room) label k cs ≡ single_content label (node t)
 message-back law T room inside i label k [] [] t inner one_only kind room_is some h means = absurd (some refl)
 message-back law T room inside i label k [] (c ∷ cs) t inner one_only kind room_is some h means = absurd h
@@ -383,26 +439,37 @@ message-back law T room inside i label k (v ∷ vs) (c ∷ cs) t inner one_only 
     message-content T room inside label k i v c cs one_only kind room_is h.0
     ∙ ap (λ x. single_content label (node x)) (sym (b.2 ∙ ap (meaning T inside (fields_of T i)) (reads-same law b.1 reads)))
 
-field-back : Law → (T : Table) (room : ℕ) (label : Label) (k : Kind) (vs : List Value) (cs : List Content) (c : Option Content) → Inner T room → Entries T room label k → AllAlike T room label k vs cs → FieldMeans T room label k vs c
+field-back : Law → (T : Table) (room : ℕ) (label : Label) (k : Kind) (vs : List Value) (cs : List Content)
+    (c : Option Content) → Inner T room → Entries T room label k → AllAlike T room label k vs cs
+    → FieldMeans T room label k vs c
     → c ≡ field_content (merged_taken T room) label k cs
-field-back law T room label k vs cs c inner ents h (no_value e is) = is ∙ sym (ap (field_content (merged_taken T room) label k) (none-alike T room label k vs cs e h) ∙ content-none (merged_taken T room) label k)
-field-back law T room label k vs cs c inner ents h (rule.last_value before last i one_only plain split means is) = is ∙ sym (last-back T room label k vs cs before last i one_only plain h split means)
-field-back law T room label k vs cs c inner ents h (one_message i inside t one_only kind room_is some means is) = is ∙ sym (message-back law T room inside i label k vs cs t inner one_only kind room_is some h means)
-field-back law T room label k vs cs c inner ents h (elements is list items e) = e ∙ ap some_items (items-back law T room label k vs cs is inner list h items) ∙ sym (list-content (merged_taken T room) label k cs list)
+field-back law T room label k vs cs c inner ents h (no_value e is) =
+    is ∙ sym (ap (field_content (merged_taken T room) label k) (none-alike T room label k vs cs e h)
+    ∙ content-none (merged_taken T room) label k)
+field-back law T room label k vs cs c inner ents h (rule.last_value before last i one_only plain split means is) =
+    is ∙ sym (last-back T room label k vs cs before last i one_only plain h split means)
+field-back law T room label k vs cs c inner ents h (one_message i inside t one_only kind room_is some means is) =
+    is ∙ sym (message-back law T room inside i label k vs cs t inner one_only kind room_is some h means)
+field-back law T room label k vs cs c inner ents h (elements is list items e) =
+    e ∙ ap some_items (items-back law T room label k vs cs is inner list h items)
+    ∙ sym (list-content (merged_taken T room) label k cs list)
 field-back law T room label k vs cs c inner ents h (entries key es m pairs_are e) =
     e ∙ ap (λ x. some_pairs (last_of_each key x)) (pairs-back law T room label key k vs cs es (ents key m) m h pairs_are)
     ∙ sym (ap (λ x. field_content (merged_taken T room) x k cs) m)
 
 -- ---- the fields
 
-fields-to : (T : Table) (room : ℕ) (fs : List Field) (vs : List (ℕ × Value)) (raw : Node) → Inner T room → AllEntries T room fs → Match T room fs vs raw → AreFields T room fs vs (taken (merged_taken T room) raw fs)
+fields-to : (T : Table) (room : ℕ) (fs : List Field) (vs : List (ℕ × Value)) (raw : Node) → Inner T room
+    → AllEntries T room fs → Match T room fs vs raw → AreFields T room fs vs (taken (merged_taken T room) raw fs)
 fields-to T room [] vs raw inner ents h = no_field refl refl
 fields-to T room (f ∷ fs) vs raw inner ents h =
     one_field f fs (field_content (merged_taken T room) f.label f.kind (contents_of f.number raw)) (taken (merged_taken T room) (contents_but f.number raw) fs) refl
     (field-to T room f.label f.kind (values_of f.number vs) (contents_of f.number raw) inner ents.0 (match-field T room (f ∷ fs) f.number f vs raw (field-here f fs f.number refl) h))
     (fields-to T room fs (values_but f.number vs) (contents_but f.number raw) inner ents.1 (match-but T room f fs vs raw h)) refl
 
-fields-back : Law → (T : Table) (room : ℕ) (fs : List Field) (vs : List (ℕ × Value)) (t raw : Node) → Inner T room → AllEntries T room fs → Match T room fs vs raw → AreFields T room fs vs t → t ≡ taken (merged_taken T room) raw fs
+fields-back : Law → (T : Table) (room : ℕ) (fs : List Field) (vs : List (ℕ × Value)) (t raw : Node) → Inner T room
+    → AllEntries T room fs → Match T room fs vs raw → AreFields T room fs vs t
+    → t ≡ taken (merged_taken T room) raw fs
 fields-back law T room [] vs t raw inner ents h (no_field e is) = is
 fields-back law T room [] vs t raw inner ents h (one_field f rest c others e means more is) = absurd (cc)
 fields-back law T room (f ∷ fs) vs t raw inner ents h (no_field e is) = absurd (cc)
@@ -410,15 +477,20 @@ fields-back law T room (f ∷ fs) vs t raw inner ents h (one_field g rest c othe
     let same : g ≡ f = cc in
     let rests : rest ≡ fs = cc in
     let here : FieldMeans T room f.label f.kind (values_of f.number vs) c = subst (λ (x : Field). FieldMeans T room x.label x.kind (values_of x.number vs) c) same means in
-    let later : AreFields T room fs (values_but f.number vs) others = subst (λ (x : List Field). AreFields T room x (values_but f.number vs) others) rests (subst (λ (x : Field). AreFields T room rest (values_but x.number vs) others) same more) in
-    let content = field-back law T room f.label f.kind (values_of f.number vs) (contents_of f.number raw) c inner ents.0 (match-field T room (f ∷ fs) f.number f vs raw (field-here f fs f.number refl) h) here in
+    let later : AreFields T room fs (values_but f.number vs) others =
+    subst (λ (x : List Field). AreFields T room x (values_but f.number vs) others) rests
+    (subst (λ (x : Field). AreFields T room rest (values_but x.number vs) others) same more) in
+    let content = field-back law T room f.label f.kind (values_of f.number vs) (contents_of f.number raw) c inner
+    ents.0 (match-field T room (f ∷ fs) f.number f vs raw (field-here f fs f.number refl) h) here in
     let behind = fields-back law T room fs (values_but f.number vs) others (contents_but f.number raw) inner ents.1 (match-but T room f fs vs raw h) later in
     is ∙ ap (λ (x : Field). with_content x.number c others) same ∙ ap (λ x. with_content f.number x others) content
     ∙ ap (with_content f.number (field_content (merged_taken T room) f.label f.kind (contents_of f.number raw))) behind
 
 -- ---- the message
 
-back-one : Law → (T : Table) (room : ℕ) (fs : List Field) → Inner T room → AllEntries T room fs → (bytes : List ℕ) (t : Node) → MeansIn T room fs bytes t → (raw : Node) × Reads T room fs bytes 0 raw × (t ≡ meaning T room fs raw)
+back-one : Law → (T : Table) (room : ℕ) (fs : List Field) → Inner T room → AllEntries T room fs
+    → (bytes : List ℕ) (t : Node) → MeansIn T room fs bytes t
+    → (raw : Node) × Reads T room fs bytes 0 raw × (t ≡ meaning T room fs raw)
 back-one law T room fs inner ents bytes t (means_in rs vs records values fields) =
     let r = contents-of T room fs inner ents bytes rs vs values 0 records in
     (r.0, r.1, fields-back law T room fs (counted_values fs vs) t (counted fs r.0) inner ents (match-counted T room fs fs vs r.0 r.2) fields)
@@ -433,7 +505,10 @@ agree-one law T room fs inner ents = record {
 
 all-entries : Law → (T : Table) (room : ℕ) (fs : List Field) → Inner T room → AllEntries T room fs
 all-entries law T room [] inner = tt
-all-entries law T room (f ∷ fs) inner = (λ key e. agree-one law T room (entry_fields key f.kind) inner ((λ k h. absurd (cc)), ((λ k h. absurd (cc)), tt)), all-entries law T room fs inner)
+all-entries law T room (f ∷ fs) inner = (
+  λ key e. agree-one law T room (entry_fields key f.kind) inner ((λ k h. absurd (cc)), ((λ k h. absurd (cc)), tt)),
+  all-entries law T room fs inner,
+)
 
 pub agree : Law → (T : Table) (room : ℕ) (fs : List Field) → Agree T room fs
 agree law T zero fs =

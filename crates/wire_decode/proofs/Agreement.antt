@@ -31,7 +31,8 @@ merges-of law T msg bytes t a m =
 pub some-meaning : Law → (T : Table) (msg : ℕ) (bytes : List ℕ) (raw : Node) → Reads T 31 (fields_of T msg) bytes 0 raw → (t : Node) × Means T msg bytes t
 some-meaning law T msg bytes raw h = (meaning T 31 (fields_of T msg) raw, record { meaning = (agree law T 31 (fields_of T msg)).to bytes raw h })
 
-pub meaning-reads : Law → (T : Table) (msg : ℕ) (bytes : List ℕ) (t : Node) → Means T msg bytes t → (raw : Node) × Reads T 31 (fields_of T msg) bytes 0 raw × (t ≡ meaning T 31 (fields_of T msg) raw)
+pub meaning-reads : Law → (T : Table) (msg : ℕ) (bytes : List ℕ) (t : Node) → Means T msg bytes t
+    → (raw : Node) × Reads T 31 (fields_of T msg) bytes 0 raw × (t ≡ meaning T 31 (fields_of T msg) raw)
 meaning-reads law T msg bytes t m = (agree law T 31 (fields_of T msg)).back bytes t m.meaning
 
 pub meaning-same : Law → (T : Table) (msg : ℕ) (bytes : List ℕ) (t u : Node) → Means T msg bytes t → Means T msg bytes u → t ≡ u

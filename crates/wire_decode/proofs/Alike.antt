@@ -1,5 +1,6 @@
 -- The values of records, rule by rule, and the contents that are read from them.
-use Rattle.std.proofs.Common.{◌≡◌, ◌≢◌, ℕ, suc, ◌-◌, ◌+◌, ◌%◌, ◌≤◌, List, [], ◌∷◌, length, take, drop, Some, false, true, refl, ap, sym, subst, ◌∙◌, arith, ⊎_elim}
+use Rattle.std.proofs.Common.{◌≡◌, ◌≢◌, ℕ, suc, ◌-◌, ◌+◌, ◌%◌, ◌≤◌, List, [], ◌∷◌, length, take, drop, Some, false}
+use Rattle.std.proofs.Common.{true, refl, ap, sym, subst, ◌∙◌, arith, ⊎_elim}
 use Rattle.std.specs.Prelude.{if◌then◌else◌, ◌==◌, ◌||◌, Bool, Option}
 use Rattle.std.specs.List.{slice_range}
 use Rattle.std.proofs.lemmas.Bool.Decides.{eqb_tells}
@@ -18,9 +19,13 @@ use Rattle.wire_base.specs.declared.records.Record.{Record}
 use Rattle.wire_base.specs.declared.records.Payload.{Payload}
 use Rattle.wire_base.specs.declared.records.Payload.TheVariants.{Len}
 use Rattle.wire_decode.specs.Words.{word_of, number_in, is_list, is_map, may_be_packed, AreElements}
-use Rattle.wire_decode.specs.Reads.{Reads, read_end, read_other, read_known, Holds, holds_number, holds_piece, holds_text, holds_octets, holds_message, holds_entry, is_message, entry_fields, numbers}
+use Rattle.wire_decode.specs.Reads.{Reads, read_end, read_other, read_known, Holds, holds_number, holds_piece}
+use Rattle.wire_decode.specs.Reads.{holds_text, holds_octets, holds_message, holds_entry, is_message, entry_fields}
+use Rattle.wire_decode.specs.Reads.{numbers}
 use Rattle.wire_decode.specs.Merged.{contents_of, are_rivals, is_overtaken, counted}
-use Rattle.wire_decode.specs.Meaning.{Value, single, packed, delimited, has_rival, counted_values, values_of, values_but, MeansIn, HaveValues, no_more, skipped, known, HasValue, a_number, a_piece, a_text, some_octets, a_message, an_entry}
+use Rattle.wire_decode.specs.Meaning.{Value, single, packed, delimited, has_rival, counted_values, values_of}
+use Rattle.wire_decode.specs.Meaning.{values_but, MeansIn, HaveValues, no_more, skipped, known, HasValue, a_number}
+use Rattle.wire_decode.specs.Meaning.{a_piece, a_text, some_octets, a_message, an_entry}
 use Rattle.wire_decode.proofs.Payloads.{PayloadAt-span}
 use Rattle.wire_decode.proofs.Unique.{packed-numeric}
 use Rattle.wire_decode.proofs.Merging.{field-here, field-later}
@@ -30,11 +35,18 @@ use Rattle.wire_decode.proofs.Taken.{contents_but, meaning}
 -- ---- a value and a content
 
 pub data Alike (T : Table) : ℕ → Label → Kind → Value → Content → Type 0 where
-  alike_number : {room : ℕ} {label : Label} {k : Kind} {v : Value} {c : Content} (n : ℕ) → is_map label ≡ false → is_message k ≡ false → v ≡ single n → c ≡ one (number n) → Alike T room label k v c
-  alike_piece : {room : ℕ} {label : Label} {k : Kind} {v : Value} {c : Content} (ns : List ℕ) → is_list label ≡ true → is_message k ≡ false → v ≡ packed ns → c ≡ many (numbers ns) → Alike T room label k v c
-  alike_run : {room : ℕ} {label : Label} {k : Kind} {v : Value} {c : Content} (bytes : List ℕ) → is_map label ≡ false → is_message k ≡ false → v ≡ delimited bytes → c ≡ one (run bytes) → Alike T room label k v c
-  alike_message : {room : ℕ} {label : Label} {k : Kind} {v : Value} {c : Content} (i inside : ℕ) (bytes : List ℕ) (t : Node) → is_map label ≡ false → k ≡ OfMessage i → room ≡ suc inside → v ≡ delimited bytes → Reads T inside (fields_of T i) bytes 0 t → c ≡ one (node t) → Alike T room label k v c
-  alike_entry : {room : ℕ} {label : Label} {k : Kind} {v : Value} {c : Content} (key : Kind) (bytes : List ℕ) (t : Node) → label ≡ Map key → v ≡ delimited bytes → Reads T room (entry_fields key k) bytes 0 t → c ≡ one (node t) → Alike T room label k v c
+  alike_number : {room : ℕ} {label : Label} {k : Kind} {v : Value} {c : Content} (n : ℕ) → is_map label ≡ false
+      → is_message k ≡ false → v ≡ single n → c ≡ one (number n) → Alike T room label k v c
+  alike_piece : {room : ℕ} {label : Label} {k : Kind} {v : Value} {c : Content} (ns : List ℕ) → is_list label ≡ true
+      → is_message k ≡ false → v ≡ packed ns → c ≡ many (numbers ns) → Alike T room label k v c
+  alike_run : {room : ℕ} {label : Label} {k : Kind} {v : Value} {c : Content} (bytes : List ℕ) → is_map label ≡ false
+      → is_message k ≡ false → v ≡ delimited bytes → c ≡ one (run bytes) → Alike T room label k v c
+  alike_message : {room : ℕ} {label : Label} {k : Kind} {v : Value} {c : Content} (i inside : ℕ) (bytes : List ℕ)
+      (t : Node) → is_map label ≡ false → k ≡ OfMessage i → room ≡ suc inside → v ≡ delimited bytes
+      → Reads T inside (fields_of T i) bytes 0 t → c ≡ one (node t) → Alike T room label k v c
+  alike_entry : {room : ℕ} {label : Label} {k : Kind} {v : Value} {c : Content} (key : Kind) (bytes : List ℕ)
+      (t : Node) → label ≡ Map key → v ≡ delimited bytes → Reads T room (entry_fields key k) bytes 0 t
+      → c ≡ one (node t) → Alike T room label k v c
 
 abbrev pub AllAlike : Table → ℕ → Label → Kind → List Value → List Content → Type 0
 AllAlike T room label k [] [] = Unit {0}
@@ -90,7 +102,9 @@ field-go T room label k v vs c cs false true e h more = absurd (cc)
 field-go T room label k v vs c cs false false e h more = more
 
 -- the values of one field
-pub match-field : (T : Table) (room : ℕ) (fs : List Field) (n : ℕ) (f : Field) (vs : List (ℕ × Value)) (t : Node) → field_at fs n ≡ Some f → Match T room fs vs t → AllAlike T room f.label f.kind (values_of n vs) (contents_of n t)
+pub match-field : (T : Table) (room : ℕ) (fs : List Field) (n : ℕ) (f : Field) (vs : List (ℕ × Value)) (t : Node)
+    → field_at fs n ≡ Some f → Match T room fs vs t
+    → AllAlike T room f.label f.kind (values_of n vs) (contents_of n t)
 match-field T room fs n f [] no_fields at h = tt
 match-field T room fs n f [] (field m c t) at h = absurd h
 match-field T room fs n f (w ∷ ws) no_fields at h = absurd h
@@ -111,7 +125,8 @@ but-go T room fs w ws m c t false true e n h more = absurd (cc)
 but-go T room fs w ws m c t false false e n h more = (n, h refl, more)
 
 -- the values of the other fields
-pub match-but : (T : Table) (room : ℕ) (f : Field) (fs : List Field) (vs : List (ℕ × Value)) (t : Node) → Match T room (f ∷ fs) vs t → Match T room fs (values_but f.number vs) (contents_but f.number t)
+pub match-but : (T : Table) (room : ℕ) (f : Field) (fs : List Field) (vs : List (ℕ × Value)) (t : Node)
+    → Match T room (f ∷ fs) vs t → Match T room fs (values_but f.number vs) (contents_but f.number t)
 match-but T room f fs [] no_fields h = tt
 match-but T room f fs [] (field m c t) h = absurd h
 match-but T room f fs (w ∷ ws) no_fields h = absurd h
@@ -167,21 +182,27 @@ cut-slice bytes s e h = ap (λ n. drop s (take n bytes)) (let x : e ≡ s + (e -
 cut-long : (bytes : List ℕ) (s e : ℕ) → IsWithin (length bytes) (Len s e) → s ≤ length (take e bytes)
 cut-long bytes s e w = omega (arith, w.0, length-take-le e bytes w.1)
 
-pub slice-elements : (k : Kind) (bytes : List ℕ) (s e : ℕ) (ns : List ℕ) → IsWithin (length bytes) (Len s e) → AreElements k (take e bytes) s ns → AreElements k (slice_range bytes s e) 0 ns
+pub slice-elements : (k : Kind) (bytes : List ℕ) (s e : ℕ) (ns : List ℕ) → IsWithin (length bytes) (Len s e)
+    → AreElements k (take e bytes) s ns → AreElements k (slice_range bytes s e) 0 ns
 slice-elements k bytes s e ns w h =
     subst (λ (xs : List ℕ). AreElements k xs 0 ns) (cut-slice bytes s e w.0)
     (elements-back s (take e bytes) (cut-long bytes s e w) k 0 ns (subst (λ (x : ℕ). AreElements k (take e bytes) x ns) (let x : s ≡ s + 0 = omega arith in x) h))
 
-pub whole-elements : (k : Kind) (bytes : List ℕ) (s e : ℕ) (ns : List ℕ) → IsWithin (length bytes) (Len s e) → AreElements k (slice_range bytes s e) 0 ns → AreElements k (take e bytes) s ns
+pub whole-elements : (k : Kind) (bytes : List ℕ) (s e : ℕ) (ns : List ℕ) → IsWithin (length bytes) (Len s e)
+    → AreElements k (slice_range bytes s e) 0 ns → AreElements k (take e bytes) s ns
 whole-elements k bytes s e ns w h =
     subst (λ (x : ℕ). AreElements k (take e bytes) x ns) (let x : s + 0 ≡ s = omega arith in x)
     (elements-to s (take e bytes) (cut-long bytes s e w) k 0 ns (subst (λ (xs : List ℕ). AreElements k xs 0 ns) (sym (cut-slice bytes s e w.0)) h))
 
-pub slice-reads : (T : Table) (room : ℕ) (fs : List Field) (bytes : List ℕ) (s e : ℕ) (t : Node) → IsWithin (length bytes) (Len s e) → Reads T room fs (take e bytes) s t → Reads T room fs (slice_range bytes s e) 0 t
+pub slice-reads : (T : Table) (room : ℕ) (fs : List Field) (bytes : List ℕ) (s e : ℕ) (t : Node)
+    → IsWithin (length bytes) (Len s e) → Reads T room fs (take e bytes) s t
+    → Reads T room fs (slice_range bytes s e) 0 t
 slice-reads T room fs bytes s e t w h =
     subst (λ (xs : List ℕ). Reads T room fs xs 0 t) (cut-slice bytes s e w.0) (reads-back s (take e bytes) (cut-long bytes s e w) 0 (let x : s ≡ s + 0 = omega arith in x) h)
 
-pub whole-reads : (T : Table) (room : ℕ) (fs : List Field) (bytes : List ℕ) (s e : ℕ) (t : Node) → IsWithin (length bytes) (Len s e) → Reads T room fs (slice_range bytes s e) 0 t → Reads T room fs (take e bytes) s t
+pub whole-reads : (T : Table) (room : ℕ) (fs : List Field) (bytes : List ℕ) (s e : ℕ) (t : Node)
+    → IsWithin (length bytes) (Len s e) → Reads T room fs (slice_range bytes s e) 0 t
+    → Reads T room fs (take e bytes) s t
 whole-reads T room fs bytes s e t w h =
     subst (λ (x : ℕ). Reads T room fs (take e bytes) x t) (let x : s + 0 ≡ s = omega arith in x)
     (reads-to s (take e bytes) (slice_range bytes s e) (cut-long bytes s e w) (sym (cut-slice bytes s e w.0)) h)
@@ -192,8 +213,11 @@ value-of T room label k bytes p c inner entries w (holds_number no_map numeric t
     let n = word_of k (number_in p) in
     (single n, a_number no_map numeric typed refl, alike_number n no_map (numeric-plain k numeric) refl is)
 value-of T room label k bytes p c inner entries w (holds_piece s e ns packable at whole is) =
-    let v = subst (IsWithin (length bytes)) at w in
-    (packed ns, a_piece s e ns packable at (slice-elements k bytes s e ns v whole) refl, alike_piece ns (packed-list label k packable) (numeric-plain k (packed-numeric label k packable)) refl is)
+    let v = subst (IsWithin (length bytes)) at w in (
+      packed ns,
+      a_piece s e ns packable at (slice-elements k bytes s e ns v whole) refl,
+      alike_piece ns (packed-list label k packable) (numeric-plain k (packed-numeric label k packable)) refl is,
+    )
 value-of T room label k bytes p c inner entries w (holds_text s e no_map kind at utf8 is) =
     let piece = slice_range bytes s e in
     (delimited piece, a_text s e no_map kind at utf8 refl, alike_run piece no_map (ap is_message kind) refl is)
@@ -221,8 +245,11 @@ content-of T room label k bytes p v inner entries w (a_number no_map numeric typ
     let n = word_of k (number_in p) in
     (one (number n), holds_number no_map numeric typed refl, alike_number n no_map (numeric-plain k numeric) is refl)
 content-of T room label k bytes p v inner entries w (a_piece s e ns packable at whole is) =
-    let u = subst (IsWithin (length bytes)) at w in
-    (many (numbers ns), holds_piece s e ns packable at (whole-elements k bytes s e ns u whole) refl, alike_piece ns (packed-list label k packable) (numeric-plain k (packed-numeric label k packable)) is refl)
+    let u = subst (IsWithin (length bytes)) at w in (
+      many (numbers ns),
+      holds_piece s e ns packable at (whole-elements k bytes s e ns u whole) refl,
+      alike_piece ns (packed-list label k packable) (numeric-plain k (packed-numeric label k packable)) is refl,
+    )
 content-of T room label k bytes p v inner entries w (a_text s e no_map kind at utf8 is) =
     let piece = slice_range bytes s e in
     (one (run piece), holds_text s e no_map kind at utf8 refl, alike_run piece no_map (ap is_message kind) is refl)
@@ -250,7 +277,8 @@ values-of T room fs inner entries bytes at raw (read_other r here other g) =
     (r ∷ h.0, h.1, (here, h.2), skipped r h.0 refl other h.3, h.4)
 values-of T room fs inner entries bytes at raw (read_known r f c rest here at_f holds is g) =
     let h = values-of T room fs inner entries bytes r.next rest g in
-    let v = value-of T room f.label f.kind bytes r.payload c inner (entries-at T room fs r.number f entries at_f) (PayloadAt-span bytes here.start (here.tag % 8) r.payload r.next here.payload) holds in (
+    let v = value-of T room f.label f.kind bytes r.payload c inner (entries-at T room fs r.number f entries at_f)
+    (PayloadAt-span bytes here.start (here.tag % 8) r.payload r.next here.payload) holds in (
       r ∷ h.0,
       (r.number, v.0) ∷ h.1,
       (here, h.2),
@@ -258,7 +286,8 @@ values-of T room fs inner entries bytes at raw (read_known r f c rest here at_f 
       subst (λ (x : Node). Match T room fs ((r.number, v.0) ∷ h.1) x) (sym is) (refl, (f, at_f, v.2), h.4),
     )
 
-pub contents-of : (T : Table) (room : ℕ) (fs : List Field) → Inner T room → AllEntries T room fs → (bytes : List ℕ) (rs : List Record) (vs : List (ℕ × Value)) → HaveValues T room fs bytes rs vs
+pub contents-of : (T : Table) (room : ℕ) (fs : List Field) → Inner T room → AllEntries T room fs
+    → (bytes : List ℕ) (rs : List Record) (vs : List (ℕ × Value)) → HaveValues T room fs bytes rs vs
     → (at : ℕ) → RecordsFrom bytes at rs → (raw : Node) × Reads T room fs bytes at raw × Match T room fs vs raw
 contents-of T room fs inner entries bytes rs vs (no_more e is) at h =
     let ends : at ≡ length bytes = subst (λ (xs : List Record). RecordsFrom bytes at xs) e h in
@@ -270,7 +299,8 @@ contents-of T room fs inner entries bytes rs vs (skipped r rest e other g) at h 
 contents-of T room fs inner entries bytes rs vs (known r rest f v others e at_f has g is) at h =
     let k : RecordAt bytes at r × RecordsFrom bytes r.next rest = subst (λ (xs : List Record). RecordsFrom bytes at xs) e h in
     let here = k.0 in
-    let c = content-of T room f.label f.kind bytes r.payload v inner (entries-at T room fs r.number f entries at_f) (PayloadAt-span bytes here.start (here.tag % 8) r.payload r.next here.payload) has in
+    let c = content-of T room f.label f.kind bytes r.payload v inner (entries-at T room fs r.number f entries at_f)
+    (PayloadAt-span bytes here.start (here.tag % 8) r.payload r.next here.payload) has in
     let m = contents-of T room fs inner entries bytes rest others g r.next k.1 in (
       field r.number c.0 m.0,
       read_known r f c.0 m.0 here at_f c.1 refl m.1,

@@ -1,5 +1,6 @@
 -- Bytes are read or have a first fault.
-use Rattle.std.proofs.Common.{◌≡◌, ◌≢◌, ℕ, zero, suc, ◌+◌, ◌%◌, ◌<◌, ◌≤◌, ◌⊎◌, List, [], ◌∷◌, length, take, Option, Some, None, Bool, true, false, refl, sym, subst, ◌∙◌, arith, inl, inr, ⊎_elim}
+use Rattle.std.proofs.Common.{◌≡◌, ◌≢◌, ℕ, zero, suc, ◌+◌, ◌%◌, ◌<◌, ◌≤◌, ◌⊎◌, List, [], ◌∷◌, length, take, Option}
+use Rattle.std.proofs.Common.{Some, None, Bool, true, false, refl, sym, subst, ◌∙◌, arith, inl, inr, ⊎_elim}
 use Rattle.std.specs.Option.{option_map, unwrap_or}
 use Rattle.std.specs.List.{slice_range}
 use Rattle.std.specs.Str.{is_utf8}
@@ -21,7 +22,9 @@ use Rattle.wire_base.specs.declared.records.Payload.{Payload}
 use Rattle.wire_base.specs.declared.records.Payload.TheVariants.{Varint, I64, I32, Len}
 use Rattle.wire_base.specs.declared.records.Record.{Record}
 use Rattle.wire_decode.specs.Words.{word_of, number_in, payload_type, is_map, suits, AreElements}
-use Rattle.wire_decode.specs.Reads.{Reads, read_end, read_other, read_known, Holds, holds_piece, holds_text, holds_octets, holds_message, holds_entry, HasRoom, is_message, is_known, entry_fields, numbers}
+use Rattle.wire_decode.specs.Reads.{Reads, read_end, read_other, read_known, Holds, holds_piece, holds_text}
+use Rattle.wire_decode.specs.Reads.{holds_octets, holds_message, holds_entry, HasRoom, is_message, is_known}
+use Rattle.wire_decode.specs.Reads.{entry_fields, numbers}
 use Rattle.wire_decode.specs.FaultWalk.{reason_of, Faults, no_record, behind_other, behind_known, in_payload, Fails, no_elements, no_text, too_deep, in_message, in_entry, no_room}
 use Rattle.wire_decode.specs.Parts.{IsFixedOrVarint}
 use Rattle.wire_decode.specs.declared.fault.DecodeReason.{DecodeReason}

@@ -78,7 +78,9 @@ suits-own label k p h short =
     (λ e. absurd (short (eqb-true (payload_type p) 2 (and-right (may_be_packed label k) (payload_type p == 2) e))))
     (or_cases (payload_type p == own_type label k) (may_be_packed label k && (payload_type p == 2)) h)
 
-pub number-holds : (T : Table) (room : ℕ) (label : Label) (k : Kind) (bytes : List ℕ) (p : Payload) → suits label k p ≡ true → payload_type p ≢ 2 → Holds T room label k bytes p (one (number (word_of k (number_in p))))
+pub number-holds : (T : Table) (room : ℕ) (label : Label) (k : Kind) (bytes : List ℕ) (p : Payload)
+    → suits label k p ≡ true → payload_type p ≢ 2
+    → Holds T room label k bytes p (one (number (word_of k (number_in p))))
 number-holds T room label k bytes p h short =
     let own = suits-own label k p h short in
     let single = own-map label k (λ e. short (own ∙ e)) in
@@ -93,20 +95,28 @@ packs label k s e h single numeric =
     (λ both. and-left (may_be_packed label k) (2 == 2) both)
     (or_cases (2 == own_type label k) (may_be_packed label k && (2 == 2)) h)
 
-pub piece-holds : (T : Table) (room : ℕ) (label : Label) (k : Kind) (bytes : List ℕ) (s e : ℕ) (c : Content) → may_be_packed label k ≡ true → IsPiece k (take e bytes) s c → Holds T room label k bytes (Len s e) c
+pub piece-holds : (T : Table) (room : ℕ) (label : Label) (k : Kind) (bytes : List ℕ) (s e : ℕ) (c : Content)
+    → may_be_packed label k ≡ true → IsPiece k (take e bytes) s c → Holds T room label k bytes (Len s e) c
 piece-holds T room label k bytes s e c packed h = holds_piece s e h.words packed refl h.whole h.content
 
-pub entry-holds : (T : Table) (room : ℕ) (key k : Kind) (bytes : List ℕ) (s e : ℕ) (c : Content) → IsEntry T room key k (take e bytes) s c → Holds T room (Map key) k bytes (Len s e) c
+pub entry-holds : (T : Table) (room : ℕ) (key k : Kind) (bytes : List ℕ) (s e : ℕ) (c : Content)
+    → IsEntry T room key k (take e bytes) s c → Holds T room (Map key) k bytes (Len s e) c
 entry-holds T room key k bytes s e c h = holds_entry key s e h.raw refl refl h.reads h.has_room h.content
 
-pub entry-fails : (T : Table) (room : ℕ) (key k : Kind) (bytes : List ℕ) (s e : ℕ) (reason : DecodeReason) (place : ℕ) → NoEntry T room key k (take e bytes) s reason place → Fails T room (Map key) k bytes (Len s e) reason place
+pub entry-fails : (T : Table) (room : ℕ) (key k : Kind) (bytes : List ℕ) (s e : ℕ) (reason : DecodeReason) (place : ℕ)
+    → NoEntry T room key k (take e bytes) s reason place → Fails T room (Map key) k bytes (Len s e) reason place
 entry-fails T room key k bytes s e reason place (entry_fault h) = in_entry key s e refl refl h
-entry-fails T room key k bytes s e reason place (entry_room t h none is at) = no_room key e t refl (ap (λ x. Len x e) (sym at)) (let P : ℕ → Type 0 = λ x. Reads T room (entry_fields key k) (take e bytes) x t in subst P (sym at) h) none is
+entry-fails T room key k bytes s e reason place (entry_room t h none is at) =
+    no_room key e t refl (ap (λ x. Len x e) (sym at)) (let P : ℕ
+    → Type 0 = λ x. Reads T room (entry_fields key k) (take e bytes) x t in subst P (sym at) h) none is
 
-pub message-holds : (T : Table) (room : ℕ) (label : Label) (i : ℕ) (bytes : List ℕ) (s e : ℕ) (c : Content) → is_map label ≡ false → IsInner T room i (take e bytes) s c → Holds T room label (OfMessage i) bytes (Len s e) c
+pub message-holds : (T : Table) (room : ℕ) (label : Label) (i : ℕ) (bytes : List ℕ) (s e : ℕ) (c : Content)
+    → is_map label ≡ false → IsInner T room i (take e bytes) s c → Holds T room label (OfMessage i) bytes (Len s e) c
 message-holds T room label i bytes s e c single h = holds_message h.inside i s e h.raw single refl refl h.has_room h.reads h.content
 
-pub message-fails : (T : Table) (room : ℕ) (label : Label) (i : ℕ) (bytes : List ℕ) (s e : ℕ) (reason : DecodeReason) (place : ℕ) → is_map label ≡ false → NoInner T room i (take e bytes) s reason place → Fails T room label (OfMessage i) bytes (Len s e) reason place
+pub message-fails : (T : Table) (room : ℕ) (label : Label) (i : ℕ) (bytes : List ℕ) (s e : ℕ) (reason : DecodeReason)
+    (place : ℕ) → is_map label ≡ false → NoInner T room i (take e bytes) s reason place
+    → Fails T room label (OfMessage i) bytes (Len s e) reason place
 message-fails T room label i bytes s e reason place single (inner_fault inside more h) = in_message inside i s e single refl refl more h
 message-fails T room label i bytes s e reason place single (inner_room none is at) = too_deep i e single refl (ap (λ x. Len x e) (sym at)) none is
 
@@ -123,39 +133,63 @@ pub record Answers (T : Table) (room : ℕ) (label : Label) (k : Kind) (bytes : 
   pub fault : IfErr r (FaultsAs (λ reason place. Fails T room label k bytes p reason place))
 
 -- the answers, where the label, the kind and the payload are known by equations
-pub answers-at : (T : Table) (room : ℕ) (label l : Label) (k j : Kind) (bytes : List ℕ) (p q : Payload) (r : Result FieldValue DecodeFault) → label ≡ l → k ≡ j → p ≡ q → Answers T room l j bytes q r → Answers T room label k bytes p r
+pub answers-at : (T : Table) (room : ℕ) (label l : Label) (k j : Kind) (bytes : List ℕ) (p q : Payload)
+    (r : Result FieldValue DecodeFault) → label ≡ l → k ≡ j → p ≡ q → Answers T room l j bytes q r
+    → Answers T room label k bytes p r
 answers-at T room label l k j bytes p q r a b c h =
     let P : Label → Type 0 = λ x. Answers T room x k bytes p r in
     let Q : Kind → Type 0 = λ x. Answers T room l x bytes p r in
     let R : Payload → Type 0 = λ x. Answers T room l j bytes x r in
     subst P (sym a) (subst Q (sym b) (subst R (sym c) h))
 
-pub entry-answers : (T : Table) (room : ℕ) (key k : Kind) (bytes : List ℕ) (s e : ℕ) (r : Result FieldValue DecodeFault) → IfOk r (λ c. IsEntry T room key k (take e bytes) s (content_of c)) → IfErr r (FaultsAs (λ reason place. NoEntry T room key k (take e bytes) s reason place)) → Answers T room (Map key) k bytes (Len s e) r
+pub entry-answers : (T : Table) (room : ℕ) (key k : Kind) (bytes : List ℕ) (s e : ℕ)
+    (r : Result FieldValue DecodeFault) → IfOk r (λ c. IsEntry T room key k (take e bytes) s (content_of c))
+    → IfErr r (FaultsAs (λ reason place. NoEntry T room key k (take e bytes) s reason place))
+    → Answers T room (Map key) k bytes (Len s e) r
 entry-answers T room key k bytes s e r found fault = record {
   found = IfOk-weaker r _ _ (λ c h. entry-holds T room key k bytes s e (content_of c) h) found;
   fault = IfErr-weaker r _ _ (λ f h. faults_as _ _ f h (λ reason place g. entry-fails T room key k bytes s e reason place g)) fault;
 }
 
-pub message-answers : (T : Table) (room : ℕ) (label : Label) (i : ℕ) (bytes : List ℕ) (s e : ℕ) (r : Result FieldValue DecodeFault) → is_map label ≡ false → IfOk r (λ c. IsInner T room i (take e bytes) s (content_of c)) → IfErr r (FaultsAs (λ reason place. NoInner T room i (take e bytes) s reason place)) → Answers T room label (OfMessage i) bytes (Len s e) r
+pub message-answers : (T : Table) (room : ℕ) (label : Label) (i : ℕ) (bytes : List ℕ) (s e : ℕ)
+    (r : Result FieldValue DecodeFault) → is_map label ≡ false
+    → IfOk r (λ c. IsInner T room i (take e bytes) s (content_of c))
+    → IfErr r (FaultsAs (λ reason place. NoInner T room i (take e bytes) s reason place))
+    → Answers T room label (OfMessage i) bytes (Len s e) r
 message-answers T room label i bytes s e r single found fault = record {
   found = IfOk-weaker r _ _ (λ c h. message-holds T room label i bytes s e (content_of c) single h) found;
   fault = IfErr-weaker r _ _ (λ f h. faults_as _ _ f h (λ reason place g. message-fails T room label i bytes s e reason place single g)) fault;
 }
 
-pub text-answers : (T : Table) (room : ℕ) (label : Label) (bytes : List ℕ) (s e : ℕ) (r : Result FieldValue DecodeFault) → is_map label ≡ false → IfOk r (λ c. (content_of c ≡ one (run (slice_range bytes s e))) × IsUtf8 (slice_range bytes s e)) → IfErr r (FaultsAs (λ reason at. (reason ≡ Utf8) × (at ≡ s) × (IsUtf8 (slice_range bytes s e) → ⊥))) → Answers T room label Text bytes (Len s e) r
+pub text-answers : (T : Table) (room : ℕ) (label : Label) (bytes : List ℕ) (s e : ℕ)
+    (r : Result FieldValue DecodeFault) → is_map label ≡ false
+    → IfOk r (λ c. (content_of c ≡ one (run (slice_range bytes s e))) × IsUtf8 (slice_range bytes s e))
+    → IfErr r (FaultsAs (λ reason at. (reason ≡ Utf8) × (at ≡ s) × (IsUtf8 (slice_range bytes s e) → ⊥)))
+    → Answers T room label Text bytes (Len s e) r
 text-answers T room label bytes s e r single found fault = record {
   found = IfOk-weaker r _ _ (λ c h. holds_text s e single refl refl h.1 h.0) found;
-  fault = IfErr-weaker r _ _ (λ f h. faults_as _ _ f h (λ reason place g. let at : s ≡ place = sym g.1 in no_text e single refl (ap (λ x. Len x e) at) g.0 (let P : ℕ → Type 0 = λ x. IsUtf8 (slice_range bytes x e) → ⊥ in subst P at g.2))) fault;
+  fault = IfErr-weaker r _ _ (λ f h. faults_as _ _ f h (λ reason place g. let at : s ≡ place = sym g.1 in
+      no_text e single refl (ap (λ x. Len x e) at) g.0 (let P : ℕ → Type 0 = λ x. IsUtf8 (slice_range bytes x e)
+      → ⊥ in subst P at g.2))) fault;
 }
 
-pub octets-answers : (T : Table) (room : ℕ) (label : Label) (bytes : List ℕ) (s e : ℕ) (r : Result FieldValue DecodeFault) → is_map label ≡ false → IfOk r (λ c. content_of c ≡ one (run (slice_range bytes s e))) → IfErr r (FaultsAs (λ reason at. ⊥)) → Answers T room label Octets bytes (Len s e) r
+pub octets-answers : (T : Table) (room : ℕ) (label : Label) (bytes : List ℕ) (s e : ℕ)
+    (r : Result FieldValue DecodeFault) → is_map label ≡ false
+    → IfOk r (λ c. content_of c ≡ one (run (slice_range bytes s e))) → IfErr r (FaultsAs (λ reason at. ⊥))
+    → Answers T room label Octets bytes (Len s e) r
 octets-answers T room label bytes s e r single found fault = record {
   found = IfOk-weaker r _ _ (λ c h. holds_octets s e single refl refl h) found;
   fault = IfErr-weaker r _ _ (λ f h. faults_as _ _ f h (λ reason place g. absurd g)) fault;
 }
 
-pub packed-answers : (T : Table) (room : ℕ) (label : Label) (k : Kind) (bytes : List ℕ) (s e : ℕ) (r : Result FieldValue DecodeFault) → may_be_packed label k ≡ true → IfOk r (λ c. IsPiece k (take e bytes) s (content_of c)) → IfErr r (FaultsAs (λ reason at. (reason ≡ PackedLength) × (at ≡ s) × NoPiece k (take e bytes) s)) → Answers T room label k bytes (Len s e) r
+pub packed-answers : (T : Table) (room : ℕ) (label : Label) (k : Kind) (bytes : List ℕ) (s e : ℕ)
+    (r : Result FieldValue DecodeFault) → may_be_packed label k ≡ true
+    → IfOk r (λ c. IsPiece k (take e bytes) s (content_of c))
+    → IfErr r (FaultsAs (λ reason at. (reason ≡ PackedLength) × (at ≡ s) × NoPiece k (take e bytes) s))
+    → Answers T room label k bytes (Len s e) r
 packed-answers T room label k bytes s e r packed found fault = record {
   found = IfOk-weaker r _ _ (λ c h. piece-holds T room label k bytes s e (content_of c) packed h) found;
-  fault = IfErr-weaker r _ _ (λ f h. faults_as _ _ f h (λ reason place g. let at : s ≡ place = sym g.1 in no_elements e packed (ap (λ x. Len x e) at) g.0 (let P : ℕ → Type 0 = λ x. NoPiece k (take e bytes) x in subst P at g.2))) fault;
+  fault = IfErr-weaker r _ _ (λ f h. faults_as _ _ f h (λ reason place g. let at : s ≡ place = sym g.1 in
+      no_elements e packed (ap (λ x. Len x e) at) g.0 (let P : ℕ → Type 0 = λ x. NoPiece k (take e bytes) x in
+      subst P at g.2))) fault;
 }

@@ -1,10 +1,13 @@
 -- The elements of a packed piece, one more at a time.
-use Rattle.std.proofs.Common.{◌≡◌, ◌≢◌, ℕ, ◌<◌, List, [], ◌∷◌, ◌++◌, length, Option, Some, None, true, refl, ap, subst, ◌∙◌, arith, append-nil, inl, inr, ⊎_elim}
+use Rattle.std.proofs.Common.{◌≡◌, ◌≢◌, ℕ, ◌<◌, List, [], ◌∷◌, ◌++◌, length, Option, Some, None, true, refl, ap}
+use Rattle.std.proofs.Common.{subst, ◌∙◌, arith, append-nil, inl, inr, ⊎_elim}
 use Rattle.std.specs.Option.{IfSome}
 use Rattle.mrpc_table.specs.Node.{item, number, push_item}
 use Rattle.mrpc_table.specs.Words.{is_numeric}
 use Rattle.mrpc_table.specs.declared.table.Kind.{Kind}
-use Rattle.mrpc_table.specs.declared.table.Kind.TheVariants.{Int32, Int64, Uint32, Uint64, Sint32, Sint64, Bool as TheBool, Fixed32, Fixed64, Sfixed32, Sfixed64, Float, Double, Text, Octets, Message, Choice}
+use Rattle.mrpc_table.specs.declared.table.Kind.TheVariants.{Int32, Int64, Uint32, Uint64, Sint32, Sint64}
+use Rattle.mrpc_table.specs.declared.table.Kind.TheVariants.{Bool as TheBool, Fixed32, Fixed64, Sfixed32, Sfixed64}
+use Rattle.mrpc_table.specs.declared.table.Kind.TheVariants.{Float, Double, Text, Octets, Message, Choice}
 use Rattle.mrpc_table.specs.WireTypes.{wire_type_of}
 use Rattle.wire_base.specs.Records.{PayloadAt, VarintAt}
 use Rattle.wire_base.specs.declared.records.Payload.{Payload}
@@ -65,14 +68,18 @@ append_one [] w ws = refl
 append_one (d ∷ ds) w ws = ap (λ xs. d ∷ xs) (append_one ds w ws)
 
 -- behind an element stand the other elements
-rest-behind : OnePayload → (k : Kind) (bytes : List ℕ) (at : ℕ) (e : ℕ × ℕ) (rest : List ℕ) → at < length bytes → IsElement bytes at (wire_type_of k) e → AreElements k bytes at rest → (tail : List ℕ) × AreElements k bytes e.1 tail
+rest-behind : OnePayload → (k : Kind) (bytes : List ℕ) (at : ℕ) (e : ℕ × ℕ) (rest : List ℕ) → at < length bytes
+    → IsElement bytes at (wire_type_of k) e → AreElements k bytes at rest
+    → (tail : List ℕ) × AreElements k bytes e.1 tail
 rest-behind one_payload k bytes at e [] more here h = absurd (omega (arith, h))
 rest-behind one_payload k bytes at e (w ∷ ws) more here h =
     let same = one_payload bytes at (wire_type_of k) h.0 here.0 h.1 e.1 h.2 here.1 in
     let P : ℕ → Type 0 = λ n. AreElements k bytes n ws in
     (ws, subst P same.1 h.4)
 
-pub sofar-more : OnePayload → (k : Kind) (bytes : List ℕ) (start at next v w : ℕ) (done : List ℕ) → at < length bytes → SoFar k bytes start at done → IsElement bytes at (wire_type_of k) (v, next) → w ≡ word_of k v → SoFar k bytes start next (done ++ w ∷ [])
+pub sofar-more : OnePayload → (k : Kind) (bytes : List ℕ) (start at next v w : ℕ) (done : List ℕ) → at < length bytes
+    → SoFar k bytes start at done → IsElement bytes at (wire_type_of k) (v, next) → w ≡ word_of k v
+    → SoFar k bytes start next (done ++ w ∷ [])
 sofar-more one_payload k bytes start at next v w done more h e is = record {
   front = λ ws g. let P : List ℕ → Type 0 = λ xs. AreElements k bytes start xs in subst P (append_one done w ws) (h.front (w ∷ ws) (e.0, next, e.1, is ∙ ap (word_of k) e.2, g));
   back = λ ws g. let rest = h.back ws g in rest-behind one_payload k bytes at (v, next) rest.0 more e rest.1;
@@ -81,7 +88,9 @@ sofar-more one_payload k bytes start at next v w done more h e is = record {
 pub sofar-end : (k : Kind) (bytes : List ℕ) (start at : ℕ) (done : List ℕ) → at ≡ length bytes → SoFar k bytes start at done → AreElements k bytes start done
 sofar-end k bytes start at done ends h = let P : List ℕ → Type 0 = λ xs. AreElements k bytes start xs in subst P (append-nil done) (h.front [] ends)
 
-pub sofar-stuck : (k : Kind) (bytes : List ℕ) (start at : ℕ) (done : List ℕ) → at < length bytes → SoFar k bytes start at done → ((p : Payload) (next : ℕ) → PayloadAt bytes at (wire_type_of k) p next → ⊥) → (ws : List ℕ) → AreElements k bytes start ws → ⊥
+pub sofar-stuck : (k : Kind) (bytes : List ℕ) (start at : ℕ) (done : List ℕ) → at < length bytes
+    → SoFar k bytes start at done → ((p : Payload) (next : ℕ) → PayloadAt bytes at (wire_type_of k) p next → ⊥)
+    → (ws : List ℕ) → AreElements k bytes start ws → ⊥
 sofar-stuck k bytes start at done more h none ws g = let rest = h.back ws g in go rest.0 rest.1
   where
     go : (xs : List ℕ) → AreElements k bytes at xs → ⊥

@@ -1,5 +1,6 @@
 -- Each record of an encoding counts, and those of a number are of the content of that number.
-use Rattle.std.proofs.Common.{◌≡◌, ◌≢◌, ℕ, ◌≤◌, ◌==◌, ◌&&◌, ◌||◌, List, [], ◌∷◌, ◌++◌, Option, Some, None, Bool, true, false, not, cond, refl, ap, sym, subst, ◌∙◌, arith, append-nil, ⊎_elim}
+use Rattle.std.proofs.Common.{◌≡◌, ◌≢◌, ℕ, ◌≤◌, ◌==◌, ◌&&◌, ◌||◌, List, [], ◌∷◌, ◌++◌, Option, Some, None, Bool, true}
+use Rattle.std.proofs.Common.{false, not, cond, refl, ap, sym, subst, ◌∙◌, arith, append-nil, ⊎_elim}
 use Rattle.std.proofs.lemmas.Bool.{eq-eqb}
 use Rattle.std.proofs.lemmas.Bool.Decides.{eqb_tells}
 use Rattle.mrpc_table.specs.Node.{Node, no_fields, field, Content, one, many, pairs, Items, no_items, item, Pairs, no_pairs, pair}
@@ -68,7 +69,8 @@ none-below T fs n last (field m c t) le h =
     ∙ ap (λ cs. cs ++ contents_of n (raw_fields T fs t)) (of-other n m (raw_content T fs m c) (omega (arith, a, le)) (content-of T fs m c))
     ∙ none-below T fs n m t (omega (arith, a, le)) h.2
 
-pub contents-first : (T : Table) (fs : List Field) (n : ℕ) (c : Content) (t : Node) → HasFields T fs n t → contents_of n (raw_fields T fs (field n c t)) ≡ contents_of n (raw_content T fs n c)
+pub contents-first : (T : Table) (fs : List Field) (n : ℕ) (c : Content) (t : Node) → HasFields T fs n t
+    → contents_of n (raw_fields T fs (field n c t)) ≡ contents_of n (raw_content T fs n c)
 contents-first T fs n c t h =
     contents-join n (raw_content T fs n c) (raw_fields T fs t)
     ∙ ap (λ cs. contents_of n (raw_content T fs n c) ++ cs) (none-below T fs n n t (omega arith) h)
@@ -111,7 +113,8 @@ no-rival fs n m o f at found h =
     ∙ ap (λ b. not (m == n) && b) (not-member f.label o h) ∙ and-false (not (m == n))
 
 -- no member of the oneof has a record
-none-overtakes : (T : Table) (fs : List Field) (n o last : ℕ) (t : Node) → oneof_at fs n ≡ Some o → HasFields T fs last t → members_in fs o t ≡ 0 → is_overtaken fs n (raw_fields T fs t) ≡ false
+none-overtakes : (T : Table) (fs : List Field) (n o last : ℕ) (t : Node) → oneof_at fs n ≡ Some o
+    → HasFields T fs last t → members_in fs o t ≡ 0 → is_overtaken fs n (raw_fields T fs t) ≡ false
 none-overtakes T fs n o last no_fields at h none = refl
 none-overtakes T fs n o last (field m c t) at h none =
     let f = field-of T fs m c h.1 in
@@ -134,7 +137,8 @@ option-cases : (o : Option ℕ) (P : Type 0) → (o ≡ None → P) → ((n : �
 option-cases None P a b = a refl
 option-cases (Some n) P a b = b n refl
 
-none-behind : (T : Table) (fs : List Field) (n : ℕ) (c : Content) (t : Node) → HasContent T fs n c → HasFields T fs n t → OneMemberEach fs (field n c t) → is_overtaken fs n (raw_fields T fs t) ≡ false
+none-behind : (T : Table) (fs : List Field) (n : ℕ) (c : Content) (t : Node) → HasContent T fs n c
+    → HasFields T fs n t → OneMemberEach fs (field n c t) → is_overtaken fs n (raw_fields T fs t) ≡ false
 none-behind T fs n c t has fields members =
     let f = field-of T fs n c has in
     option-cases (oneof_at fs n) (is_overtaken fs n (raw_fields T fs t) ≡ false)
@@ -160,4 +164,5 @@ pub counted-raw : (T : Table) (fs : List Field) (last : ℕ) (t : Node) → HasF
 counted-raw T fs last no_fields h members = refl
 counted-raw T fs last (field n c t) h members =
     let f = field-of T fs n c h.1 in
-    counted-join fs n (raw_content T fs n c) (raw_fields T fs t) (content-of T fs n c) (none-behind T fs n c t h.1 h.2 members) (counted-raw T fs n t h.2 (members-fewer fs n c t f.0 f.1 members))
+    counted-join fs n (raw_content T fs n c) (raw_fields T fs t) (content-of T fs n c)
+    (none-behind T fs n c t h.1 h.2 members) (counted-raw T fs n t h.2 (members-fewer fs n c t f.0 f.1 members))

@@ -1,12 +1,15 @@
 -- The encoding of a normal tree means that tree.
-use Rattle.std.proofs.Common.{◌≡◌, ◌≢◌, ℕ, zero, suc, ◌^◌, ◌<◌, ◌≤◌, List, [], ◌∷◌, length, map, Some, None, Bool, true, false, cond, refl, ap, sym, subst, ◌∙◌, arith, append-nil, ⊎_elim, unwrap_or}
+use Rattle.std.proofs.Common.{◌≡◌, ◌≢◌, ℕ, zero, suc, ◌^◌, ◌<◌, ◌≤◌, List, [], ◌∷◌, length, map, Some, None, Bool}
+use Rattle.std.proofs.Common.{true, false, cond, refl, ap, sym, subst, ◌∙◌, arith, append-nil, ⊎_elim, unwrap_or}
 use Rattle.std.proofs.lemmas.Bool.{eqb-true, cases_lt}
 use Rattle.std.proofs.lemmas.Bool.Decides.{nat_tests, eqb_tells}
 use Rattle.std.specs.Ordering.{nat_cmp, ordering_then}
 use Rattle.std.specs.declared.cmp.Ordering.TheVariants.{Less, Equal, Greater}
 use Rattle.mrpc_table.specs.Node.{Node, no_fields, field, Content, one, many, pairs, Item, number, run, node, Items, no_items, item, Pairs, no_pairs, pair}
 use Rattle.mrpc_table.specs.Words.{is_numeric, rank, key_kind, message_of}
-use Rattle.mrpc_table.specs.Normal.{fields_of, field_at, IsDefault, IsBefore, AscendFrom, KeysAscend, TakesOne, TakesMany, HasFields, HasContent, IsItem, AreItems, ArePairs, IsNormal, depth, content_depth, item_depth, items_depth, pairs_depth, kind_at}
+use Rattle.mrpc_table.specs.Normal.{fields_of, field_at, IsDefault, IsBefore, AscendFrom, KeysAscend, TakesOne}
+use Rattle.mrpc_table.specs.Normal.{TakesMany, HasFields, HasContent, IsItem, AreItems, ArePairs, IsNormal, depth}
+use Rattle.mrpc_table.specs.Normal.{content_depth, item_depth, items_depth, pairs_depth, kind_at}
 use Rattle.mrpc_table.specs.Fits.{FitsWithin}
 use Rattle.mrpc_table.specs.declared.table.Kind.{Kind}
 use Rattle.mrpc_table.specs.declared.table.Kind.TheVariants.{Message as OfMessage}
@@ -18,7 +21,9 @@ use Rattle.wire_base.specs.Encoding.{label_at, is_packed, encoding}
 use Rattle.wire_decode.specs.Reads.{Reads, read_end, is_message}
 use Rattle.wire_decode.specs.Merges.{Merges}
 use Rattle.mrpc_table.specs.MapEntries.{key_cmp, with_pair, last_of_each}
-use Rattle.wire_decode.specs.Merged.{contents_of, items_in, items_from, values_in, join_fields, is_default, default_of, singular, element, part, entry, present, present_if_set, some_items, some_pairs, field_content, with_content, with_fields, merged}
+use Rattle.wire_decode.specs.Merged.{contents_of, items_in, items_from, values_in, join_fields, is_default}
+use Rattle.wire_decode.specs.Merged.{default_of, singular, element, part, entry, present, present_if_set, some_items}
+use Rattle.wire_decode.specs.Merged.{some_pairs, field_content, with_content, with_fields, merged}
 use Rattle.wire_decode.proofs.WireLaws.{ReadsBack}
 use Rattle.wire_decode.proofs.Adding.{contents-here}
 use Rattle.wire_decode.proofs.Reading.{join-none}
@@ -39,7 +44,8 @@ numeric-plain (OfMessage i) h = absurd (cc)
 numeric-plain _ h = refl
 
 -- a value comes back
-item-back : (T : Table) (room : ℕ) (inner : ℕ → Node → Node) (k : Kind) (i : Item) → Inner T room inner → IsItem T k i → item_depth i ≤ suc room → element inner k (raw_item T k i) ≡ i
+item-back : (T : Table) (room : ℕ) (inner : ℕ → Node → Node) (k : Kind) (i : Item) → Inner T room inner → IsItem T k i
+    → item_depth i ≤ suc room → element inner k (raw_item T k i) ≡ i
 item-back T room inner k (number n) back h d = element-same inner k (number n) (word-plain k n h)
 item-back T room inner k (run bytes) back h d = element-same inner k (run bytes) (run-plain k bytes h)
 item-back T zero inner k (node t) back h d = absurd (let p = depth-positive t in omega (arith, d, p))
@@ -63,7 +69,8 @@ set-go : (i : Item) (b : Bool) → is_default i ≡ b → (IsDefault i → ⊥) 
 set-go i true e h = absurd (h (default-tells i e))
 set-go i false e h = refl
 
-one-back : (inner : ℕ → Node → Node) (label : Label) (k : Kind) (i j : Item) → TakesOne label i → element inner k j ≡ i → field_content inner label k (one j ∷ []) ≡ Some (one i)
+one-back : (inner : ℕ → Node → Node) (label : Label) (k : Kind) (i j : Item) → TakesOne label i
+    → element inner k j ≡ i → field_content inner label k (one j ∷ []) ≡ Some (one i)
 one-back inner Plain k i j takes e = ap present_if_set (singular-one inner k j ∙ ap Some e) ∙ set-go i (is_default i) refl takes
 one-back inner Optional k i j takes e = ap present (singular-one inner k j ∙ ap Some e)
 one-back inner (Member o) k i j takes e = ap present (singular-one inner k j ∙ ap Some e)
@@ -80,7 +87,9 @@ some-back : (is : Items) → is ≢ no_items → some_items (items_in is) ≡ So
 some-back no_items h = absurd (h refl)
 some-back (item i is) h = ap (λ x. Some (many (item i x))) (items-back is)
 
-list-back : (inner : ℕ → Node → Node) (label : Label) (k : Kind) (cs : List Content) (is : Items) → TakesMany label → is ≢ no_items → map (element inner k) (values_in cs) ≡ items_in is → field_content inner label k cs ≡ Some (many is)
+list-back : (inner : ℕ → Node → Node) (label : Label) (k : Kind) (cs : List Content) (is : Items) → TakesMany label
+    → is ≢ no_items → map (element inner k) (values_in cs) ≡ items_in is
+    → field_content inner label k cs ≡ Some (many is)
 list-back inner Repeated k cs is takes some e = ap some_items e ∙ some-back is some
 list-back inner Packed k cs is takes some e = ap some_items e ∙ some-back is some
 list-back inner Plain k cs is takes some e = absurd takes
@@ -92,19 +101,24 @@ plain-list : (inner : ℕ → Node → Node) (k : Kind) (is : List Item) → is_
 plain-list inner k [] h = refl
 plain-list inner k (i ∷ is) h = ap (λ x. x ∷ map (element inner k) is) (element-same inner k i h) ∙ ap (λ xs. i ∷ xs) (plain-list inner k is h)
 
-records-back : (T : Table) (room : ℕ) (inner : ℕ → Node → Node) (n : ℕ) (k : Kind) (is : Items) → Inner T room inner → AreItems T k is → items_depth is ≤ suc room → map (element inner k) (values_in (contents_of n (raw_records T n k is))) ≡ items_in is
+records-back : (T : Table) (room : ℕ) (inner : ℕ → Node → Node) (n : ℕ) (k : Kind) (is : Items) → Inner T room inner
+    → AreItems T k is → items_depth is ≤ suc room
+    → map (element inner k) (values_in (contents_of n (raw_records T n k is))) ≡ items_in is
 records-back T room inner n k no_items back h d = refl
 records-back T room inner n k (item i is) back h d =
     ap (λ cs. map (element inner k) (values_in cs)) (contents-here n (one (raw_item T k i)) (raw_records T n k is))
     ∙ ap (λ x. x ∷ map (element inner k) (values_in (contents_of n (raw_records T n k is)))) (item-back T room inner k i back h.0 (omega (arith, d)))
     ∙ ap (λ xs. i ∷ xs) (records-back T room inner n k is back h.1 (omega (arith, d)))
 
-piece-back : (inner : ℕ → Node → Node) (n : ℕ) (k : Kind) (is : Items) → is_message k ≡ false → map (element inner k) (values_in (contents_of n (field n (many is) no_fields))) ≡ items_in is
+piece-back : (inner : ℕ → Node → Node) (n : ℕ) (k : Kind) (is : Items) → is_message k ≡ false
+    → map (element inner k) (values_in (contents_of n (field n (many is) no_fields))) ≡ items_in is
 piece-back inner n k is plain =
     ap (λ cs. map (element inner k) (values_in cs)) (contents-here n (many is) no_fields)
     ∙ ap (map (element inner k)) (append-nil (items_in is)) ∙ plain-list inner k (items_in is) plain
 
-many-back : (inner : ℕ → Node → Node) (n : ℕ) (k : Kind) (is : Items) (b : Bool) (t : Node) → (b ≡ true → is_message k ≡ false) → map (element inner k) (values_in (contents_of n t)) ≡ items_in is → map (element inner k) (values_in (contents_of n (cond b (field n (many is) no_fields) t))) ≡ items_in is
+many-back : (inner : ℕ → Node → Node) (n : ℕ) (k : Kind) (is : Items) (b : Bool) (t : Node)
+    → (b ≡ true → is_message k ≡ false) → map (element inner k) (values_in (contents_of n t)) ≡ items_in is
+    → map (element inner k) (values_in (contents_of n (cond b (field n (many is) no_fields) t))) ≡ items_in is
 many-back inner n k is true t plain rest = piece-back inner n k is (plain refl)
 many-back inner n k is false t plain rest = rest
 
@@ -116,18 +130,24 @@ pairs_in (pair i j ps) = (i, j) ∷ pairs_in ps
 part-back : (inner : ℕ → Node → Node) (k : Kind) (i j : Item) → element inner k j ≡ i → unwrap_or (singular inner k (j ∷ [])) (default_of k) ≡ i
 part-back inner k i j e = ap (λ o. unwrap_or o (default_of k)) (singular-one inner k j) ∙ e
 
-entry-back : (T : Table) (inner : ℕ → Node → Node) (key k : Kind) (i j : Item) → element inner key (raw_item T key i) ≡ i → element inner k (raw_item T k j) ≡ j → entry inner key k (node (raw_entry T key k i j)) ≡ (i, j)
+entry-back : (T : Table) (inner : ℕ → Node → Node) (key k : Kind) (i j : Item)
+    → element inner key (raw_item T key i) ≡ i → element inner k (raw_item T k j) ≡ j
+    → entry inner key k (node (raw_entry T key k i j)) ≡ (i, j)
 entry-back T inner key k i j first second =
     let p : part inner 1 key (raw_entry T key k i j) ≡ i = part-back inner key i (raw_item T key i) first in
     let q : part inner 2 k (raw_entry T key k i j) ≡ j = part-back inner k j (raw_item T k j) second in
     λ x. (p x, q x)
 
-entries-back : (T : Table) (room : ℕ) (inner : ℕ → Node → Node) (n : ℕ) (key k : Kind) (ps : Pairs) → Inner T room inner → ArePairs T key k ps → pairs_depth ps ≤ suc room → map (entry inner key k) (values_in (contents_of n (raw_entries T n key k ps))) ≡ pairs_in ps
+entries-back : (T : Table) (room : ℕ) (inner : ℕ → Node → Node) (n : ℕ) (key k : Kind) (ps : Pairs)
+    → Inner T room inner → ArePairs T key k ps → pairs_depth ps ≤ suc room
+    → map (entry inner key k) (values_in (contents_of n (raw_entries T n key k ps))) ≡ pairs_in ps
 entries-back T room inner n key k no_pairs back h d = refl
 entries-back T room inner n key k (pair i j ps) back h d =
     let raw = raw_entries T n key k ps in
     ap (λ cs. map (entry inner key k) (values_in cs)) (contents-here n (one (node (raw_entry T key k i j))) raw)
-    ∙ ap (λ x. x ∷ map (entry inner key k) (values_in (contents_of n raw))) (entry-back T inner key k i j (item-back T room inner key i back h.0 (omega (arith, d))) (item-back T room inner k j back h.1 (omega (arith, d))))
+    ∙ ap (λ x. x ∷ map (entry inner key k) (values_in (contents_of n raw)))
+    (entry-back T inner key k i j (item-back T room inner key i back h.0 (omega (arith, d)))
+    (item-back T room inner k j back h.1 (omega (arith, d))))
     ∙ ap (λ xs. (i, j) ∷ xs) (entries-back T room inner n key k ps back h.2 (omega (arith, d)))
 
 less-cmp : (m n : ℕ) → m < n → nat_cmp m n ≡ Less
@@ -159,17 +179,23 @@ pairs-back : (ps : Pairs) → ps ≢ no_pairs → some_pairs ps ≡ Some (pairs 
 pairs-back no_pairs h = absurd (h refl)
 pairs-back (pair i j ps) h = refl
 
-map-back : (inner : ℕ → Node → Node) (label : Label) (key k : Kind) (cs : List Content) (ps : Pairs) → label ≡ Map key → ps ≢ no_pairs → KeysAscend key ps → map (entry inner key k) (values_in cs) ≡ pairs_in ps → field_content inner label k cs ≡ Some (pairs ps)
+map-back : (inner : ℕ → Node → Node) (label : Label) (key k : Kind) (cs : List Content) (ps : Pairs) → label ≡ Map key
+    → ps ≢ no_pairs → KeysAscend key ps → map (entry inner key k) (values_in cs) ≡ pairs_in ps
+    → field_content inner label k cs ≡ Some (pairs ps)
 map-back inner label key k cs ps e some ascend is =
     ap (λ l. field_content inner l k cs) e ∙ ap (λ es. some_pairs (last_of_each key es)) is ∙ ap some_pairs (last-back key ps ascend) ∙ pairs-back ps some
 
 -- what a field has comes back
-content-back : (T : Table) (room : ℕ) (inner : ℕ → Node → Node) (fs : List Field) (n : ℕ) (f : Field) (c : Content) → Inner T room inner → AreFieldsFrom 0 fs → field_at fs n ≡ Some f → HasContent T fs n c → content_depth c ≤ suc room → field_content inner f.label f.kind (contents_of n (raw_content T fs n c)) ≡ Some c
+content-back : (T : Table) (room : ℕ) (inner : ℕ → Node → Node) (fs : List Field) (n : ℕ) (f : Field) (c : Content)
+    → Inner T room inner → AreFieldsFrom 0 fs → field_at fs n ≡ Some f → HasContent T fs n c
+    → content_depth c ≤ suc room → field_content inner f.label f.kind (contents_of n (raw_content T fs n c)) ≡ Some c
 content-back T room inner fs n f (one i) back are found h d =
     let same : h.0 ≡ f = (let both : Some h.0 ≡ Some f = sym h.1 ∙ found in cc) in
     let here : field_content inner h.0.label h.0.kind (contents_of n (raw_content T fs n (one i))) ≡ Some (one i) =
     ap (field_content inner h.0.label h.0.kind) (contents-here n (one (raw_item T (kind_at fs n) i)) no_fields)
-    ∙ one-back inner h.0.label h.0.kind i (raw_item T (kind_at fs n) i) h.2 (ap (λ k. element inner h.0.kind (raw_item T k i)) (kind-found fs n h.0 h.1) ∙ item-back T room inner h.0.kind i back h.3 d) in
+    ∙ one-back inner h.0.label h.0.kind i (raw_item T (kind_at fs n) i) h.2
+    (ap (λ k. element inner h.0.kind (raw_item T k i)) (kind-found fs n h.0 h.1)
+    ∙ item-back T room inner h.0.kind i back h.3 d) in
     subst (λ (g : Field). field_content inner g.label g.kind (contents_of n (raw_content T fs n (one i))) ≡ Some (one i)) same here
 content-back T room inner fs n f (many is) back are found h d =
     let same : h.0 ≡ f = (let both : Some h.0 ≡ Some f = sym h.1 ∙ found in cc) in
@@ -181,7 +207,8 @@ content-back T room inner fs n f (many is) back are found h d =
     let records : map (element inner g.kind) (values_in (contents_of n (raw_records T n (kind_at fs n) is))) ≡ items_in is =
     ap (λ k. map (element inner g.kind) (values_in (contents_of n (raw_records T n k is)))) kind ∙ records-back T room inner n g.kind is back h.4 d in
     let here : field_content inner g.label g.kind (contents_of n (raw_content T fs n (many is))) ≡ Some (many is) =
-    list-back inner g.label g.kind (contents_of n (raw_content T fs n (many is))) is h.2 h.3 (many-back inner n g.kind is (is_packed (label_at fs n)) (raw_records T n (kind_at fs n) is) plain records) in
+    list-back inner g.label g.kind (contents_of n (raw_content T fs n (many is))) is h.2 h.3
+    (many-back inner n g.kind is (is_packed (label_at fs n)) (raw_records T n (kind_at fs n) is) plain records) in
     subst (λ (x : Field). field_content inner x.label x.kind (contents_of n (raw_content T fs n (many is))) ≡ Some (many is)) same here
 content-back T room inner fs n f (pairs ps) back are found h d =
     let same : h.0 ≡ f = (let both : Some h.0 ≡ Some f = sym h.2 ∙ found in cc) in
@@ -192,21 +219,28 @@ content-back T room inner fs n f (pairs ps) back are found h d =
     ap (λ x. map (entry inner h.1 g.kind) (values_in (contents_of n (raw_entries T n x (kind_at fs n) ps)))) key
     ∙ ap (λ x. map (entry inner h.1 g.kind) (values_in (contents_of n (raw_entries T n h.1 x ps)))) kind
     ∙ entries-back T room inner n h.1 g.kind ps back h.5 d in
-    let here : field_content inner g.label g.kind (contents_of n (raw_content T fs n (pairs ps))) ≡ Some (pairs ps) = map-back inner g.label h.1 g.kind (contents_of n (raw_content T fs n (pairs ps))) ps h.3 h.4 h.6 entries in
+    let here : field_content inner g.label g.kind (contents_of n (raw_content T fs n (pairs ps))) ≡ Some (pairs ps) =
+    map-back inner g.label h.1 g.kind (contents_of n (raw_content T fs n (pairs ps))) ps h.3 h.4 h.6 entries in
     subst (λ (x : Field). field_content inner x.label x.kind (contents_of n (raw_content T fs n (pairs ps))) ≡ Some (pairs ps)) same here
 
 -- fields above a number don't see its records
-fields-skip : (T : Table) (inner : ℕ → Node → Node) (all : List Field) (n last : ℕ) (c : Content) (t : Node) (fs : List Field) → n ≤ last → AreFieldsFrom last fs → with_fields inner (raw_fields T all (field n c t)) fs ≡ with_fields inner (raw_fields T all t) fs
+fields-skip : (T : Table) (inner : ℕ → Node → Node) (all : List Field) (n last : ℕ) (c : Content) (t : Node)
+    (fs : List Field) → n ≤ last → AreFieldsFrom last fs
+    → with_fields inner (raw_fields T all (field n c t)) fs ≡ with_fields inner (raw_fields T all t) fs
 fields-skip T inner all n last c t [] le are = refl
 fields-skip T inner all n last c t (f ∷ fs) le are =
     let a = are.0 in
-    ap (λ cs. with_content f.number (field_content inner f.label f.kind cs) (with_fields inner (raw_fields T all (field n c t)) fs)) (contents-later T all f.number n c t (omega (arith, a, le)))
+    ap (λ cs. with_content f.number (field_content inner f.label f.kind cs)
+    (with_fields inner (raw_fields T all (field n c t)) fs))
+    (contents-later T all f.number n c t (omega (arith, a, le)))
     ∙ ap (with_content f.number (field_content inner f.label f.kind (contents_of f.number (raw_fields T all t)))) (fields-skip T inner all n f.number c t fs (omega (arith, a, le)) are.2)
 
 no-field : (T : Table) (all : List Field) (n : ℕ) (c : Content) → HasContent T all n c → field_at all n ≡ None → ⊥
 no-field T all n c h e = let f = field-of T all n c h in let bad : None ≡ Some f.0 = sym e ∙ f.1 in cc
 
-fields-back : (T : Table) (room : ℕ) (inner : ℕ → Node → Node) (all : List Field) (last : ℕ) (fs : List Field) (t : Node) → Inner T room inner → AreFieldsFrom 0 all → AreFieldsFrom last fs → IsRest all last fs → HasFields T all last t → depth t ≤ suc room → with_fields inner (raw_fields T all t) fs ≡ t
+fields-back : (T : Table) (room : ℕ) (inner : ℕ → Node → Node) (all : List Field) (last : ℕ) (fs : List Field)
+    (t : Node) → Inner T room inner → AreFieldsFrom 0 all → AreFieldsFrom last fs → IsRest all last fs
+    → HasFields T all last t → depth t ≤ suc room → with_fields inner (raw_fields T all t) fs ≡ t
 fields-back T room inner all last fs no_fields back whole are rest h d = fields-empty inner fs
 fields-back T room inner all last [] (field n c t) back whole are rest h d = absurd (no-field T all n c h.1 (rest.same n h.0))
 fields-back T room inner all last (f ∷ fs) (field n c t) back whole are rest h d =
@@ -219,8 +253,11 @@ fields-back T room inner all last (f ∷ fs) (field n c t) back whole are rest h
     (λ s.
     let e : f.number ≡ n = s.1 in
     let later : HasFields T all f.number t = subst (λ (x : ℕ). HasFields T all x t) (sym e) h.2 in
-    let tail : with_fields inner raw fs ≡ t = fields-skip T inner all n f.number c t fs (omega (arith, e)) are.2 ∙ fields-back T room inner all f.number fs t back whole are.2 more later (omega (arith, d)) in
-    let content : field_content inner f.label f.kind (contents_of n raw) ≡ Some c = ap (field_content inner f.label f.kind) (contents-first T all n c t h.2) ∙ content-back T room inner all n f c back whole (ap (field_at all) (sym e) ∙ found) h.1 (omega (arith, d)) in
+    let tail : with_fields inner raw fs ≡ t = fields-skip T inner all n f.number c t fs (omega (arith, e)) are.2
+    ∙ fields-back T room inner all f.number fs t back whole are.2 more later (omega (arith, d)) in
+    let content : field_content inner f.label f.kind (contents_of n raw) ≡ Some c =
+    ap (field_content inner f.label f.kind) (contents-first T all n c t h.2)
+    ∙ content-back T room inner all n f c back whole (ap (field_at all) (sym e) ∙ found) h.1 (omega (arith, d)) in
     ap (λ x. with_content x (field_content inner f.label f.kind (contents_of x raw)) (with_fields inner raw fs)) e
     ∙ ap (λ o. with_content n o (with_fields inner raw fs)) content
     ∙ ap (field n c) tail)
@@ -232,7 +269,8 @@ fields-back T room inner all last (f ∷ fs) (field n c t) back whole are rest h
     (eqb_tells f.number n))
     (cases_lt n f.number)
 
-merged-step : (T : Table) (room : ℕ) → IsUsableTable T → Inner T room (merged T room) → (i : ℕ) (t : Node) → FitsWithin T i (suc room) t → merged T (suc room) i (raw_fields T (fields_of T i) t) ≡ t
+merged-step : (T : Table) (room : ℕ) → IsUsableTable T → Inner T room (merged T room) → (i : ℕ) (t : Node)
+    → FitsWithin T i (suc room) t → merged T (suc room) i (raw_fields T (fields_of T i) t) ≡ t
 merged-step T room usable back i t h =
     let fs = fields_of T i in
     merged-suc T room i (raw_fields T fs t)

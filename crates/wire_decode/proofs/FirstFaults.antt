@@ -19,7 +19,9 @@ use Rattle.wire_decode.proofs.Taken.{meaning}
 use Rattle.wire_decode.proofs.Alike.{Inner, Entries, slice-elements, whole-elements, slice-reads, whole-reads, value-of, content-of}
 use Rattle.wire_decode.proofs.Agreeing.{agree}
 use Rattle.wire_decode.specs.FaultWalk.{Faults, no_record, behind_other, behind_known, in_payload, Fails, no_elements, no_text, too_deep, in_message, in_entry, no_room}
-use Rattle.wire_decode.specs.Faults.{IsSound, is_skipped, is_known_and_sound, AreSound, HasPayload, FirstFault, first_fault, IsFault, no_record_there, not_whole_elements, not_utf8, message_too_deep, inside_message, inside_entry, default_too_deep}
+use Rattle.wire_decode.specs.Faults.{IsSound, is_skipped, is_known_and_sound, AreSound, HasPayload, FirstFault}
+use Rattle.wire_decode.specs.Faults.{first_fault, IsFault, no_record_there, not_whole_elements, not_utf8}
+use Rattle.wire_decode.specs.Faults.{message_too_deep, inside_message, inside_entry, default_too_deep}
 use Rattle.wire_decode.specs.declared.fault.DecodeReason.{DecodeReason}
 
 -- one sound record more in front
@@ -47,13 +49,18 @@ entries-of law T room label k = λ key e. agree law T room (entry_fields key k)
 span : (bytes : List ℕ) (at : ℕ) (r : Record) (s e : ℕ) → RecordAt bytes at r → r.payload ≡ Len s e → IsWithin (length bytes) (Len s e)
 span bytes at r s e here is = subst (IsWithin (length bytes)) is (PayloadAt-span bytes here.start (here.tag % 8) r.payload r.next here.payload)
 
-sound : Law → (T : Table) (room : ℕ) (fs : List Field) (f : Field) (bytes : List ℕ) {at : ℕ} (r : Record) (c : Content) → RecordAt bytes at r → Holds T room f.label f.kind bytes r.payload c
+sound : Law → (T : Table) (room : ℕ) (fs : List Field) (f : Field) (bytes : List ℕ) {at : ℕ} (r : Record)
+    (c : Content) → RecordAt bytes at r → Holds T room f.label f.kind bytes r.payload c
     → (v : Value) × HasValue T room f.label f.kind bytes r.payload v
 sound law T room fs f bytes r c here holds =
-    let v = value-of T room f.label f.kind bytes r.payload c (inner-of law T room) (entries-of law T room f.label f.kind) (PayloadAt-span bytes here.start (here.tag % 8) r.payload r.next here.payload) holds in
+    let v = value-of T room f.label f.kind bytes r.payload c (inner-of law T room)
+    (entries-of law T room f.label f.kind)
+    (PayloadAt-span bytes here.start (here.tag % 8) r.payload r.next here.payload) holds in
     (v.0, v.1)
 
-deep : Law → (T : Table) (room : ℕ) (fs : List Field) (bytes : List ℕ) (s e : ℕ) (t : Node) → IsWithin (length bytes) (Len s e) → Reads T room fs (take e bytes) s t → MeansIn T room fs (slice_range bytes s e) (meaning T room fs t)
+deep : Law → (T : Table) (room : ℕ) (fs : List Field) (bytes : List ℕ) (s e : ℕ) (t : Node)
+    → IsWithin (length bytes) (Len s e) → Reads T room fs (take e bytes) s t
+    → MeansIn T room fs (slice_range bytes s e) (meaning T room fs t)
 deep law T room fs bytes s e t w h = (agree law T room fs).to (slice_range bytes s e) t (slice-reads T room fs bytes s e t w h)
 
 mutual
@@ -61,23 +68,38 @@ mutual
       → Faults T room fs bytes at reason place → FirstFault T room fs bytes at reason place
   first-of law {at = at} (no_record f more fault is there) = first_fault [] at refl (no_record_there f more fault is there)
   first-of law (behind_other r here other g) = in-front r here (is_skipped other) (first-of law g)
-  first-of law {T} {room} {fs} {bytes} (behind_known r f c here at_f holds g) = in-front r here (is_known_and_sound f (sound law T room fs f bytes r c here holds).0 at_f (sound law T room fs f bytes r c here holds).1) (first-of law g)
+  first-of law {T} {room} {fs} {bytes} (behind_known r f c here at_f holds g) =
+      in-front r here (is_known_and_sound f (sound law T room fs f bytes r c here holds).0 at_f
+      (sound law T room fs f bytes r c here holds).1) (first-of law g)
   first-of law {at = at} (in_payload r f here at_f fails) = first_fault [] at refl (fault-of law r f here at_f fails)
 
   fault-of : Law → {T : Table} {room : ℕ} {fs : List Field} {bytes : List ℕ} {at : ℕ} {reason : DecodeReason} {place : ℕ} (r : Record) (f : Field)
       → RecordAt bytes at r → field_at fs r.number ≡ Some f → Fails T room f.label f.kind bytes r.payload reason place → IsFault T room fs bytes at reason place
-  fault-of law {T} {room} {fs} {bytes} {at} {reason} {place} r f here at_f (no_elements e packed is why none) = not_whole_elements f e (has-payload fs bytes at r f place e here at_f is) packed (λ ns h. none ns (whole-elements f.kind bytes place e ns (span bytes at r place e here is) h)) why
-  fault-of law {T} {room} {fs} {bytes} {at} {reason} {place} r f here at_f (no_text e single kind is why none) = not_utf8 f e (has-payload fs bytes at r f place e here at_f is) single kind none why
-  fault-of law {T} {room} {fs} {bytes} {at} {reason} {place} r f here at_f (too_deep i e single kind is room_is why) = message_too_deep f i e (has-payload fs bytes at r f place e here at_f is) single kind room_is why
-  fault-of law {T} {room} {fs} {bytes} {at} {reason} {place} r f here at_f (in_message inside i s e single kind is room_is g) = inside_message f i inside s e (has-payload fs bytes at r f s e here at_f is) single kind room_is (first-of law g)
-  fault-of law {T} {room} {fs} {bytes} {at} {reason} {place} r f here at_f (in_entry key s e map is g) = inside_entry f key s e (has-payload fs bytes at r f s e here at_f is) map (first-of law g)
-  fault-of law {T} {room} {fs} {bytes} {at} {reason} {place} r f here at_f (no_room key e t map is reads none why) = default_too_deep f key e (meaning T room (entry_fields key f.kind) t) (has-payload fs bytes at r f place e here at_f is) map (deep law T room (entry_fields key f.kind) bytes place e t (span bytes at r place e here is) reads) none why
+  fault-of law {T} {room} {fs} {bytes} {at} {reason} {place} r f here at_f (no_elements e packed is why none) =
+      not_whole_elements f e (has-payload fs bytes at r f place e here at_f is) packed
+      (λ ns h. none ns (whole-elements f.kind bytes place e ns (span bytes at r place e here is) h)) why
+  fault-of law {T} {room} {fs} {bytes} {at} {reason} {place} r f here at_f (no_text e single kind is why none) =
+      not_utf8 f e (has-payload fs bytes at r f place e here at_f is) single kind none why
+  fault-of law {T} {room} {fs} {bytes} {at} {reason} {place} r f here at_f (too_deep i e single kind is room_is why) =
+      message_too_deep f i e (has-payload fs bytes at r f place e here at_f is) single kind room_is why
+  fault-of law {T} {room} {fs} {bytes} {at} {reason} {place} r f here at_f
+      (in_message inside i s e single kind is room_is g) =
+      inside_message f i inside s e (has-payload fs bytes at r f s e here at_f is) single kind room_is
+      (first-of law g)
+  fault-of law {T} {room} {fs} {bytes} {at} {reason} {place} r f here at_f (in_entry key s e map is g) =
+      inside_entry f key s e (has-payload fs bytes at r f s e here at_f is) map (first-of law g)
+  fault-of law {T} {room} {fs} {bytes} {at} {reason} {place} r f here at_f (no_room key e t map is reads none why) =
+      default_too_deep f key e (meaning T room (entry_fields key f.kind) t)
+      (has-payload fs bytes at r f place e here at_f is) map
+      (deep law T room (entry_fields key f.kind) bytes place e t (span bytes at r place e here is) reads) none why
 
 walk-one : Law → (T : Table) (room : ℕ) (fs : List Field) (bytes : List ℕ) (from : ℕ) (r : Record) (reason : DecodeReason) (place : ℕ)
     → RecordAt bytes from r → IsSound T room fs bytes r → Faults T room fs bytes r.next reason place → Faults T room fs bytes from reason place
 walk-one law T room fs bytes from r reason place here (is_skipped other) g = behind_other r here other g
 walk-one law T room fs bytes from r reason place here (is_known_and_sound f v at_f has) g =
-    let c = content-of T room f.label f.kind bytes r.payload v (inner-of law T room) (entries-of law T room f.label f.kind) (PayloadAt-span bytes here.start (here.tag % 8) r.payload r.next here.payload) has in
+    let c = content-of T room f.label f.kind bytes r.payload v (inner-of law T room)
+    (entries-of law T room f.label f.kind)
+    (PayloadAt-span bytes here.start (here.tag % 8) r.payload r.next here.payload) has in
     behind_known r f c.0 here at_f c.1 g
 
 walk-behind : Law → (T : Table) (room : ℕ) (fs : List Field) (bytes : List ℕ) (from : ℕ) (before : List Record) (at : ℕ) (reason : DecodeReason) (place : ℕ)
@@ -96,12 +118,20 @@ mutual
   walk-fault law (no_record_there f more fault is there) = no_record f more fault is there
   walk-fault law {T} {room} {fs} {bytes} {at} {reason} {place} (not_whole_elements f e h packed none why) =
       let w = span bytes at (record { number = h.number; payload = Len place e; next = h.next }) place e h.stands refl in
-      in_payload (record { number = h.number; payload = Len place e; next = h.next }) f h.stands h.known (no_elements e packed refl why (λ ns g. none ns (slice-elements f.kind bytes place e ns w g)))
-  walk-fault law {place = place} (not_utf8 f e h single kind none why) = in_payload (record { number = h.number; payload = Len place e; next = h.next }) f h.stands h.known (no_text e single kind refl why none)
-  walk-fault law {place = place} (message_too_deep f i e h single kind room_is why) = in_payload (record { number = h.number; payload = Len place e; next = h.next }) f h.stands h.known (too_deep i e single kind refl room_is why)
-  walk-fault law (inside_message f i inside s e h single kind room_is g) = in_payload (record { number = h.number; payload = Len s e; next = h.next }) f h.stands h.known (in_message inside i s e single kind refl room_is (walk-of law g))
+      in_payload (record { number = h.number; payload = Len place e; next = h.next }) f h.stands h.known
+      (no_elements e packed refl why (λ ns g. none ns (slice-elements f.kind bytes place e ns w g)))
+  walk-fault law {place = place} (not_utf8 f e h single kind none why) =
+      in_payload (record { number = h.number; payload = Len place e; next = h.next }) f h.stands h.known
+      (no_text e single kind refl why none)
+  walk-fault law {place = place} (message_too_deep f i e h single kind room_is why) =
+      in_payload (record { number = h.number; payload = Len place e; next = h.next }) f h.stands h.known
+      (too_deep i e single kind refl room_is why)
+  walk-fault law (inside_message f i inside s e h single kind room_is g) =
+      in_payload (record { number = h.number; payload = Len s e; next = h.next }) f h.stands h.known
+      (in_message inside i s e single kind refl room_is (walk-of law g))
   walk-fault law (inside_entry f key s e h map g) = in_payload (record { number = h.number; payload = Len s e; next = h.next }) f h.stands h.known (in_entry key s e map refl (walk-of law g))
   walk-fault law {T} {room} {fs} {bytes} {at} {reason} {place} (default_too_deep f key e t h map means none why) =
       let w = span bytes at (record { number = h.number; payload = Len place e; next = h.next }) place e h.stands refl in
       let b = (agree law T room (entry_fields key f.kind)).back (slice_range bytes place e) t means in
-      in_payload (record { number = h.number; payload = Len place e; next = h.next }) f h.stands h.known (no_room key e b.0 map refl (whole-reads T room (entry_fields key f.kind) bytes place e b.0 w b.1) none why)
+      in_payload (record { number = h.number; payload = Len place e; next = h.next }) f h.stands h.known
+      (no_room key e b.0 map refl (whole-reads T room (entry_fields key f.kind) bytes place e b.0 w b.1) none why)

@@ -55,12 +55,16 @@ single-not_listed : (k : Kind) → single_form k ≡ Listed → ⊥
 single-not_listed (OfMessage i) h = cc
 single-not_listed _ h = cc
 
-values-both : (a b c : Content) (before after : List Content) → values_in (c ∷ []) ≡ values_in (a ∷ []) ++ values_in (b ∷ []) → values_in (before ++ c ∷ after) ≡ values_in (before ++ a ∷ b ∷ after)
+values-both : (a b c : Content) (before after : List Content)
+    → values_in (c ∷ []) ≡ values_in (a ∷ []) ++ values_in (b ∷ [])
+    → values_in (before ++ c ∷ after) ≡ values_in (before ++ a ∷ b ∷ after)
 values-both a b c before after e =
     let one_c : values_in (c ∷ after) ≡ values_in (c ∷ []) ++ values_in after = values_in-append (c ∷ []) after in
     let two : values_in (a ∷ b ∷ after) ≡ values_in (a ∷ b ∷ []) ++ values_in after = values_in-append (a ∷ b ∷ []) after in
     let pair_ab : values_in (a ∷ b ∷ []) ≡ values_in (a ∷ []) ++ values_in (b ∷ []) = values_in-append (a ∷ []) (b ∷ []) in
-    values_in-append before (c ∷ after) ∙ ap (λ is. values_in before ++ is) (one_c ∙ ap (λ is. is ++ values_in after) (e ∙ sym pair_ab) ∙ sym two) ∙ sym (values_in-append before (a ∷ b ∷ after))
+    values_in-append before (c ∷ after) ∙ ap (λ is. values_in before ++ is)
+    (one_c ∙ ap (λ is. is ++ values_in after) (e ∙ sym pair_ab) ∙ sym two)
+    ∙ sym (values_in-append before (a ∷ b ∷ after))
 
 pub listed-both : (a b c : Content) → values_in (c ∷ []) ≡ values_in (a ∷ []) ++ values_in (b ∷ []) → IsBoth Listed a b c
 listed-both a b c e Repeated k form inner before after = ap (λ is. some_items (map (element inner k) is)) (values-both a b c before after e)
@@ -84,7 +88,9 @@ form_for true = Joined
 form_for false = Last
 
 -- a singular field has the same value
-singular-both : (message : Bool) (i j v : Item) (k : Kind) → single_form k ≡ form_for message → IsJoined message i j v → (inner : ℕ → Node → Node) (is js : List Item) → singular inner k (is ++ v ∷ js) ≡ singular inner k (is ++ i ∷ j ∷ js)
+singular-both : (message : Bool) (i j v : Item) (k : Kind) → single_form k ≡ form_for message → IsJoined message i j v
+    → (inner : ℕ → Node → Node) (is js : List Item)
+    → singular inner k (is ++ v ∷ js) ≡ singular inner k (is ++ i ∷ j ∷ js)
 singular-both true i j v (OfMessage m) form h inner is js =
     singular-some inner m is js v
     ∙ ap (λ t. Some (node (inner m t))) (joined-append is (v ∷ js) ∙ ap (join_fields (joined is)) (h js) ∙ sym (joined-append is (i ∷ j ∷ js)))
@@ -96,18 +102,27 @@ singular-both false i j v _ form h inner is js = ap (λ x. last_value (is ++ x �
 singles-at : (c : Content) (before after : List Content) → singles_in (before ++ c ∷ after) ≡ singles_in before ++ (singles_in (c ∷ []) ++ singles_in after)
 singles-at c before after = singles_in-append before (c ∷ after) ∙ ap (λ is. singles_in before ++ is) (singles_in-append (c ∷ []) after)
 
-singles-two : (a b : Content) (before after : List Content) → singles_in (before ++ a ∷ b ∷ after) ≡ singles_in before ++ (singles_in (a ∷ []) ++ (singles_in (b ∷ []) ++ singles_in after))
+singles-two : (a b : Content) (before after : List Content) → singles_in (before ++ a ∷ b ∷ after) ≡ singles_in before
+    ++ (singles_in (a ∷ []) ++ (singles_in (b ∷ []) ++ singles_in after))
 singles-two a b before after = singles-at a before (b ∷ after) ∙ ap (λ is. singles_in before ++ (singles_in (a ∷ []) ++ is)) (singles_in-append (b ∷ []) after)
 
-pub singles-singular : (message : Bool) (a b c : Content) → AreSingles message a b c → (k : Kind) → single_form k ≡ form_for message → (inner : ℕ → Node → Node) (before after : List Content) → singular inner k (singles_in (before ++ c ∷ after)) ≡ singular inner k (singles_in (before ++ a ∷ b ∷ after))
+pub singles-singular : (message : Bool) (a b c : Content) → AreSingles message a b c → (k : Kind)
+    → single_form k ≡ form_for message → (inner : ℕ → Node → Node) (before after : List Content)
+    → singular inner k (singles_in (before ++ c ∷ after)) ≡ singular inner k (singles_in (before ++ a ∷ b ∷ after))
 singles-singular message a b c (are_both i j v at_a at_b at_c h) k form inner before after =
     let left = singles-at c before after ∙ ap (λ is. singles_in before ++ (is ++ singles_in after)) at_c in
-    let right = singles-two a b before after ∙ ap (λ is. singles_in before ++ (is ++ (singles_in (b ∷ []) ++ singles_in after))) at_a ∙ ap (λ is. singles_in before ++ (i ∷ (is ++ singles_in after))) at_b in
+    let right = singles-two a b before after
+    ∙ ap (λ is. singles_in before ++ (is ++ (singles_in (b ∷ []) ++ singles_in after))) at_a
+    ∙ ap (λ is. singles_in before ++ (i ∷ (is ++ singles_in after))) at_b in
     ap (singular inner k) left ∙ singular-both message i j v k form h inner (singles_in before) (singles_in after) ∙ sym (ap (singular inner k) right)
 singles-singular message a b c (is_second none same) k form inner before after =
-    ap (singular inner k) (singles-at c before after ∙ ap (λ is. singles_in before ++ (is ++ singles_in after)) same ∙ sym (singles-two a b before after ∙ ap (λ is. singles_in before ++ (is ++ (singles_in (b ∷ []) ++ singles_in after))) none))
+    ap (singular inner k) (singles-at c before after ∙ ap (λ is. singles_in before ++ (is ++ singles_in after)) same
+    ∙ sym (singles-two a b before after
+    ∙ ap (λ is. singles_in before ++ (is ++ (singles_in (b ∷ []) ++ singles_in after))) none))
 singles-singular message a b c (is_first none same) k form inner before after =
-    ap (singular inner k) (singles-at c before after ∙ ap (λ is. singles_in before ++ (is ++ singles_in after)) same ∙ sym (singles-two a b before after ∙ ap (λ is. singles_in before ++ (singles_in (a ∷ []) ++ (is ++ singles_in after))) none))
+    ap (singular inner k) (singles-at c before after ∙ ap (λ is. singles_in before ++ (is ++ singles_in after)) same
+    ∙ sym (singles-two a b before after
+    ∙ ap (λ is. singles_in before ++ (singles_in (a ∷ []) ++ (is ++ singles_in after))) none))
 
 form-not_listed : (message : Bool) → Listed ≡ form_for message → ⊥
 form-not_listed true h = cc

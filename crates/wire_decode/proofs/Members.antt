@@ -1,5 +1,7 @@
 -- Records that count leave each oneof one member.
-use Rattle.std.proofs.Common.{◌≡◌, ◌≢◌, ℕ, ◌+◌, ◌<◌, ◌≤◌, ◌⊎◌, ◌==◌, ◌&&◌, ◌||◌, List, [], ◌∷◌, Option, Some, None, Bool, true, false, not, cond, refl, ap, sym, subst, ◌∙◌, arith, inl, inr, ⊎_elim, option_map, unwrap_or}
+use Rattle.std.proofs.Common.{◌≡◌, ◌≢◌, ℕ, ◌+◌, ◌<◌, ◌≤◌, ◌⊎◌, ◌==◌, ◌&&◌, ◌||◌, List, [], ◌∷◌, Option, Some, None}
+use Rattle.std.proofs.Common.{Bool, true, false, not, cond, refl, ap, sym, subst, ◌∙◌, arith, inl, inr, ⊎_elim}
+use Rattle.std.proofs.Common.{option_map, unwrap_or}
 use Rattle.std.proofs.lemmas.Bool.Decides.{nat_tests, eqb_tells}
 use Rattle.std.proofs.lemmas.Bool.{eq-eqb}
 use Rattle.mrpc_table.specs.Node.{Node, no_fields, field, Content}
@@ -22,7 +24,8 @@ pub or-parts : (a b : Bool) → (a || b) ≡ false → (a ≡ false) × (b ≡ f
 or-parts true b h = absurd (cc)
 or-parts false b h = (refl, h)
 
-fewer-go : (fs : List Field) (n m : ℕ) (c : Content) (u : Node) (b : Bool) → are_rivals fs n m ≡ false → is_overtaken fs n u ≡ false → is_overtaken fs n (cond b u (field m c u)) ≡ false
+fewer-go : (fs : List Field) (n m : ℕ) (c : Content) (u : Node) (b : Bool) → are_rivals fs n m ≡ false
+    → is_overtaken fs n u ≡ false → is_overtaken fs n (cond b u (field m c u)) ≡ false
 fewer-go fs n m c u true a h = h
 fewer-go fs n m c u false a h = ap (λ x. x || is_overtaken fs n u) a ∙ h
 
@@ -33,7 +36,9 @@ fewer-overtake fs n (field m c t) h =
     let parts = or-parts (are_rivals fs n m) (is_overtaken fs n t) h in
     fewer-go fs n m c (counted fs t) (is_overtaken fs m t) parts.0 (fewer-overtake fs n t parts.1)
 
-counted-go : (fs : List Field) (n : ℕ) (c : Content) (t u : Node) (b : Bool) → is_overtaken fs n t ≡ b → (is_overtaken fs n t ≡ false → is_overtaken fs n u ≡ false) → HasNoRivals fs u → HasNoRivals fs (cond b u (field n c u))
+counted-go : (fs : List Field) (n : ℕ) (c : Content) (t u : Node) (b : Bool) → is_overtaken fs n t ≡ b
+    → (is_overtaken fs n t ≡ false → is_overtaken fs n u ≡ false) → HasNoRivals fs u
+    → HasNoRivals fs (cond b u (field n c u))
 counted-go fs n c t u true e fewer h = h
 counted-go fs n c t u false e fewer h = (fewer e, h)
 
@@ -52,7 +57,8 @@ none-behind fs n m (field k c t) rivals h =
     (eqb_tells k m)
 
 -- of two rivals one has no record
-pub rival-none : (fs : List Field) (n m : ℕ) (t : Node) → n ≢ m → are_rivals fs n m ≡ true → are_rivals fs m n ≡ true → HasNoRivals fs t → contents_of n t ≢ [] → contents_of m t ≡ []
+pub rival-none : (fs : List Field) (n m : ℕ) (t : Node) → n ≢ m → are_rivals fs n m ≡ true → are_rivals fs m n ≡ true
+    → HasNoRivals fs t → contents_of n t ≢ [] → contents_of m t ≡ []
 rival-none fs n m no_fields differ a b h some = refl
 rival-none fs n m (field k c t) differ a b h some =
     ⊎_elim
@@ -89,11 +95,15 @@ is-member Repeated o = inl refl
 is-member Packed o = inl refl
 is-member (Map key) o = inl refl
 
-pub members-first : (fs : List Field) (o n : ℕ) (f : Field) (c : Content) (t : Node) → field_at fs n ≡ Some f → members_in fs o (field n c t) ≡ membership f.label o + members_in fs o t
+pub members-first : (fs : List Field) (o n : ℕ) (f : Field) (c : Content) (t : Node) → field_at fs n ≡ Some f
+    → members_in fs o (field n c t) ≡ membership f.label o + members_in fs o t
 members-first fs o n f c t e = ap (λ x. unwrap_or (option_map (λ f. membership f.label o) x) 0 + members_in fs o t) e
 
 -- no member of the oneof has a content
-members-none : (inner : ℕ → Node → Node) (all : List Field) (o : ℕ) (kept : Node) (fs : List Field) (last : ℕ) → AreFieldsFrom last fs → IsRest all last fs → ((m : ℕ) → last < m → oneof_at all m ≡ Some o → contents_of m kept ≡ []) → members_in all o (with_fields inner kept fs) ≡ 0
+members-none : (inner : ℕ → Node → Node) (all : List Field) (o : ℕ) (kept : Node) (fs : List Field) (last : ℕ)
+    → AreFieldsFrom last fs → IsRest all last fs
+    → ((m : ℕ) → last < m → oneof_at all m ≡ Some o → contents_of m kept ≡ [])
+    → members_in all o (with_fields inner kept fs) ≡ 0
 members-none inner all o kept [] last h rest none = refl
 members-none inner all o kept (f ∷ fs) last h rest none =
     let a = h.0 in
@@ -107,28 +117,36 @@ members-none inner all o kept (f ∷ fs) last h rest none =
     ap (λ x. members_in all o (with_content f.number x (with_fields inner kept fs))) nothing ∙ later)
     (is-member f.label o)
   where
-    go : (x : Option Content) (t : Node) (f : Field) → field_at all f.number ≡ Some f → membership f.label o ≡ 0 → members_in all o t ≡ 0 → members_in all o (with_content f.number x t) ≡ 0
+    go : (x : Option Content) (t : Node) (f : Field) → field_at all f.number ≡ Some f → membership f.label o ≡ 0
+        → members_in all o t ≡ 0 → members_in all o (with_content f.number x t) ≡ 0
     go None t f found zero later = later
     go (Some c) t f found zero later = let e = members-first all o f.number f c t found in omega (arith, e, zero, later)
 
 -- the fields have at most one member of the oneof
-pub members-one : (inner : ℕ → Node → Node) (all : List Field) (o : ℕ) (kept : Node) (fs : List Field) (last : ℕ) → HasNoRivals all kept → AreFieldsFrom last fs → IsRest all last fs → members_in all o (with_fields inner kept fs) ≤ 1
+pub members-one : (inner : ℕ → Node → Node) (all : List Field) (o : ℕ) (kept : Node) (fs : List Field) (last : ℕ)
+    → HasNoRivals all kept → AreFieldsFrom last fs → IsRest all last fs
+    → members_in all o (with_fields inner kept fs) ≤ 1
 members-one inner all o kept [] last quiet h rest = omega arith
 members-one inner all o kept (f ∷ fs) last quiet h rest =
     let found = rest-first all last f fs h.0 rest in
     let more = rest-more all last f fs h.0 rest in
     let later = members-one inner all o kept fs f.number quiet h.2 more in
     let content = field_content inner f.label f.kind (contents_of f.number kept) in
-    let none : content ≢ None → oneof_at all f.number ≡ Some o → members_in all o (with_fields inner kept fs) ≡ 0 = (λ some at. members-none inner all o kept fs f.number h.2 more (λ m above e. (
+    let none : content ≢ None → oneof_at all f.number ≡ Some o → members_in all o (with_fields inner kept fs) ≡ 0 =
+    (λ some at. members-none inner all o kept fs f.number h.2 more (λ m above e. (
     let differ : f.number ≢ m = omega (arith, above) in
     let back : m ≢ f.number = omega (arith, above) in
-    rival-none all f.number m kept differ (members-rival all f.number m o differ at e) (members-rival all m f.number o back e at) quiet (λ empty. some (ap (field_content inner f.label f.kind) empty ∙ content-none inner f.label f.kind))))) in
+    rival-none all f.number m kept differ (members-rival all f.number m o differ at e)
+    (members-rival all m f.number o back e at) quiet
+    (λ empty. some (ap (field_content inner f.label f.kind) empty ∙ content-none inner f.label f.kind))))) in
     go content (with_fields inner kept fs) f found later (λ some at. none some (oneof-found all f.number f found ∙ at))
   where
     some-none : (c : Content) → Some c ≢ None
     some-none c e = cc
 
-    go : (x : Option Content) (t : Node) (f : Field) → field_at all f.number ≡ Some f → members_in all o t ≤ 1 → (x ≢ None → oneof_of f.label ≡ Some o → members_in all o t ≡ 0) → members_in all o (with_content f.number x t) ≤ 1
+    go : (x : Option Content) (t : Node) (f : Field) → field_at all f.number ≡ Some f → members_in all o t ≤ 1
+        → (x ≢ None → oneof_of f.label ≡ Some o → members_in all o t ≡ 0)
+        → members_in all o (with_content f.number x t) ≤ 1
     go None t f found later none = later
     go (Some c) t f found later none =
         let e = members-first all o f.number f c t found in

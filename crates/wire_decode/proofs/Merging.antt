@@ -1,5 +1,6 @@
 -- What a field has, from its contents in one.
-use Rattle.std.proofs.Common.{◌≡◌, ◌≢◌, ℕ, zero, suc, ◌+◌, ◌<◌, ◌≤◌, List, [], ◌∷◌, ◌++◌, map, length, Option, Some, None, false, refl, ap, sym, subst, ◌∙◌, arith, append-nil, ⊎_elim}
+use Rattle.std.proofs.Common.{◌≡◌, ◌≢◌, ℕ, zero, suc, ◌+◌, ◌<◌, ◌≤◌, List, [], ◌∷◌, ◌++◌, map, length, Option, Some}
+use Rattle.std.proofs.Common.{None, false, refl, ap, sym, subst, ◌∙◌, arith, append-nil, ⊎_elim}
 use Rattle.std.specs.Option.{option_and_then, unwrap_or}
 use Rattle.std.proofs.lemmas.Bool.Decides.{nat_tests, eqb_tells}
 use Rattle.std.proofs.lemmas.Bool.{cases_lt}
@@ -15,7 +16,9 @@ use Rattle.mrpc_table.specs.declared.table.Field.{Field}
 use Rattle.mrpc_table.specs.declared.table.Table.{Table}
 use Rattle.mrpc_table.specs.Ascending.{FieldsAscend}
 use Rattle.wire_decode.specs.Reads.{is_message}
-use Rattle.wire_decode.specs.Merged.{contents_of, items_from, singles_in, join_fields, singular, element, default_of, some_items, some_pairs, present, present_if_set, field_content, with_content, with_fields, counted, merged}
+use Rattle.wire_decode.specs.Merged.{contents_of, items_from, singles_in, join_fields, singular, element, default_of}
+use Rattle.wire_decode.specs.Merged.{some_items, some_pairs, present, present_if_set, field_content, with_content}
+use Rattle.wire_decode.specs.Merged.{with_fields, counted, merged}
 use Rattle.wire_decode.specs.Gathered.{RiseFrom, Rise, finish_at, finished_of, MeansAll, IsWith, part_of, IsGathered}
 use Rattle.wire_decode.proofs.Adding.{contents-here, contents-other}
 use Rattle.wire_decode.proofs.Gathering.{singles_in-append}
@@ -143,29 +146,45 @@ finished-none : (inner : ℕ → Node → Node) (t : Node) → finished_of inner
 finished-none inner no_fields = refl
 finished-none inner (field n c t) = finished-none inner t
 
-finished-first : (inner : ℕ → Node → Node) (f : Field) (fs : List Field) (n : ℕ) (c : Content) (t : Node) → FieldsAscend (f ∷ fs) → RiseFrom n t → f.number ≡ n → finished_of inner fs t ≡ with_fields inner t fs → finished_of inner (f ∷ fs) (field n c t) ≡ with_fields inner (field n c t) (f ∷ fs)
+finished-first : (inner : ℕ → Node → Node) (f : Field) (fs : List Field) (n : ℕ) (c : Content) (t : Node)
+    → FieldsAscend (f ∷ fs) → RiseFrom n t → f.number ≡ n → finished_of inner fs t ≡ with_fields inner t fs
+    → finished_of inner (f ∷ fs) (field n c t) ≡ with_fields inner (field n c t) (f ∷ fs)
 finished-first inner f fs n c t a r e rest =
     let left : finished_of inner (f ∷ fs) (field n c t) ≡ with_content n (field_content inner f.label f.kind (c ∷ [])) (finished_of inner fs t) =
     ap (λ o. with_content n (option_and_then (λ f. field_content inner f.label f.kind (c ∷ [])) o) (finished_of inner (f ∷ fs) t)) (field-here f fs n e)
     ∙ ap (with_content n (field_content inner f.label f.kind (c ∷ []))) (finished-skip inner f fs t (rise-low f.number n t r (omega (arith, e)))) in
-    let P : ℕ → Type 0 = λ x. with_content x (field_content inner f.label f.kind (contents_of x (field n c t))) (with_fields inner (field n c t) fs) ≡ with_content n (field_content inner f.label f.kind (c ∷ [])) (with_fields inner t fs) in
-    let here : P n = ap (λ cs. with_content n (field_content inner f.label f.kind cs) (with_fields inner (field n c t) fs)) (contents-here n c t ∙ ap (λ cs. c ∷ cs) (rise-above n n t r (omega arith)))
+    let P : ℕ → Type 0 = λ x. with_content x (field_content inner f.label f.kind (contents_of x (field n c t)))
+    (with_fields inner (field n c t) fs) ≡ with_content n (field_content inner f.label f.kind (c ∷ []))
+    (with_fields inner t fs) in
+    let here : P n = ap (λ cs. with_content n (field_content inner f.label f.kind cs)
+    (with_fields inner (field n c t) fs))
+    (contents-here n c t ∙ ap (λ cs. c ∷ cs) (rise-above n n t r (omega arith)))
     ∙ ap (with_content n (field_content inner f.label f.kind (c ∷ []))) (fields-skip inner n c t fs (above-more n f.number fs (omega (arith, e)) (ascend-above f fs a))) in
     left ∙ ap (with_content n (field_content inner f.label f.kind (c ∷ []))) rest ∙ sym (subst P (sym e) here)
 
-finished-higher : (inner : ℕ → Node → Node) (f : Field) (fs : List Field) (n : ℕ) (c : Content) (t : Node) → RiseFrom n t → f.number < n → finished_of inner fs (field n c t) ≡ with_fields inner (field n c t) fs → finished_of inner (f ∷ fs) (field n c t) ≡ with_fields inner (field n c t) (f ∷ fs)
+finished-higher : (inner : ℕ → Node → Node) (f : Field) (fs : List Field) (n : ℕ) (c : Content) (t : Node)
+    → RiseFrom n t → f.number < n → finished_of inner fs (field n c t) ≡ with_fields inner (field n c t) fs
+    → finished_of inner (f ∷ fs) (field n c t) ≡ with_fields inner (field n c t) (f ∷ fs)
 finished-higher inner f fs n c t r less rest =
     let none : contents_of f.number (field n c t) ≡ [] = contents-other f.number n c t (omega (arith, less)) ∙ rise-above f.number n t r (omega (arith, less)) in
     finished-skip inner f fs (field n c t) (less, r) ∙ rest
-    ∙ sym (ap (λ cs. with_content f.number (field_content inner f.label f.kind cs) (with_fields inner (field n c t) fs)) none ∙ ap (λ o. with_content f.number o (with_fields inner (field n c t) fs)) (content-none inner f.label f.kind))
+    ∙ sym (ap (λ cs. with_content f.number (field_content inner f.label f.kind cs)
+    (with_fields inner (field n c t) fs)) none
+    ∙ ap (λ o. with_content f.number o (with_fields inner (field n c t) fs)) (content-none inner f.label f.kind))
 
-finished-lower : (inner : ℕ → Node → Node) (f : Field) (fs : List Field) (n : ℕ) (c : Content) (t : Node) → FieldsAscend (f ∷ fs) → n < f.number → finished_of inner (f ∷ fs) t ≡ with_fields inner t (f ∷ fs) → finished_of inner (f ∷ fs) (field n c t) ≡ with_fields inner (field n c t) (f ∷ fs)
+finished-lower : (inner : ℕ → Node → Node) (f : Field) (fs : List Field) (n : ℕ) (c : Content) (t : Node)
+    → FieldsAscend (f ∷ fs) → n < f.number → finished_of inner (f ∷ fs) t ≡ with_fields inner t (f ∷ fs)
+    → finished_of inner (f ∷ fs) (field n c t) ≡ with_fields inner (field n c t) (f ∷ fs)
 finished-lower inner f fs n c t a low rest =
     let above : AreAbove n (f ∷ fs) = (low, above-more n f.number fs (omega (arith, low)) (ascend-above f fs a)) in
     ap (λ o. with_content n (option_and_then (λ f. field_content inner f.label f.kind (c ∷ [])) o) (finished_of inner (f ∷ fs) t)) (field-none n (f ∷ fs) above)
     ∙ rest ∙ sym (fields-skip inner n c t (f ∷ fs) above)
 
-finished-step : (inner : ℕ → Node → Node) (f : Field) (fs : List Field) (n : ℕ) (c : Content) (t : Node) → FieldsAscend (f ∷ fs) → RiseFrom n t → finished_of inner fs t ≡ with_fields inner t fs → finished_of inner fs (field n c t) ≡ with_fields inner (field n c t) fs → finished_of inner (f ∷ fs) t ≡ with_fields inner t (f ∷ fs) → finished_of inner (f ∷ fs) (field n c t) ≡ with_fields inner (field n c t) (f ∷ fs)
+finished-step : (inner : ℕ → Node → Node) (f : Field) (fs : List Field) (n : ℕ) (c : Content) (t : Node)
+    → FieldsAscend (f ∷ fs) → RiseFrom n t → finished_of inner fs t ≡ with_fields inner t fs
+    → finished_of inner fs (field n c t) ≡ with_fields inner (field n c t) fs
+    → finished_of inner (f ∷ fs) t ≡ with_fields inner t (f ∷ fs)
+    → finished_of inner (f ∷ fs) (field n c t) ≡ with_fields inner (field n c t) (f ∷ fs)
 finished-step inner f fs n c t a r both_shorter fields_shorter tree_shorter =
     ⊎_elim
     (λ low. finished-lower inner f fs n c t a low tree_shorter)
@@ -175,7 +194,8 @@ finished-step inner f fs n c t a r both_shorter fields_shorter tree_shorter =
     (eqb_tells f.number n))
     (cases_lt n f.number)
 
-finished-all : (fuel : ℕ) (inner : ℕ → Node → Node) (fs : List Field) (t : Node) → length fs + size t ≤ fuel → FieldsAscend fs → Rise t → finished_of inner fs t ≡ with_fields inner t fs
+finished-all : (fuel : ℕ) (inner : ℕ → Node → Node) (fs : List Field) (t : Node) → length fs + size t ≤ fuel
+    → FieldsAscend fs → Rise t → finished_of inner fs t ≡ with_fields inner t fs
 finished-all fuel inner [] t le a r = finished-none inner t
 finished-all fuel inner (f ∷ fs) no_fields le a r = sym (fields-empty inner (f ∷ fs))
 finished-all zero inner (f ∷ fs) (field n c t) le a r = absurd (omega (arith, le))
@@ -186,23 +206,30 @@ finished-all (suc fuel) inner (f ∷ fs) (field n c t) le a r =
     (finished-all fuel inner (f ∷ fs) t (omega (arith, le)) a (rise-tail n t r))
 
 -- each field means what its contents meant before they were gathered
-fields-gathered : (inner : ℕ → Node → Node) (all fs : List Field) (raw held : Node) → IsGathered all raw held → ((f : Field) → (n : ℕ) → field_at fs n ≡ Some f → field_at all n ≡ Some f) → FieldsAscend fs → with_fields inner held fs ≡ with_fields inner raw fs
+fields-gathered : (inner : ℕ → Node → Node) (all fs : List Field) (raw held : Node) → IsGathered all raw held
+    → ((f : Field) → (n : ℕ) → field_at fs n ≡ Some f → field_at all n ≡ Some f) → FieldsAscend fs
+    → with_fields inner held fs ≡ with_fields inner raw fs
 fields-gathered inner all [] raw held g sub a = refl
 fields-gathered inner all (f ∷ fs) raw held g sub a =
     let at = sub f f.number (field-here f fs f.number refl) in
     let here : field_content inner f.label f.kind (contents_of f.number held) ≡ field_content inner f.label f.kind (contents_of f.number raw) =
-    ap (field_content inner f.label f.kind) (sym (append-nil (contents_of f.number held))) ∙ g.same f.number f at inner [] ∙ ap (field_content inner f.label f.kind) (append-nil (contents_of f.number raw)) in
+    ap (field_content inner f.label f.kind) (sym (append-nil (contents_of f.number held)))
+    ∙ g.same f.number f at inner [] ∙ ap (field_content inner f.label f.kind)
+    (append-nil (contents_of f.number raw)) in
     let later : (g' : Field) (n : ℕ) → field_at fs n ≡ Some g' → field_at all n ≡ Some g' = λ g' n e. sub g' n (in-tail f fs g' n a e) in
     ap (λ o. with_content f.number o (with_fields inner held fs)) here
     ∙ ap (with_content f.number (field_content inner f.label f.kind (contents_of f.number raw))) (fields-gathered inner all fs raw held g later (first-least f fs a))
   where
     in-tail : (f : Field) (fs : List Field) (g : Field) (n : ℕ) → FieldsAscend (f ∷ fs) → field_at fs n ≡ Some g → field_at (f ∷ fs) n ≡ Some g
     in-tail f fs g n a e = ⊎_elim
-        (λ s. let above = ascend-above f fs a in let none = field-none n fs (above-more n f.number fs (let z = s.1 in omega (arith, z)) above) in absurd (let bad : Some g ≡ None = sym e ∙ none in cc))
+        (λ s. let above = ascend-above f fs a in
+        let none = field-none n fs (above-more n f.number fs (let z = s.1 in omega (arith, z)) above) in
+        absurd (let bad : Some g ≡ None = sym e ∙ none in cc))
         (λ s. field-later f fs n s.1 ∙ e)
         (eqb_tells f.number n)
 
-fields-same : (inner : ℕ → Node → Node) (fs : List Field) (raw sorted : Node) → ((n : ℕ) → contents_of n sorted ≡ contents_of n raw) → with_fields inner sorted fs ≡ with_fields inner raw fs
+fields-same : (inner : ℕ → Node → Node) (fs : List Field) (raw sorted : Node)
+    → ((n : ℕ) → contents_of n sorted ≡ contents_of n raw) → with_fields inner sorted fs ≡ with_fields inner raw fs
 fields-same inner [] raw sorted h = refl
 fields-same inner (f ∷ fs) raw sorted h =
     ap (λ cs. with_content f.number (field_content inner f.label f.kind cs) (with_fields inner sorted fs)) (h f.number)
@@ -217,24 +244,33 @@ unfolding merged
 merged-suc T d i raw = refl
 
 -- the contents that count, sorted, gathered and finished are the message
-pub finished-merged : (T : Table) (d i : ℕ) (fs : List Field) (raw kept sorted held whole : Node) → fs ≡ fields_of T i → FieldsAscend fs → kept ≡ counted fs raw → ((n : ℕ) → contents_of n sorted ≡ contents_of n kept) → IsGathered fs sorted held → whole ≡ finished_of (merged T d) fs held → whole ≡ merged T (suc d) i raw
+pub finished-merged : (T : Table) (d i : ℕ) (fs : List Field) (raw kept sorted held whole : Node) → fs ≡ fields_of T i
+    → FieldsAscend fs → kept ≡ counted fs raw → ((n : ℕ) → contents_of n sorted ≡ contents_of n kept)
+    → IsGathered fs sorted held → whole ≡ finished_of (merged T d) fs held → whole ≡ merged T (suc d) i raw
 finished-merged T d i fs raw kept sorted held whole is a k s g w =
     let inner = merged T d in
     let P : List Field → Type 0 = λ x. whole ≡ with_fields inner (counted x raw) x in
-    let here : P fs = w ∙ finished-all (length fs + size held) inner fs held (omega arith) a g.rise ∙ fields-gathered inner fs fs sorted held g (λ f n e. e) a ∙ fields-same inner fs kept sorted s ∙ ap (λ t. with_fields inner t fs) k in
+    let here : P fs = w ∙ finished-all (length fs + size held) inner fs held (omega arith) a g.rise
+    ∙ fields-gathered inner fs fs sorted held g (λ f n e. e) a ∙ fields-same inner fs kept sorted s
+    ∙ ap (λ t. with_fields inner t fs) k in
     subst P is here ∙ sym (merged-suc T d i raw)
 
 -- one field more
-pub finished-pushed : (inner : ℕ → Node → Node) (fs : List Field) (n : ℕ) (c : Content) (t : Node) → finished_of inner fs (push_field t n c) ≡ join_fields (finished_of inner fs t) (with_content n (finish_at inner fs n c) no_fields)
+pub finished-pushed : (inner : ℕ → Node → Node) (fs : List Field) (n : ℕ) (c : Content) (t : Node)
+    → finished_of inner fs (push_field t n c) ≡ join_fields (finished_of inner fs t)
+    (with_content n (finish_at inner fs n c) no_fields)
 finished-pushed inner fs n c no_fields = refl
 finished-pushed inner fs n c (field m d t) =
-    ap (with_content m (finish_at inner fs m d)) (finished-pushed inner fs n c t) ∙ with-join m (finish_at inner fs m d) (finished_of inner fs t) (with_content n (finish_at inner fs n c) no_fields)
+    ap (with_content m (finish_at inner fs m d)) (finished-pushed inner fs n c t)
+    ∙ with-join m (finish_at inner fs m d) (finished_of inner fs t)
+    (with_content n (finish_at inner fs n c) no_fields)
   where
     with-join : (m : ℕ) (o : Option Content) (t u : Node) → with_content m o (join_fields t u) ≡ join_fields (with_content m o t) u
     with-join m None t u = refl
     with-join m (Some c) t u = refl
 
-pub finish-found : (inner : ℕ → Node → Node) (fs : List Field) (n : ℕ) (c : Content) (f : Field) → field_at fs n ≡ Some f → finish_at inner fs n c ≡ field_content inner f.label f.kind (c ∷ [])
+pub finish-found : (inner : ℕ → Node → Node) (fs : List Field) (n : ℕ) (c : Content) (f : Field)
+    → field_at fs n ≡ Some f → finish_at inner fs n c ≡ field_content inner f.label f.kind (c ∷ [])
 finish-found inner fs n c f e = ap (option_and_then (λ f. field_content inner f.label f.kind (c ∷ []))) e
 
 pub finish-none : (inner : ℕ → Node → Node) (fs : List Field) (n : ℕ) (c : Content) → field_at fs n ≡ None → finish_at inner fs n c ≡ None
@@ -245,18 +281,22 @@ contents-more m n c no_fields = refl
 contents-more m n c (field k d t) =
     ⊎_elim
     (λ s. let P : ℕ → Type 0 = λ x. contents_of m (push_field (field x d t) n c) ≡ contents_of m (field x d t) ++ contents_of m (field n c no_fields) in
-    subst P (sym s.1) (contents-here m d (push_field t n c) ∙ ap (λ cs. d ∷ cs) (contents-more m n c t) ∙ sym (ap (λ cs. cs ++ contents_of m (field n c no_fields)) (contents-here m d t))))
-    (λ s. let e : m ≢ k = (λ z. s.1 (sym z)) in contents-other m k d (push_field t n c) e ∙ contents-more m n c t ∙ sym (ap (λ cs. cs ++ contents_of m (field n c no_fields)) (contents-other m k d t e)))
+    subst P (sym s.1) (contents-here m d (push_field t n c) ∙ ap (λ cs. d ∷ cs) (contents-more m n c t)
+    ∙ sym (ap (λ cs. cs ++ contents_of m (field n c no_fields)) (contents-here m d t))))
+    (λ s. let e : m ≢ k = (λ z. s.1 (sym z)) in contents-other m k d (push_field t n c) e ∙ contents-more m n c t
+    ∙ sym (ap (λ cs. cs ++ contents_of m (field n c no_fields)) (contents-other m k d t e)))
     (eqb_tells k m)
 
 pub singles-more : (m n : ℕ) (c : Content) (t : Node) → singles_in (contents_of m (push_field t n c)) ≡ singles_in (contents_of m t) ++ singles_in (contents_of m (field n c no_fields))
 singles-more m n c t = ap singles_in (contents-more m n c t) ∙ singles_in-append (contents_of m t) (contents_of m (field n c no_fields))
 
 -- the contents of an entry's part, with one content more
-pub noted-other : (m n : ℕ) (c : Content) (k : Kind) (o : Option Item) → m ≢ n → (is : List Item) → MeansAll k is o → MeansAll k (is ++ singles_in (contents_of m (field n c no_fields))) o
+pub noted-other : (m n : ℕ) (c : Content) (k : Kind) (o : Option Item) → m ≢ n → (is : List Item) → MeansAll k is o
+    → MeansAll k (is ++ singles_in (contents_of m (field n c no_fields))) o
 noted-other m n c k o h is g = let P : List Item → Type 0 = λ xs. MeansAll k xs o in subst P (sym (ap (λ cs. is ++ singles_in cs) (contents-other m n c no_fields h) ∙ append-nil is)) g
 
-pub noted-none : (m n : ℕ) (c : Content) (k : Kind) (o : Option Item) → singles_in (c ∷ []) ≡ [] → (is : List Item) → MeansAll k is o → MeansAll k (is ++ singles_in (contents_of m (field n c no_fields))) o
+pub noted-none : (m n : ℕ) (c : Content) (k : Kind) (o : Option Item) → singles_in (c ∷ []) ≡ [] → (is : List Item)
+    → MeansAll k is o → MeansAll k (is ++ singles_in (contents_of m (field n c no_fields))) o
 noted-none m n c k o h is g =
     let none : singles_in (contents_of m (field n c no_fields)) ≡ [] = ⊎_elim
     (λ s. let P : ℕ → Type 0 = λ x. singles_in (contents_of m (field x c no_fields)) ≡ [] in subst P (sym s.1) (ap singles_in (contents-here m c no_fields) ∙ h))
@@ -264,10 +304,13 @@ noted-none m n c k o h is g =
     (eqb_tells n m) in
     let P : List Item → Type 0 = λ xs. MeansAll k xs o in subst P (sym (ap (λ xs. is ++ xs) none ∙ append-nil is)) g
 
-pub noted-same : (m n : ℕ) (c : Content) (i v : Item) (k : Kind) (o : Option Item) → n ≡ m → c ≡ one i → IsWith k o i v → (is : List Item) → MeansAll k is o → MeansAll k (is ++ singles_in (contents_of m (field n c no_fields))) (Some v)
+pub noted-same : (m n : ℕ) (c : Content) (i v : Item) (k : Kind) (o : Option Item) → n ≡ m → c ≡ one i
+    → IsWith k o i v → (is : List Item) → MeansAll k is o
+    → MeansAll k (is ++ singles_in (contents_of m (field n c no_fields))) (Some v)
 noted-same m n c i v k o e is_c w is g =
     let here : singles_in (contents_of m (field n c no_fields)) ≡ i ∷ [] =
-    (let P : ℕ → Type 0 = λ x. singles_in (contents_of m (field x c no_fields)) ≡ i ∷ [] in subst P (sym e) (ap singles_in (contents-here m c no_fields) ∙ ap (λ x. singles_in (x ∷ [])) is_c)) in
+    (let P : ℕ → Type 0 = λ x. singles_in (contents_of m (field x c no_fields)) ≡ i ∷ [] in
+    subst P (sym e) (ap singles_in (contents-here m c no_fields) ∙ ap (λ x. singles_in (x ∷ [])) is_c)) in
     let P : List Item → Type 0 = λ xs. MeansAll k (is ++ xs) (Some v) in
     subst P (sym here) (means-more k is o i v g w)
 

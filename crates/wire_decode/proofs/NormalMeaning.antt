@@ -1,13 +1,18 @@
 -- What sound records mean is a normal tree.
-use Rattle.std.proofs.Common.{◌≡◌, ◌≢◌, ℕ, zero, suc, ◌<◌, ◌≤◌, List, [], ◌∷◌, map, Option, Some, None, Bool, true, false, cond, refl, ap, sym, subst, ◌∙◌, arith, inl, inr, ⊎_elim, ◌⊎◌, IfSome, unwrap_or}
+use Rattle.std.proofs.Common.{◌≡◌, ◌≢◌, ℕ, zero, suc, ◌<◌, ◌≤◌, List, [], ◌∷◌, map, Option, Some, None, Bool, true}
+use Rattle.std.proofs.Common.{false, cond, refl, ap, sym, subst, ◌∙◌, arith, inl, inr, ⊎_elim, ◌⊎◌, IfSome, unwrap_or}
 use Rattle.std.proofs.lemmas.Bool.{eq-eqb}
 use Rattle.std.proofs.lemmas.Str.{IsUtf8-nil}
 use Rattle.std.proofs.lemmas.List.Elements.{All-nil}
 use Rattle.mrpc_table.specs.Node.{Node, no_fields, field, Content, one, many, pairs, Item, number, run, node, no_items, Pairs, no_pairs, pair}
-use Rattle.mrpc_table.specs.Normal.{fields_of, field_at, IsDefault, TakesOne, TakesMany, KeysAscend, HasFields, IsItem, AreItems, ArePairs, IsNormal, depth, item_depth, items_depth, pairs_depth}
+use Rattle.mrpc_table.specs.Normal.{fields_of, field_at, IsDefault, TakesOne, TakesMany, KeysAscend, HasFields}
+use Rattle.mrpc_table.specs.Normal.{IsItem, AreItems, ArePairs, IsNormal, depth, item_depth, items_depth, pairs_depth}
 use Rattle.mrpc_table.specs.Fits.{FitsWithin}
 use Rattle.mrpc_table.specs.declared.table.Kind.{Kind}
-use Rattle.mrpc_table.specs.declared.table.Kind.TheVariants.{Int32, Int64, Uint32, Uint64, Sint32, Sint64, Bool as TheBool, Fixed32, Fixed64, Sfixed32, Sfixed64, Float, Double, Text, Octets, Message as OfMessage, Choice}
+use Rattle.mrpc_table.specs.declared.table.Kind.TheVariants.{Int32, Int64, Uint32, Uint64, Sint32, Sint64}
+use Rattle.mrpc_table.specs.declared.table.Kind.TheVariants.{Bool as TheBool, Fixed32, Fixed64, Sfixed32, Sfixed64}
+use Rattle.mrpc_table.specs.declared.table.Kind.TheVariants.{Float, Double, Text, Octets, Message as OfMessage}
+use Rattle.mrpc_table.specs.declared.table.Kind.TheVariants.{Choice}
 use Rattle.mrpc_table.specs.declared.table.Label.{Label}
 use Rattle.mrpc_table.specs.declared.table.Label.TheVariants.{Plain, Optional, Repeated, Packed, Map, Member}
 use Rattle.mrpc_table.specs.declared.table.Field.{Field}
@@ -15,10 +20,15 @@ use Rattle.mrpc_table.specs.declared.table.Table.{Table}
 use Rattle.wire_decode.specs.Words.{is_map}
 use Rattle.wire_decode.specs.Reads.{is_message, HasRoom, entry_fields}
 use Rattle.wire_decode.specs.Merges.{Merges}
-use Rattle.wire_decode.specs.Merged.{contents_of, items_from, values_in, singles_in, join_fields, joined, last_value, is_default, default_of, singular, element, part, entry, present, present_if_set, some_items, some_pairs, field_content, is_overtaken, counted, with_content, with_fields, merged}
+use Rattle.wire_decode.specs.Merged.{contents_of, items_from, values_in, singles_in, join_fields, joined, last_value}
+use Rattle.wire_decode.specs.Merged.{is_default, default_of, singular, element, part, entry, present, present_if_set}
+use Rattle.wire_decode.specs.Merged.{some_items, some_pairs, field_content, is_overtaken, counted, with_content}
+use Rattle.wire_decode.specs.Merged.{with_fields, merged}
 use Rattle.wire_decode.proofs.Merging.{element-same, merged-suc}
 use Rattle.wire_decode.proofs.WordForms.{AreBytes}
-use Rattle.wire_decode.proofs.Sound.{SoundNode, SoundValue, SoundEntry, reads-sound, join-sound, AllContents, AllValues, AllEntries, contents-sound, singles-sound, values-sound, entries-sound, room-inside, joined-sound}
+use Rattle.wire_decode.proofs.Sound.{SoundNode, SoundValue, SoundEntry, reads-sound, join-sound, AllContents}
+use Rattle.wire_decode.proofs.Sound.{AllValues, AllEntries, contents-sound, singles-sound, values-sound}
+use Rattle.wire_decode.proofs.Sound.{entries-sound, room-inside, joined-sound}
 use Rattle.wire_decode.proofs.UsableTables.{AreFieldsFrom, IsUsableTable, IsRest, rest-start, rest-first, rest-more}
 use Rattle.mrpc_table.specs.MapEntries.{last_of_each}
 use Rattle.wire_decode.proofs.Plainness.{not_message}
@@ -38,7 +48,9 @@ value-good T room k (number n) plain h = (h, omega arith)
 value-good T room k (run bytes) plain h = (h, omega arith)
 value-good T room k (node t) plain h = absurd (not_message k h.0 plain h.2)
 
-message-good : (T : Table) (room m : ℕ) (inner : ℕ → Node → Node) (inside : ℕ) (u : Node) → Inner T room inner → room ≡ suc inside → SoundNode T inside (fields_of T m) u → GoodItem T (OfMessage m) (suc room) (node (inner m u))
+message-good : (T : Table) (room m : ℕ) (inner : ℕ → Node → Node) (inside : ℕ) (u : Node) → Inner T room inner
+    → room ≡ suc inside → SoundNode T inside (fields_of T m) u
+    → GoodItem T (OfMessage m) (suc room) (node (inner m u))
 message-good T room m inner inside u fits e h = let g = fits.each inside m u e h in let d = g.depth in ((m, refl, g.fields, g.oneofs), omega (arith, d))
 
 last-good : (T : Table) (room : ℕ) (k : Kind) (is : List Item) → is_message k ≡ false → AllValues T room k is → IfSome (last_value is) (GoodItem T k (suc room))
@@ -55,20 +67,24 @@ kinds : (k : Kind) → (is_message k ≡ false) ⊎ ((m : ℕ) × (k ≡ OfMessa
 kinds (OfMessage m) = inr (m, refl)
 kinds _ = inl refl
 
-message-singular : (T : Table) (room : ℕ) (inner : ℕ → Node → Node) (m : ℕ) (is : List Item) → Inner T room inner → AllValues T room (OfMessage m) is → IfSome (singular inner (OfMessage m) is) (GoodItem T (OfMessage m) (suc room))
+message-singular : (T : Table) (room : ℕ) (inner : ℕ → Node → Node) (m : ℕ) (is : List Item) → Inner T room inner
+    → AllValues T room (OfMessage m) is
+    → IfSome (singular inner (OfMessage m) is) (GoodItem T (OfMessage m) (suc room))
 message-singular T room inner m [] fits h = tt
 message-singular T room inner m (v ∷ vs) fits h =
     let r = room-inside T room m v h.0 in
     message-good T room m inner r.0 (joined (v ∷ vs)) fits r.1 (joined-sound T room r.0 m (v ∷ vs) r.1 h)
 
-singular-good : (T : Table) (room : ℕ) (inner : ℕ → Node → Node) (k : Kind) (is : List Item) → Inner T room inner → AllValues T room k is → IfSome (singular inner k is) (GoodItem T k (suc room))
+singular-good : (T : Table) (room : ℕ) (inner : ℕ → Node → Node) (k : Kind) (is : List Item) → Inner T room inner
+    → AllValues T room k is → IfSome (singular inner k is) (GoodItem T k (suc room))
 singular-good T room inner k is fits h =
     ⊎_elim
     (λ plain. subst (λ (o : Option Item). IfSome o (GoodItem T k (suc room))) (sym (singular-plain inner k is plain)) (last-good T room k is plain h))
     (λ m. subst (λ (x : Kind). AllValues T room x is → IfSome (singular inner x is) (GoodItem T x (suc room))) (sym m.1) (message-singular T room inner m.0 is fits) h)
     (kinds k)
 
-message-element : (T : Table) (room : ℕ) (inner : ℕ → Node → Node) (m : ℕ) (i : Item) → Inner T room inner → SoundValue T room (OfMessage m) i → GoodItem T (OfMessage m) (suc room) (element inner (OfMessage m) i)
+message-element : (T : Table) (room : ℕ) (inner : ℕ → Node → Node) (m : ℕ) (i : Item) → Inner T room inner
+    → SoundValue T room (OfMessage m) i → GoodItem T (OfMessage m) (suc room) (element inner (OfMessage m) i)
 message-element T room inner m i fits h =
     let r = room-inside T room m i h in
     message-good T room m inner r.0 (joined (i ∷ [])) fits r.1 (joined-sound T room r.0 m (i ∷ []) r.1 (h, tt))
@@ -103,10 +119,14 @@ unwrap-good : (P : Item → Type 0) (o : Option Item) (d : Item) → IfSome o P 
 unwrap-good P None d h e = e
 unwrap-good P (Some i) d h e = h
 
-part-good : (T : Table) (room : ℕ) (inner : ℕ → Node → Node) (n : ℕ) (f : Field) (fs : List Field) (t : Node) → Inner T room inner → field_at fs n ≡ Some f → f.label ≡ Optional → HasRoom room f.kind → SoundNode T room fs t → GoodItem T f.kind (suc room) (part inner n f.kind t)
+part-good : (T : Table) (room : ℕ) (inner : ℕ → Node → Node) (n : ℕ) (f : Field) (fs : List Field) (t : Node)
+    → Inner T room inner → field_at fs n ≡ Some f → f.label ≡ Optional → HasRoom room f.kind → SoundNode T room fs t
+    → GoodItem T f.kind (suc room) (part inner n f.kind t)
 part-good T room inner n f fs t fits at single has_room h =
     let values = singles-sound T room f.label f.kind (contents_of n t) (ap is_map single) (contents-sound T room fs n f t at h) in
-    unwrap-good (GoodItem T f.kind (suc room)) (singular inner f.kind (singles_in (contents_of n t))) (default_of f.kind) (singular-good T room inner f.kind (singles_in (contents_of n t)) fits values) (default-good T room f.kind has_room)
+    unwrap-good (GoodItem T f.kind (suc room)) (singular inner f.kind (singles_in (contents_of n t)))
+    (default_of f.kind) (singular-good T room inner f.kind (singles_in (contents_of n t)) fits values)
+    (default-good T room f.kind has_room)
 
 abbrev GoodPair : Table → Kind → Kind → ℕ → Item × Item → Type 0
 GoodPair T key k room e = GoodItem T key room e.0 × GoodItem T k room e.1
@@ -116,7 +136,8 @@ AllPairs T key k room [] = Unit {0}
 AllPairs T key k room (e ∷ es) = GoodPair T key k room e × AllPairs T key k room es
 
 -- where the key is no message
-entry-good : (T : Table) (room : ℕ) (inner : ℕ → Node → Node) (key k : Kind) (i : Item) → Inner T room inner → is_message key ≡ false → SoundEntry T room key k i → GoodPair T key k (suc room) (entry inner key k i)
+entry-good : (T : Table) (room : ℕ) (inner : ℕ → Node → Node) (key k : Kind) (i : Item) → Inner T room inner
+    → is_message key ≡ false → SoundEntry T room key k i → GoodPair T key k (suc room) (entry inner key k i)
 entry-good T room inner key k (number n) fits plain h = absurd h
 entry-good T room inner key k (run bytes) fits plain h = absurd h
 entry-good T room inner key k (node t) fits plain h =
@@ -127,7 +148,8 @@ entry-good T room inner key k (node t) fits plain h =
       part-good T room inner 2 second (entry_fields key k) (join_fields t no_fields) fits refl refl h.0 sound,
     )
 
-entries-good : (T : Table) (room : ℕ) (inner : ℕ → Node → Node) (key k : Kind) (is : List Item) → Inner T room inner → is_message key ≡ false → AllEntries T room key k is → AllPairs T key k (suc room) (map (entry inner key k) is)
+entries-good : (T : Table) (room : ℕ) (inner : ℕ → Node → Node) (key k : Kind) (is : List Item) → Inner T room inner
+    → is_message key ≡ false → AllEntries T room key k is → AllPairs T key k (suc room) (map (entry inner key k) is)
 entries-good T room inner key k [] fits plain h = tt
 entries-good T room inner key k (i ∷ is) fits plain h = (entry-good T room inner key k i fits plain h.0, entries-good T room inner key k is fits plain h.1)
 
@@ -141,18 +163,23 @@ record GoodPairs (T : Table) (key k : Kind) (room : ℕ) (ps : Pairs) : Type 0 w
 abbrev pub KeptAreNormal : Type 0
 KeptAreNormal =
     ((T : Table) (key k : Kind) (es : List (Item × Item)) → AllByRecursion (λ e. IsItem T key e.0 × IsItem T k e.1) es → ArePairs T key k (last_of_each key es))
-    × ((T : Table) (key k : Kind) (es : List (Item × Item)) → ((i : ℕ) → key ≢ OfMessage i) → AllByRecursion (λ e. IsItem T key e.0 × IsItem T k e.1) es → KeysAscend key (last_of_each key es))
-    × ((key : Kind) (room : ℕ) (es : List (Item × Item)) → AllByRecursion (λ e. (item_depth e.0 ≤ room) × (item_depth e.1 ≤ room)) es → pairs_depth (last_of_each key es) ≤ room)
+    × ((T : Table) (key k : Kind) (es : List (Item × Item)) → ((i : ℕ) → key ≢ OfMessage i)
+    → AllByRecursion (λ e. IsItem T key e.0 × IsItem T k e.1) es → KeysAscend key (last_of_each key es))
+    × ((key : Kind) (room : ℕ) (es : List (Item × Item))
+    → AllByRecursion (λ e. (item_depth e.0 ≤ room) × (item_depth e.1 ≤ room)) es
+    → pairs_depth (last_of_each key es) ≤ room)
 
 all-kinds : (T : Table) (key k : Kind) (room : ℕ) (es : List (Item × Item)) → AllPairs T key k room es → AllByRecursion (λ e. IsItem T key e.0 × IsItem T k e.1) es
 all-kinds T key k room [] h = tt
 all-kinds T key k room (e ∷ es) h = ((h.0.0.0, h.0.1.0), all-kinds T key k room es h.1)
 
-all-depths : (T : Table) (key k : Kind) (room : ℕ) (es : List (Item × Item)) → AllPairs T key k room es → AllByRecursion (λ e. (item_depth e.0 ≤ room) × (item_depth e.1 ≤ room)) es
+all-depths : (T : Table) (key k : Kind) (room : ℕ) (es : List (Item × Item)) → AllPairs T key k room es
+    → AllByRecursion (λ e. (item_depth e.0 ≤ room) × (item_depth e.1 ≤ room)) es
 all-depths T key k room [] h = tt
 all-depths T key k room (e ∷ es) h = ((h.0.0.1, h.0.1.1), all-depths T key k room es h.1)
 
-last-pairs : (law : KeptAreNormal) (T : Table) (key k : Kind) (room : ℕ) (es : List (Item × Item)) → is_message key ≡ false → AllPairs T key k room es → GoodPairs T key k room (last_of_each key es)
+last-pairs : (law : KeptAreNormal) (T : Table) (key k : Kind) (room : ℕ) (es : List (Item × Item))
+    → is_message key ≡ false → AllPairs T key k room es → GoodPairs T key k room (last_of_each key es)
 last-pairs law T key k room es plain h = record {
   all = law.0 T key k es (all-kinds T key k room es h);
   ascend = law.1 T key k es (λ i e. (let bad : false ≡ true = sym plain ∙ ap is_message e in cc)) (all-kinds T key k room es h);
@@ -186,7 +213,10 @@ member-good : (T : Table) (k : Kind) (room p : ℕ) (o : Option Item) → IfSome
 member-good T k room p None h = tt
 member-good T k room p (Some i) h = (tt, h)
 
-elements-good : (T : Table) (room : ℕ) (inner : ℕ → Node → Node) (k : Kind) (is : List Item) → Inner T room inner → AllValues T room k is → AreItems T k (items_from (map (element inner k) is)) × (items_depth (items_from (map (element inner k) is)) ≤ suc room)
+elements-good : (T : Table) (room : ℕ) (inner : ℕ → Node → Node) (k : Kind) (is : List Item) → Inner T room inner
+    → AllValues T room k is
+    → AreItems T k (items_from (map (element inner k) is))
+    × (items_depth (items_from (map (element inner k) is)) ≤ suc room)
 elements-good T room inner k [] fits h = (tt, omega arith)
 elements-good T room inner k (i ∷ is) fits h =
     let first = element-good T room inner k i fits h.0 in
@@ -195,7 +225,9 @@ elements-good T room inner k (i ∷ is) fits h =
     let b = rest.1 in
     ((first.0, rest.0), omega (arith, a, b))
 
-list-good : (T : Table) (room : ℕ) (inner : ℕ → Node → Node) (label : Label) (k : Kind) (is : List Item) → Inner T room inner → TakesMany label → AllValues T room k is → IfSome (some_items (map (element inner k) is)) (GoodContent T label k (suc room))
+list-good : (T : Table) (room : ℕ) (inner : ℕ → Node → Node) (label : Label) (k : Kind) (is : List Item)
+    → Inner T room inner → TakesMany label → AllValues T room k is
+    → IfSome (some_items (map (element inner k) is)) (GoodContent T label k (suc room))
 list-good T room inner label k [] fits takes h = tt
 list-good T room inner label k (i ∷ is) fits takes h =
     let good = elements-good T room inner k (i ∷ is) fits h in
@@ -205,15 +237,25 @@ map-good : (T : Table) (key k : Kind) (room : ℕ) (ps : Pairs) → GoodPairs T 
 map-good T key k room no_pairs h = tt
 map-good T key k room (pair i j ps) h = (key, refl, (λ e. cc), h)
 
-content-good : (law : KeptAreNormal) → (T : Table) (room : ℕ) (inner : ℕ → Node → Node) (label : Label) (k : Kind) (cs : List Content) → Inner T room inner → ((key : Kind) → label ≡ Map key → is_message key ≡ false) → AllContents T room label k cs → IfSome (field_content inner label k cs) (GoodContent T label k (suc room))
-content-good law T room inner Plain k cs fits plain h = set-good T k (suc room) (singular inner k (singles_in cs)) (singular-good T room inner k (singles_in cs) fits (singles-sound T room Plain k cs refl h))
-content-good law T room inner Optional k cs fits plain h = optional-good T k (suc room) (singular inner k (singles_in cs)) (singular-good T room inner k (singles_in cs) fits (singles-sound T room Optional k cs refl h))
-content-good law T room inner (Member o) k cs fits plain h = member-good T k (suc room) o (singular inner k (singles_in cs)) (singular-good T room inner k (singles_in cs) fits (singles-sound T room (Member o) k cs refl h))
+content-good : (law : KeptAreNormal)
+    → (T : Table) (room : ℕ) (inner : ℕ → Node → Node) (label : Label) (k : Kind) (cs : List Content)
+    → Inner T room inner → ((key : Kind) → label ≡ Map key → is_message key ≡ false) → AllContents T room label k cs
+    → IfSome (field_content inner label k cs) (GoodContent T label k (suc room))
+content-good law T room inner Plain k cs fits plain h = set-good T k (suc room) (singular inner k (singles_in cs))
+    (singular-good T room inner k (singles_in cs) fits (singles-sound T room Plain k cs refl h))
+content-good law T room inner Optional k cs fits plain h =
+    optional-good T k (suc room) (singular inner k (singles_in cs))
+    (singular-good T room inner k (singles_in cs) fits (singles-sound T room Optional k cs refl h))
+content-good law T room inner (Member o) k cs fits plain h =
+    member-good T k (suc room) o (singular inner k (singles_in cs))
+    (singular-good T room inner k (singles_in cs) fits (singles-sound T room (Member o) k cs refl h))
 content-good law T room inner Repeated k cs fits plain h = list-good T room inner Repeated k (values_in cs) fits tt (values-sound T room Repeated k cs refl h)
 content-good law T room inner Packed k cs fits plain h = list-good T room inner Packed k (values_in cs) fits tt (values-sound T room Packed k cs refl h)
 content-good law T room inner (Map key) k cs fits plain h =
     let no_message = plain key refl in
-    map-good T key k (suc room) (last_of_each key (map (entry inner key k) (values_in cs))) (last-pairs law T key k (suc room) (map (entry inner key k) (values_in cs)) no_message (entries-good T room inner key k (values_in cs) fits no_message (entries-sound T room key k cs h)))
+    map-good T key k (suc room) (last_of_each key (map (entry inner key k) (values_in cs)))
+    (last-pairs law T key k (suc room) (map (entry inner key k) (values_in cs)) no_message
+    (entries-good T room inner key k (values_in cs) fits no_message (entries-sound T room key k cs h)))
 
 -- fields, as deep as there is room for
 record GoodFields (T : Table) (fs : List Field) (last room : ℕ) (t : Node) : Type 0 where
@@ -224,7 +266,9 @@ lower-fields : (T : Table) (fs : List Field) (last n : ℕ) (t : Node) → last 
 lower-fields T fs last n no_fields less h = tt
 lower-fields T fs last n (field m c t) less h = (let a = h.0 in omega (arith, a, less), h.1, h.2)
 
-with-good : (T : Table) (fs : List Field) (last room : ℕ) (f : Field) (o : Option Content) (t : Node) → last < f.number → field_at fs f.number ≡ Some f → IfSome o (GoodContent T f.label f.kind room) → GoodFields T fs f.number room t → GoodFields T fs last room (with_content f.number o t)
+with-good : (T : Table) (fs : List Field) (last room : ℕ) (f : Field) (o : Option Content) (t : Node)
+    → last < f.number → field_at fs f.number ≡ Some f → IfSome o (GoodContent T f.label f.kind room)
+    → GoodFields T fs f.number room t → GoodFields T fs last room (with_content f.number o t)
 with-good T fs last room f None t less at h rest = record { fields = lower-fields T fs last f.number t less rest.fields; depth = rest.depth }
 with-good T fs last room f (Some (one i)) t less at h rest = record {
   fields = (less, (f, at, h.0, h.1.0), rest.fields);
@@ -239,7 +283,10 @@ with-good T fs last room f (Some (pairs ps)) t less at h rest = record {
   depth = let a = h.3.depth in let b = rest.depth in omega (arith, a, b);
 }
 
-fields-good : (law : KeptAreNormal) → (T : Table) (room : ℕ) (inner : ℕ → Node → Node) (all : List Field) (kept : Node) (last : ℕ) (fs : List Field) → Inner T room inner → SoundNode T room all kept → AreFieldsFrom last fs → IsRest all last fs → GoodFields T all last (suc room) (with_fields inner kept fs)
+fields-good : (law : KeptAreNormal)
+    → (T : Table) (room : ℕ) (inner : ℕ → Node → Node) (all : List Field) (kept : Node) (last : ℕ) (fs : List Field)
+    → Inner T room inner → SoundNode T room all kept → AreFieldsFrom last fs → IsRest all last fs
+    → GoodFields T all last (suc room) (with_fields inner kept fs)
 fields-good law T room inner all kept last [] fits h are rest = record { fields = tt; depth = omega arith }
 fields-good law T room inner all kept last (f ∷ fs) fits h are rest =
     let at = rest-first all last f fs are.0 rest in
@@ -255,7 +302,9 @@ counted-sound : (T : Table) (room : ℕ) (fs all : List Field) (t : Node) → So
 counted-sound T room fs all no_fields h = tt
 counted-sound T room fs all (field n c t) h = counted-go T room fs n c (counted all t) (is_overtaken all n t) (counted-sound T room fs all t h.0, h.1, h.2, h.3)
 
-merged-step : (law : KeptAreNormal) → (T : Table) (room : ℕ) → IsUsableTable T → Inner T room (merged T room) → (i : ℕ) (raw : Node) → SoundNode T room (fields_of T i) raw → FitsWithin T i (suc room) (merged T (suc room) i raw)
+merged-step : (law : KeptAreNormal) → (T : Table) (room : ℕ) → IsUsableTable T → Inner T room (merged T room)
+    → (i : ℕ) (raw : Node) → SoundNode T room (fields_of T i) raw
+    → FitsWithin T i (suc room) (merged T (suc room) i raw)
 merged-step law T room usable fits i raw h =
     let fs = fields_of T i in
     let kept = counted fs raw in

@@ -1,5 +1,6 @@
 -- Which records of a oneof count.
-use Rattle.std.proofs.Common.{◌≡◌, ◌≢◌, ◌==◌, ◌&&◌, ◌||◌, ℕ, zero, suc, List, [], ◌∷◌, ◌++◌, get_or, Option, Some, None, Bool, true, false, not, cond, refl, ap, sym, subst, ◌∙◌, arith, ⊎_elim}
+use Rattle.std.proofs.Common.{◌≡◌, ◌≢◌, ◌==◌, ◌&&◌, ◌||◌, ℕ, zero, suc, List, [], ◌∷◌, ◌++◌, get_or, Option, Some}
+use Rattle.std.proofs.Common.{None, Bool, true, false, not, cond, refl, ap, sym, subst, ◌∙◌, arith, ⊎_elim}
 use Rattle.std.proofs.lemmas.Bool.Decides.{nat_tests, eqb_tells}
 use Rattle.std.specs.Option.{option_and_then, is_some}
 use Rattle.std.specs.Prelude.{reverse}
@@ -69,7 +70,8 @@ counted-other fs bs n e = record {
   tells = λ t c h k p at. h k p at ∙ sym (ap (λ b. b || is_overtaken fs k t) (rivals-other fs k n p at e));
 }
 
-pub counted-member : (fs : List Field) (old new : List Behind) (n o : ℕ) (b : Bool) → oneof_at fs n ≡ Some o → IsNoted old o n new → b ≡ not (overtakes (get_or old o Nothing) n) → IsCounted fs old n new b
+pub counted-member : (fs : List Field) (old new : List Behind) (n o : ℕ) (b : Bool) → oneof_at fs n ≡ Some o
+    → IsNoted old o n new → b ≡ not (overtakes (get_or old o Nothing) n) → IsCounted fs old n new b
 counted-member fs old new n o b e noted is = record {
   counts = λ t h. is ∙ ap not (h n o e);
   tells = λ t c h k p at.
@@ -78,7 +80,9 @@ counted-member fs old new n o b e noted is = record {
       (λ s. let P : ℕ → Type 0 = λ x. oneof_at fs k ≡ Some x → overtakes (get_or new x Nothing) k ≡ (not (n == k) || is_overtaken fs k t) in
       let here : P o = λ at_o. noted.here k ∙ ap (λ x. not (n == k) || x) (h k o at_o) in
       (subst P (sym s.1) here) at ∙ sym (ap (λ x. x || is_overtaken fs k t) (rivals ∙ ap (λ x. not (n == k) && x) s.0 ∙ and-true (not (n == k)))))
-      (λ s. ap (λ x. overtakes x k) (noted.others p s.1) ∙ h k p at ∙ sym (ap (λ x. x || is_overtaken fs k t) (rivals ∙ ap (λ x. not (n == k) && x) s.0 ∙ and-false (not (n == k)))))
+      (λ s. ap (λ x. overtakes x k) (noted.others p s.1) ∙ h k p at
+      ∙ sym (ap (λ x. x || is_overtaken fs k t) (rivals ∙ ap (λ x. not (n == k) && x) s.0
+      ∙ and-false (not (n == k)))))
       (eqb_tells p o);
 }
 
@@ -117,7 +121,9 @@ pub none-of : (o : Option ℕ) → is_some o ≡ false → o ≡ None
 none-of None h = refl
 none-of (Some n) h = absurd (cc)
 
-pub kept-more : (fs : List Field) (kept new : List (ℕ × FieldValue)) (b : Bool) (x : ℕ × FieldValue) (done : Node) → new ≡ cond b (kept ++ x ∷ []) kept → b ≡ not (is_overtaken fs x.0 done) → node_of (reverse kept) ≡ counted fs done → node_of (reverse new) ≡ counted fs (field x.0 (content_of x.1) done)
+pub kept-more : (fs : List Field) (kept new : List (ℕ × FieldValue)) (b : Bool) (x : ℕ × FieldValue) (done : Node)
+    → new ≡ cond b (kept ++ x ∷ []) kept → b ≡ not (is_overtaken fs x.0 done)
+    → node_of (reverse kept) ≡ counted fs done → node_of (reverse new) ≡ counted fs (field x.0 (content_of x.1) done)
 kept-more fs kept new true x done e h k =
     ap (λ xs. node_of (reverse xs)) e ∙ ap node_of (reverse-append kept (x ∷ [])) ∙ ap (field x.0 (content_of x.1)) k ∙ sym (counted-kept fs x.0 (content_of x.1) done h)
 kept-more fs kept new false x done e h k =

@@ -14,6 +14,7 @@ use Rattle.mrpc_table.specs.Normal.{fields_of}
 abbrev pub NotBoth : Type 0
 NotBoth = (T : Table) (msg : ℕ) (bytes : List ℕ) (t : Node) (reason : DecodeReason) (place : ℕ) → Merges T msg bytes t → Faults T 31 (fields_of T msg) bytes 0 reason place → ⊥
 
-pub only-memory : NotBoth → (T : Table) (msg : ℕ) (bytes : List ℕ) (t : Node) (f : DecodeFault) → Merges T msg bytes t → FaultsAs (Faults T 31 (fields_of T msg) bytes 0) f → f ≡ Memory
+pub only-memory : NotBoth → (T : Table) (msg : ℕ) (bytes : List ℕ) (t : Node) (f : DecodeFault) → Merges T msg bytes t
+    → FaultsAs (Faults T 31 (fields_of T msg) bytes 0) f → f ≡ Memory
 only-memory not_both T msg bytes t Memory m h = refl
 only-memory not_both T msg bytes t (At reason place) m h = absurd (not_both T msg bytes t reason place m h)

@@ -1,5 +1,6 @@
 -- Records in the order of the fields: what a field's records add to the message of those in front of them.
-use Rattle.std.proofs.Common.{◌≡◌, ◌≢◌, ℕ, ◌/◌, ◌<◌, ◌≤◌, ◌||◌, Bool, true, false, List, [], ◌∷◌, ◌++◌, length, Option, Some, None, refl, ap, sym, subst, ◌∙◌, arith, append-nil, cond, ⊎_elim}
+use Rattle.std.proofs.Common.{◌≡◌, ◌≢◌, ℕ, ◌/◌, ◌<◌, ◌≤◌, ◌||◌, Bool, true, false, List, [], ◌∷◌, ◌++◌, length}
+use Rattle.std.proofs.Common.{Option, Some, None, refl, ap, sym, subst, ◌∙◌, arith, append-nil, cond, ⊎_elim}
 use Rattle.std.proofs.lemmas.Bool.Decides.{nat_tests, eqb_tells}
 use Rattle.mrpc_table.specs.Node.{Node, no_fields, field, Content, push_field}
 use Rattle.mrpc_table.specs.Normal.{field_at}
@@ -84,7 +85,10 @@ with-join m (Some c) t u = refl
 some-same : (f g : Field) → Some f ≡ Some g → f ≡ g
 some-same f g e = ap (λ o. elim o [ Some x ↦ x | None ↦ f ]) e
 
-fields-here : (inner : ℕ → Node → Node) (g : Field) (gs : List Field) (t : Node) (last n : ℕ) (cs : List Content) (f : Field) → FieldsAscend (g ∷ gs) → field_at (g ∷ gs) n ≡ Some f → AreAtMost last t → last < n → g.number ≡ n → with_fields inner (push_all t n cs) (g ∷ gs) ≡ join_fields (with_fields inner t (g ∷ gs)) (with_content n (field_content inner f.label f.kind cs) no_fields)
+fields-here : (inner : ℕ → Node → Node) (g : Field) (gs : List Field) (t : Node) (last n : ℕ) (cs : List Content)
+    (f : Field) → FieldsAscend (g ∷ gs) → field_at (g ∷ gs) n ≡ Some f → AreAtMost last t → last < n → g.number ≡ n
+    → with_fields inner (push_all t n cs) (g ∷ gs) ≡ join_fields (with_fields inner t (g ∷ gs))
+    (with_content n (field_content inner f.label f.kind cs) no_fields)
 fields-here inner g gs t last n cs f a at most less e =
     let now = push_all t n cs in
     let above : AreAbove n gs = subst (λ k. AreAbove k gs) e (first-above g gs a) in
@@ -100,7 +104,10 @@ fields-here inner g gs t last n cs f a at most less e =
     ∙ sym (ap (λ u. join_fields u (with_content n (field_content inner f.label f.kind cs) no_fields)) before)
 
 -- records of a field above all that were read add what it has
-pub fields-more : (inner : ℕ → Node → Node) (fs : List Field) (t : Node) (last n : ℕ) (cs : List Content) (f : Field) → FieldsAscend fs → field_at fs n ≡ Some f → AreAtMost last t → last < n → with_fields inner (push_all t n cs) fs ≡ join_fields (with_fields inner t fs) (with_content n (field_content inner f.label f.kind cs) no_fields)
+pub fields-more : (inner : ℕ → Node → Node) (fs : List Field) (t : Node) (last n : ℕ) (cs : List Content) (f : Field)
+    → FieldsAscend fs → field_at fs n ≡ Some f → AreAtMost last t → last < n
+    → with_fields inner (push_all t n cs) fs ≡ join_fields (with_fields inner t fs)
+    (with_content n (field_content inner f.label f.kind cs) no_fields)
 fields-more inner [] t last n cs f a at most less = absurd (let bad : None ≡ Some f = at in cc)
 fields-more inner (g ∷ gs) t last n cs f a at most less =
     ⊎_elim
@@ -203,7 +210,8 @@ sofar-first T room fs bytes start = record {
   same = sym (fields-start (merged T room) fs);
 }
 
-pub sofar-last : (T : Table) (room : ℕ) (fs : List Field) (bytes : List ℕ) (start at last oneofs : ℕ) (t : Node) → at ≡ length bytes → SoFar T room fs bytes start at last oneofs t → IsWhole T room fs bytes start t
+pub sofar-last : (T : Table) (room : ℕ) (fs : List Field) (bytes : List ℕ) (start at last oneofs : ℕ) (t : Node)
+    → at ≡ length bytes → SoFar T room fs bytes start at last oneofs t → IsWhole T room fs bytes start t
 sofar-last T room fs bytes start at last oneofs t ends h = record {
   raw = h.raw;
   reads = read-done T room fs bytes start at h.raw ends h.read;
@@ -211,7 +219,9 @@ sofar-last T room fs bytes start at last oneofs t ends h = record {
 }
 
 -- the records of a run are read, one by one
-read-run : (T : Table) (room : ℕ) (fs : List Field) (bytes : List ℕ) (start from tag : ℕ) (t : Node) (f : Field) (cs : List Content) (at : ℕ) → field_at fs (tag / 8) ≡ Some f → Read T room fs bytes start from t → AreRun T room f.label f.kind bytes tag from cs at → Read T room fs bytes start at (push_all t (tag / 8) cs)
+read-run : (T : Table) (room : ℕ) (fs : List Field) (bytes : List ℕ) (start from tag : ℕ) (t : Node) (f : Field)
+    (cs : List Content) (at : ℕ) → field_at fs (tag / 8) ≡ Some f → Read T room fs bytes start from t
+    → AreRun T room f.label f.kind bytes tag from cs at → Read T room fs bytes start at (push_all t (tag / 8) cs)
 read-run T room fs bytes start from tag t f cs at known h (none_yet e w) =
     let P : List Content → Type 0 = λ x. Read T room fs bytes start at (push_all t (tag / 8) x) in
     subst P (sym e) (subst (λ x. Read T room fs bytes start x t) (sym w) h)
@@ -226,7 +236,8 @@ read-run T room fs bytes start from tag t f cs at known h (one_more before c p m
 oneof-found : (fs : List Field) (n : ℕ) (f : Field) → field_at fs n ≡ Some f → oneof_at fs n ≡ oneof_of f.label
 oneof-found fs n f e = ap (λ x. elim x [ None ↦ None | Some y ↦ oneof_of y.label ]) e
 
-not-rival : (fs : List Field) (m n : ℕ) (a : Option ℕ) (b : Option ℕ) → oneof_at fs m ≡ a → oneof_at fs n ≡ b → ((o p : ℕ) → a ≡ Some o → b ≡ Some p → o ≢ p) → are_rivals fs m n ≡ false
+not-rival : (fs : List Field) (m n : ℕ) (a : Option ℕ) (b : Option ℕ) → oneof_at fs m ≡ a → oneof_at fs n ≡ b
+    → ((o p : ℕ) → a ≡ Some o → b ≡ Some p → o ≢ p) → are_rivals fs m n ≡ false
 not-rival fs m n a b ea eb h = grind (arith, nat_tests)
 
 may-above : (label : Label) (k p : ℕ) → may_follow label k ≡ true → oneof_of label ≡ Some p → k ≤ p
@@ -241,7 +252,8 @@ with-higher : (label : Label) (k : ℕ) → may_follow label k ≡ true → k �
 with-higher (Member o) k may = grind (arith, nat_tests)
 with-higher _ k may = omega arith
 
-no-rivals : (fs : List Field) (n : ℕ) (f : Field) (oneofs : ℕ) (t : Node) → field_at fs n ≡ Some f → may_follow f.label oneofs ≡ true → OneofsBelow fs oneofs t → NoRivals fs n t
+no-rivals : (fs : List Field) (n : ℕ) (f : Field) (oneofs : ℕ) (t : Node) → field_at fs n ≡ Some f
+    → may_follow f.label oneofs ≡ true → OneofsBelow fs oneofs t → NoRivals fs n t
 no-rivals fs n f oneofs no_fields known may h = tt
 no-rivals fs n f oneofs (field m c t) known may h = (
   not-rival fs m n (oneof_at fs m) (oneof_of f.label) refl (oneof-found fs n f known)
@@ -250,7 +262,11 @@ no-rivals fs n f oneofs (field m c t) known may h = (
 )
 
 -- the records of one field more
-pub sofar-more : (T : Table) (room : ℕ) (fs : List Field) (bytes : List ℕ) (start at last oneofs : ℕ) (t new : Node) (f : Field) (tag behind next : ℕ) → FieldsAscend fs → SoFar T room fs bytes start at last oneofs t → field_at fs (tag / 8) ≡ Some f → last < tag / 8 → may_follow f.label oneofs ≡ true → TagAt bytes at tag behind → IsFieldRead T room f.label f.kind bytes tag behind next t new → SoFar T room fs bytes start next (tag / 8) (oneofs_with f.label oneofs) new
+pub sofar-more : (T : Table) (room : ℕ) (fs : List Field) (bytes : List ℕ) (start at last oneofs : ℕ) (t new : Node)
+    (f : Field) (tag behind next : ℕ) → FieldsAscend fs → SoFar T room fs bytes start at last oneofs t
+    → field_at fs (tag / 8) ≡ Some f → last < tag / 8 → may_follow f.label oneofs ≡ true → TagAt bytes at tag behind
+    → IsFieldRead T room f.label f.kind bytes tag behind next t new
+    → SoFar T room fs bytes start next (tag / 8) (oneofs_with f.label oneofs) new
 sofar-more T room fs bytes start at last oneofs t new f tag behind next a h known more may tagged read =
     let n = tag / 8 in
     let cs = read.contents in
@@ -259,7 +275,9 @@ sofar-more T room fs bytes start at last oneofs t new f tag behind next a h know
       read = read-run T room fs bytes start at tag h.raw f cs next known h.read (read.run at tagged);
       most = all-most h.raw n n cs (omega arith) (most-higher n last h.raw (omega (arith, more)) h.most);
       clear = clear-all fs n cs h.raw h.clear (no-rivals fs n f oneofs h.raw known may h.below);
-      below = oneofs-all fs (oneofs_with f.label oneofs) n cs h.raw (λ o e. with-above f.label oneofs o (sym (oneof-found fs n f known) ∙ e)) (oneofs-higher fs oneofs (oneofs_with f.label oneofs) h.raw (with-higher f.label oneofs may) h.below);
+      below = oneofs-all fs (oneofs_with f.label oneofs) n cs h.raw
+          (λ o e. with-above f.label oneofs o (sym (oneof-found fs n f known) ∙ e))
+          (oneofs-higher fs oneofs (oneofs_with f.label oneofs) h.raw (with-higher f.label oneofs may) h.below);
       same = read.same
           ∙ ap (λ u. join_fields u (with_content n (field_content (merged T room) f.label f.kind cs) no_fields)) h.same
           ∙ sym (fields-more (merged T room) fs h.raw last n cs f a known h.most more);

@@ -1,5 +1,6 @@
 -- Values that are read in order, and what a field has of them.
-use Rattle.std.proofs.Common.{◌≡◌, ℕ, suc, ◌-◌, ◌/◌, ◌%◌, ◌<◌, true, false, List, [], ◌∷◌, ◌++◌, map, length, take, Option, Some, refl, ap, sym, subst, ◌∙◌, arith, append-nil}
+use Rattle.std.proofs.Common.{◌≡◌, ℕ, suc, ◌-◌, ◌/◌, ◌%◌, ◌<◌, true, false, List, [], ◌∷◌, ◌++◌, map, length, take}
+use Rattle.std.proofs.Common.{Option, Some, refl, ap, sym, subst, ◌∙◌, arith, append-nil}
 use Rattle.std.specs.List.{slice_range}
 use Rattle.std.specs.Option.{unwrap_or}
 use Rattle.std.specs.Prelude.{Result, Ok, Err, IfOk, OnOk}
@@ -23,7 +24,8 @@ use Rattle.wire_base.specs.declared.records.Payload.TheVariants.{Varint, I64, I3
 use Rattle.mrpc_table.specs.MapEntries.{last_of_each}
 use Rattle.wire_decode.specs.Words.{word_of, number_in, payload_type, is_map, is_list, may_be_packed, AreElements}
 use Rattle.wire_decode.specs.Reads.{read_end, read_known, holds_number, holds_piece, holds_text, holds_octets, holds_message, holds_entry, HasRoom, is_message, numbers}
-use Rattle.wire_decode.specs.Merged.{items_in, values_in, join_fields, merged, with_content, field_content, singular, element, entry, present, present_if_set, some_items, some_pairs, default_of}
+use Rattle.wire_decode.specs.Merged.{items_in, values_in, join_fields, merged, with_content, field_content, singular}
+use Rattle.wire_decode.specs.Merged.{element, entry, present, present_if_set, some_items, some_pairs, default_of}
 use Rattle.wire_decode.specs.Ordered.{IsWhole, IsValue, AreRun, none_yet, one_more, IsFieldRead, AreValues, AreEntries, IsPair, is_single, is_run, single_content}
 use Rattle.wire_decode.proofs.Merging.{element-same, singular-one, merged-suc, map-pushed}
 use Rattle.wire_decode.proofs.Reading.{join-none}
@@ -42,7 +44,9 @@ no-room-asked : (room : ℕ) (k : Kind) → is_message k ≡ false → HasRoom r
 no-room-asked room k none message = absurd (let bad : false ≡ true = sym none ∙ message in cc)
 
 -- a number
-pub number-value : (T : Table) (room : ℕ) (k : Kind) (bytes : List ℕ) (at w v next : ℕ) (p : Payload) → is_numeric k ≡ true → w ≡ wire_type_of k → PayloadAt bytes at (wire_type_of k) p next → v ≡ number_in p → IsValue T room k bytes at w (number (word_of k v)) next
+pub number-value : (T : Table) (room : ℕ) (k : Kind) (bytes : List ℕ) (at w v next : ℕ) (p : Payload)
+    → is_numeric k ≡ true → w ≡ wire_type_of k → PayloadAt bytes at (wire_type_of k) p next → v ≡ number_in p
+    → IsValue T room k bytes at w (number (word_of k v)) next
 number-value T room k bytes at w v next p numeric is stands value = record {
   payload = p;
   held = number (word_of k v);
@@ -53,7 +57,9 @@ number-value T room k bytes at w v next p numeric is stands value = record {
 }
 
 -- a run of bytes
-pub run-value : (T : Table) (room : ℕ) (k : Kind) (bytes : List ℕ) (at w first end : ℕ) → is_run k ≡ true → w ≡ 2 → PayloadAt bytes at 2 (Len first end) end → (k ≡ Text → IsUtf8 (slice_range bytes first end)) → IsValue T room k bytes at w (run (slice_range bytes first end)) end
+pub run-value : (T : Table) (room : ℕ) (k : Kind) (bytes : List ℕ) (at w first end : ℕ) → is_run k ≡ true → w ≡ 2
+    → PayloadAt bytes at 2 (Len first end) end → (k ≡ Text → IsUtf8 (slice_range bytes first end))
+    → IsValue T room k bytes at w (run (slice_range bytes first end)) end
 run-value T room Text bytes at w first end h is stands text = record {
   payload = Len first end;
   held = run (slice_range bytes first end);
@@ -73,7 +79,9 @@ run-value T room Octets bytes at w first end h is stands text = record {
 run-value T room _ bytes at w first end h is stands text = absurd (cc)
 
 -- a message
-pub node-value : (T : Table) (room i : ℕ) (bytes : List ℕ) (at w first end : ℕ) (t : Node) → 0 < room → w ≡ 2 → PayloadAt bytes at 2 (Len first end) end → IsWhole T (room - 1) (fields_of T i) (take end bytes) first t → IsValue T room (OfMessage i) bytes at w (node t) end
+pub node-value : (T : Table) (room i : ℕ) (bytes : List ℕ) (at w first end : ℕ) (t : Node) → 0 < room → w ≡ 2
+    → PayloadAt bytes at 2 (Len first end) end → IsWhole T (room - 1) (fields_of T i) (take end bytes) first t
+    → IsValue T room (OfMessage i) bytes at w (node t) end
 node-value T room i bytes at w first end t more is stands whole =
     let deeper : room ≡ suc (room - 1) = omega (arith, more) in
     record {
@@ -91,13 +99,17 @@ single-no_map : (label : Label) → is_single label ≡ true → is_map label �
 single-no_map (Map key) h = absurd (cc)
 single-no_map _ h = refl
 
-single-has : (inner : ℕ → Node → Node) (label : Label) (k : Kind) (held i : Item) → is_single label ≡ true → i ≡ element inner k held → single_content label i ≡ field_content inner label k (one held ∷ [])
+single-has : (inner : ℕ → Node → Node) (label : Label) (k : Kind) (held i : Item) → is_single label ≡ true
+    → i ≡ element inner k held → single_content label i ≡ field_content inner label k (one held ∷ [])
 single-has inner Plain k held i h e = ap present_if_set (ap Some e ∙ sym (singular-one inner k held))
 single-has inner Optional k held i h e = ap present (ap Some e ∙ sym (singular-one inner k held))
 single-has inner (Member o) k held i h e = ap present (ap Some e ∙ sym (singular-one inner k held))
 single-has inner _ k held i h e = absurd (cc)
 
-pub single-field : (T : Table) (room : ℕ) (label : Label) (k : Kind) (bytes : List ℕ) (tag start next : ℕ) (i : Item) (old new : Node) → is_single label ≡ true → IsValue T room k bytes start (tag % 8) i next → new ≡ join_fields old (with_content (tag / 8) (single_content label i) no_fields) → IsFieldRead T room label k bytes tag start next old new
+pub single-field : (T : Table) (room : ℕ) (label : Label) (k : Kind) (bytes : List ℕ) (tag start next : ℕ) (i : Item)
+    (old new : Node) → is_single label ≡ true → IsValue T room k bytes start (tag % 8) i next
+    → new ≡ join_fields old (with_content (tag / 8) (single_content label i) no_fields)
+    → IsFieldRead T room label k bytes tag start next old new
 single-field T room label k bytes tag start next i old new single v e = record {
   contents = one v.held ∷ [];
   run = λ at tagged. one_more [] (one v.held) v.payload at start (none_yet refl refl) tagged v.stands (v.holds label (single-no_map label single)) refl;
@@ -112,12 +124,16 @@ list-no_map : (label : Label) → is_list label ≡ true → is_map label ≡ fa
 list-no_map (Map key) h = absurd (cc)
 list-no_map _ h = refl
 
-list-has : (inner : ℕ → Node → Node) (label : Label) (k : Kind) (cs : List Content) → is_list label ≡ true → some_items (map (element inner k) (values_in cs)) ≡ field_content inner label k cs
+list-has : (inner : ℕ → Node → Node) (label : Label) (k : Kind) (cs : List Content) → is_list label ≡ true
+    → some_items (map (element inner k) (values_in cs)) ≡ field_content inner label k cs
 list-has inner Repeated k cs h = refl
 list-has inner Packed k cs h = refl
 list-has inner _ k cs h = absurd (cc)
 
-pub list-field : (T : Table) (room : ℕ) (label : Label) (k : Kind) (bytes : List ℕ) (tag start next : ℕ) (is : List Item) (old new : Node) → is_list label ≡ true → AreValues T room k bytes tag start next is → new ≡ join_fields old (with_content (tag / 8) (some_items is) no_fields) → IsFieldRead T room label k bytes tag start next old new
+pub list-field : (T : Table) (room : ℕ) (label : Label) (k : Kind) (bytes : List ℕ) (tag start next : ℕ)
+    (is : List Item) (old new : Node) → is_list label ≡ true → AreValues T room k bytes tag start next is
+    → new ≡ join_fields old (with_content (tag / 8) (some_items is) no_fields)
+    → IsFieldRead T room label k bytes tag start next old new
 list-field T room label k bytes tag start next is old new list v e = record {
   contents = map one v.held;
   run = v.run label (list-no_map label list);
@@ -131,23 +147,34 @@ items-of-numbers (w ∷ ws) = ap (λ x. number w ∷ x) (items-of-numbers ws)
 
 elements-of-numbers : (inner : ℕ → Node → Node) (k : Kind) (ws : List ℕ) → is_numeric k ≡ true → map (element inner k) (map number ws) ≡ map number ws
 elements-of-numbers inner k [] h = refl
-elements-of-numbers inner k (w ∷ ws) h = ap (λ x. x ∷ map (element inner k) (map number ws)) (element-same inner k (number w) (numeric-no_message k h)) ∙ ap (λ x. number w ∷ x) (elements-of-numbers inner k ws h)
+elements-of-numbers inner k (w ∷ ws) h =
+    ap (λ x. x ∷ map (element inner k) (map number ws)) (element-same inner k (number w) (numeric-no_message k h))
+    ∙ ap (λ x. number w ∷ x) (elements-of-numbers inner k ws h)
 
 packed-may : (label : Label) (k : Kind) → is_list label ≡ true → is_numeric k ≡ true → may_be_packed label k ≡ true
 packed-may label k l n = rw (l, n) refl
 
-pub piece-field : (T : Table) (room : ℕ) (label : Label) (k : Kind) (bytes : List ℕ) (tag start first end : ℕ) (ws : List ℕ) (is : List Item) (old new : Node) → is_list label ≡ true → is_numeric k ≡ true → tag % 8 ≡ 2 → PayloadAt bytes start 2 (Len first end) end → AreElements k (take end bytes) first ws → is ≡ map number ws → new ≡ join_fields old (with_content (tag / 8) (some_items is) no_fields) → IsFieldRead T room label k bytes tag start end old new
+pub piece-field : (T : Table) (room : ℕ) (label : Label) (k : Kind) (bytes : List ℕ) (tag start first end : ℕ)
+    (ws : List ℕ) (is : List Item) (old new : Node) → is_list label ≡ true → is_numeric k ≡ true → tag % 8 ≡ 2
+    → PayloadAt bytes start 2 (Len first end) end → AreElements k (take end bytes) first ws → is ≡ map number ws
+    → new ≡ join_fields old (with_content (tag / 8) (some_items is) no_fields)
+    → IsFieldRead T room label k bytes tag start end old new
 piece-field T room label k bytes tag start first end ws is old new list numeric delimited stands whole all e =
     let here = subst (λ x. PayloadAt bytes start x (Len first end) end) (sym delimited) stands in
     record {
       contents = many (numbers ws) ∷ [];
-      run = λ at tagged. one_more [] (many (numbers ws)) (Len first end) at start (none_yet refl refl) tagged here (holds_piece first end ws (packed-may label k list numeric) refl whole refl) refl;
+      run = λ at tagged. one_more [] (many (numbers ws)) (Len first end) at start (none_yet refl refl) tagged here
+          (holds_piece first end ws (packed-may label k list numeric) refl whole refl) refl;
       same = e ∙ ap (λ o. join_fields old (with_content (tag / 8) o no_fields))
-          (ap some_items (all ∙ sym (elements-of-numbers (merged T room) k ws numeric) ∙ sym (ap (map (element (merged T room) k)) (append-nil (items_in (numbers ws)) ∙ items-of-numbers ws)))
+          (ap some_items (all ∙ sym (elements-of-numbers (merged T room) k ws numeric)
+          ∙ sym (ap (map (element (merged T room) k)) (append-nil (items_in (numbers ws)) ∙ items-of-numbers ws)))
           ∙ list-has (merged T room) label k (many (numbers ws) ∷ []) list);
     }
 
-pub map-field : (T : Table) (room : ℕ) (key k : Kind) (bytes : List ℕ) (tag start next : ℕ) (es : List (Item × Item)) (old new : Node) → AreEntries T room key k bytes tag start next es → new ≡ join_fields old (with_content (tag / 8) (some_pairs (last_of_each key es)) no_fields) → IsFieldRead T room (Map key) k bytes tag start next old new
+pub map-field : (T : Table) (room : ℕ) (key k : Kind) (bytes : List ℕ) (tag start next : ℕ) (es : List (Item × Item))
+    (old new : Node) → AreEntries T room key k bytes tag start next es
+    → new ≡ join_fields old (with_content (tag / 8) (some_pairs (last_of_each key es)) no_fields)
+    → IsFieldRead T room (Map key) k bytes tag start next old new
 map-field T room key k bytes tag start next es old new v e = record {
   contents = map one v.held;
   run = v.run;
@@ -160,13 +187,16 @@ map-field T room key k bytes tag start next es old new v e = record {
 -- values in front of a record whose tag ends here
 pub record ValuesBefore (T : Table) (room : ℕ) (k : Kind) (bytes : List ℕ) (tag start first : ℕ) (is : List Item) : Type 0 where
   pub held : List Item
-  pub run : (label : Label) → is_map label ≡ false → (at : ℕ) → TagAt bytes at tag start → (middle : ℕ) × AreRun T room label k bytes tag at (map one held) middle × TagAt bytes middle tag first
+  pub run : (label : Label) → is_map label ≡ false → (at : ℕ) → TagAt bytes at tag start
+      → (middle : ℕ) × AreRun T room label k bytes tag at (map one held) middle × TagAt bytes middle tag first
   pub same : is ≡ map (element (merged T room) k) held
 
 pub values-start : (T : Table) (room : ℕ) (k : Kind) (bytes : List ℕ) (tag start : ℕ) → ValuesBefore T room k bytes tag start start []
 values-start T room k bytes tag start = record { held = []; run = λ label nomap at tagged. (at, none_yet refl refl, tagged); same = refl }
 
-pub values-more : (T : Table) (room : ℕ) (k : Kind) (bytes : List ℕ) (tag start first next : ℕ) (is : List Item) (i : Item) → ValuesBefore T room k bytes tag start first is → IsValue T room k bytes first (tag % 8) i next → AreValues T room k bytes tag start next (is ++ i ∷ [])
+pub values-more : (T : Table) (room : ℕ) (k : Kind) (bytes : List ℕ) (tag start first next : ℕ) (is : List Item)
+    (i : Item) → ValuesBefore T room k bytes tag start first is → IsValue T room k bytes first (tag % 8) i next
+    → AreValues T room k bytes tag start next (is ++ i ∷ [])
 values-more T room k bytes tag start first next is i h v = record {
   held = h.held ++ v.held ∷ [];
   run = λ label nomap at tagged.
@@ -175,7 +205,9 @@ values-more T room k bytes tag start first next is i h v = record {
   same = ap (λ x. x ++ i ∷ []) h.same ∙ ap (λ x. map (element (merged T room) k) h.held ++ x ∷ []) v.same ∙ sym (map-pushed (element (merged T room) k) h.held v.held);
 }
 
-pub values-again : (T : Table) (room : ℕ) (k : Kind) (bytes : List ℕ) (tag start next behind : ℕ) (is : List Item) → AreValues T room k bytes tag start next is → TagAt bytes next tag behind → ValuesBefore T room k bytes tag start behind is
+pub values-again : (T : Table) (room : ℕ) (k : Kind) (bytes : List ℕ) (tag start next behind : ℕ) (is : List Item)
+    → AreValues T room k bytes tag start next is → TagAt bytes next tag behind
+    → ValuesBefore T room k bytes tag start behind is
 values-again T room k bytes tag start next behind is h tagged = record {
   held = h.held;
   run = λ label nomap at first. (next, h.run label nomap at first, tagged);
@@ -190,18 +222,26 @@ pub record EntriesBefore (T : Table) (room : ℕ) (key k : Kind) (bytes : List �
 pub entries-start : (T : Table) (room : ℕ) (key k : Kind) (bytes : List ℕ) (tag start : ℕ) → EntriesBefore T room key k bytes tag start start []
 entries-start T room key k bytes tag start = record { held = []; run = λ at tagged. (at, none_yet refl refl, tagged); same = refl }
 
-pub entries-more : (T : Table) (room : ℕ) (key k : Kind) (bytes : List ℕ) (tag start first inside next : ℕ) (es : List (Item × Item)) (e : Item × Item) → tag % 8 ≡ 2 → EntriesBefore T room key k bytes tag start first es → PayloadAt bytes first 2 (Len inside next) next → IsPair T room key k (take next bytes) inside e → AreEntries T room key k bytes tag start next (es ++ e ∷ [])
+pub entries-more : (T : Table) (room : ℕ) (key k : Kind) (bytes : List ℕ) (tag start first inside next : ℕ)
+    (es : List (Item × Item)) (e : Item × Item) → tag % 8 ≡ 2 → EntriesBefore T room key k bytes tag start first es
+    → PayloadAt bytes first 2 (Len inside next) next → IsPair T room key k (take next bytes) inside e
+    → AreEntries T room key k bytes tag start next (es ++ e ∷ [])
 entries-more T room key k bytes tag start first inside next es e delimited h stands p =
     let here = subst (λ x. PayloadAt bytes first x (Len inside next) next) (sym delimited) stands in
     record {
       held = h.held ++ node p.raw ∷ [];
       run = λ at tagged.
           let r = h.run at tagged in
-          one_more (map one h.held) (one (node p.raw)) (Len inside next) r.0 first r.1 r.2 here (holds_entry key inside next p.raw refl refl p.reads p.has_room refl) (map-pushed one h.held (node p.raw));
-      same = ap (λ x. x ++ e ∷ []) h.same ∙ ap (λ x. map (entry (merged T room) key k) h.held ++ x ∷ []) p.same ∙ sym (map-pushed (entry (merged T room) key k) h.held (node p.raw));
+          one_more (map one h.held) (one (node p.raw)) (Len inside next) r.0 first r.1 r.2 here
+          (holds_entry key inside next p.raw refl refl p.reads p.has_room refl)
+          (map-pushed one h.held (node p.raw));
+      same = ap (λ x. x ++ e ∷ []) h.same ∙ ap (λ x. map (entry (merged T room) key k) h.held ++ x ∷ []) p.same
+          ∙ sym (map-pushed (entry (merged T room) key k) h.held (node p.raw));
     }
 
-pub entries-again : (T : Table) (room : ℕ) (key k : Kind) (bytes : List ℕ) (tag start next behind : ℕ) (es : List (Item × Item)) → AreEntries T room key k bytes tag start next es → TagAt bytes next tag behind → EntriesBefore T room key k bytes tag start behind es
+pub entries-again : (T : Table) (room : ℕ) (key k : Kind) (bytes : List ℕ) (tag start next behind : ℕ)
+    (es : List (Item × Item)) → AreEntries T room key k bytes tag start next es → TagAt bytes next tag behind
+    → EntriesBefore T room key k bytes tag start behind es
 entries-again T room key k bytes tag start next behind es h tagged = record {
   held = h.held;
   run = λ at first. (next, h.run at first, tagged);
@@ -209,7 +249,10 @@ entries-again T room key k bytes tag start next behind es h tagged = record {
 }
 
 -- an entry that has its key and then its value
-pub pair-read : (T : Table) (room : ℕ) (key k : Kind) (bytes : List ℕ) (at tag first middle other second next : ℕ) (i j : Item) → TagAt bytes at tag first → tag / 8 ≡ 1 → IsValue T room key bytes first (tag % 8) i middle → TagAt bytes middle other second → other / 8 ≡ 2 → IsValue T room k bytes second (other % 8) j next → next ≡ length bytes → IsPair T room key k bytes at (i, j)
+pub pair-read : (T : Table) (room : ℕ) (key k : Kind) (bytes : List ℕ) (at tag first middle other second next : ℕ)
+    (i j : Item) → TagAt bytes at tag first → tag / 8 ≡ 1 → IsValue T room key bytes first (tag % 8) i middle
+    → TagAt bytes middle other second → other / 8 ≡ 2 → IsValue T room k bytes second (other % 8) j next
+    → next ≡ length bytes → IsPair T room key k bytes at (i, j)
 pair-read T room key k bytes at tag first middle other second next i j tagged is_key v tagged' is_value w ends =
     let r : Record = record { number = 1; payload = v.payload; next = middle } in
     let s : Record = record { number = 2; payload = w.payload; next = next } in
@@ -227,7 +270,8 @@ pair-read T room key k bytes at tag first middle other second next i j tagged is
           λ n. (first n, second n);
     }
   where
-    part-of : (inner : ℕ → Node → Node) (n : ℕ) (k : Kind) (held : Item) (o : Option Item) → o ≡ singular inner k (held ∷ []) → element inner k held ≡ unwrap_or o (default_of k)
+    part-of : (inner : ℕ → Node → Node) (n : ℕ) (k : Kind) (held : Item) (o : Option Item)
+        → o ≡ singular inner k (held ∷ []) → element inner k held ≡ unwrap_or o (default_of k)
     part-of inner n k held o e = sym (ap (λ x. unwrap_or x (default_of k)) (e ∙ singular-one inner k held))
 
 -- the whole message

@@ -81,7 +81,9 @@ valued key v t = field 3 (one (node (a key (b v no_fields)))) t
 abbrev map_table : Table
 map_table = a_table (a_message (a_field 3 Uint64 (Map Int32) ∷ []) ∷ [])
 
-a_map : merged map_table 32 0 (valued 5 1 (valued 2 7 (entry 5 (valued (2 ^ 64 - 1) 4 no_fields)))) ≡ field 3 (pairs (pair (number (2 ^ 64 - 1)) (number 4) (pair (number 2) (number 7) (pair (number 5) (number 0) no_pairs)))) no_fields
+a_map : merged map_table 32 0 (valued 5 1 (valued 2 7 (entry 5 (valued (2 ^ 64 - 1) 4 no_fields))))
+    ≡ field 3 (pairs (pair (number (2 ^ 64 - 1)) (number 4)
+    (pair (number 2) (number 7) (pair (number 5) (number 0) no_pairs)))) no_fields
 unfolding merged
 a_map = refl
 

@@ -1,5 +1,6 @@
 -- The rules of meaning and of first faults on strings of bytes that were worked out by hand: a term for each.
-use Rattle.std.proofs.Common.{◌≡◌, ℕ, suc, ◌+◌, ◌-◌, ◌*◌, ◌^◌, ◌<◌, ◌≤◌, List, [], ◌∷◌, length, Some, None, true, false, refl, sym, subst, ◌∙◌, arith, ⊎_elim}
+use Rattle.std.proofs.Common.{◌≡◌, ℕ, suc, ◌+◌, ◌-◌, ◌*◌, ◌^◌, ◌<◌, ◌≤◌, List, [], ◌∷◌, length, Some, None, true}
+use Rattle.std.proofs.Common.{false, refl, sym, subst, ◌∙◌, arith, ⊎_elim}
 use Rattle.std.specs.List.{slice_range, All}
 use Rattle.std.specs.Str.{IsUtf8, is_utf8, chars}
 use Rattle.std.proofs.lemmas.List.Elements.{All-nil, All-cons}
@@ -22,7 +23,11 @@ use Rattle.wire_base.specs.declared.fault.WireReason.TheVariants as wire
 use Rattle.wire_decode.specs.Words.{AreElements}
 use Rattle.wire_decode.specs.Reads.{entry_fields}
 use Rattle.wire_decode.specs.Meaning as rule
-use Rattle.wire_decode.specs.Meaning.{Value, single, packed, delimited, MeansIn, means_in, HaveValues, no_more, known, HasValue, a_number, a_piece, a_message, an_entry, AreFields, no_field, one_field, FieldMeans, no_value, one_message, elements, entries, ValueMeans, of_number, of_piece, AreItems, no_items as none_left, more_items, AreEntries, no_entries, more_entries}
+use Rattle.wire_decode.specs.Meaning.{Value, single, packed, delimited, MeansIn, means_in, HaveValues, no_more, known}
+use Rattle.wire_decode.specs.Meaning.{HasValue, a_number, a_piece, a_message, an_entry, AreFields, no_field}
+use Rattle.wire_decode.specs.Meaning.{one_field, FieldMeans, no_value, one_message, elements, entries, ValueMeans}
+use Rattle.wire_decode.specs.Meaning.{of_number, of_piece, AreItems, no_items as none_left, more_items, AreEntries}
+use Rattle.wire_decode.specs.Meaning.{no_entries, more_entries}
 use Rattle.wire_decode.specs.Faults.{HasPayload, FirstFault, first_fault, no_record_there, not_whole_elements, not_utf8, message_too_deep, inside_message, IsFirstFault, is_skipped}
 use Rattle.wire_decode.specs.FaultWalk.{reason_of}
 use Rattle.wire_decode.specs.declared.fault.DecodeReason.{DecodeReason}
@@ -51,7 +56,8 @@ number_record n v next = record { number = n; payload = Varint v; next = next }
 abbrev payload_record : ℕ → ℕ → ℕ → Record
 payload_record n start end = record { number = n; payload = Len start end; next = end }
 
-number_at : (bytes : List ℕ) (at n v : ℕ) → at + 2 ≤ length bytes → slice_range bytes at (at + 1) ≡ (8 * n) ∷ [] → slice_range bytes (at + 1) (at + 2) ≡ v ∷ [] → 0 < n → 8 * n < 128 → v < 128
+number_at : (bytes : List ℕ) (at n v : ℕ) → at + 2 ≤ length bytes → slice_range bytes at (at + 1) ≡ (8 * n) ∷ []
+    → slice_range bytes (at + 1) (at + 2) ≡ v ∷ [] → 0 < n → 8 * n < 128 → v < 128
     → RecordAt bytes at (number_record n v (at + 2))
 number_at bytes at n v within tag is positive small less = record {
   tag = 8 * n;
@@ -61,7 +67,9 @@ number_at bytes at n v within tag is positive small less = record {
   payload = (omega arith, byte_at bytes (at + 1) (at + 2) v within is less);
 }
 
-payload_at : (bytes : List ℕ) (at n len end : ℕ) → end ≡ at + 2 + len → end ≤ length bytes → slice_range bytes at (at + 1) ≡ (8 * n + 2) ∷ [] → slice_range bytes (at + 1) (at + 2) ≡ len ∷ [] → 0 < n → 8 * n + 2 < 128 → len < 128
+payload_at : (bytes : List ℕ) (at n len end : ℕ) → end ≡ at + 2 + len → end ≤ length bytes
+    → slice_range bytes at (at + 1) ≡ (8 * n + 2) ∷ [] → slice_range bytes (at + 1) (at + 2) ≡ len ∷ [] → 0 < n
+    → 8 * n + 2 < 128 → len < 128
     → RecordAt bytes at (payload_record n (at + 2) end)
 payload_at bytes at n len end ends within tag is positive small less = record {
   tag = 8 * n + 2;
@@ -85,8 +93,11 @@ two_values T room =
 
 last_wins : (T : Table) (room : ℕ) → MeansIn T room (a_number_field ∷ []) twice (field 1 (one (number 1)) no_fields)
 last_wins T room =
-    means_in (number_record 1 5 2 ∷ number_record 1 1 4 ∷ []) ((1, single 5) ∷ (1, single 1) ∷ [])
-    (number_at twice 0 1 5 (omega arith) refl refl (omega arith) (omega arith) (omega arith), (number_at twice 2 1 1 (omega arith) refl refl (omega arith) (omega arith) (omega arith), refl)) (two_values T room)
+    means_in (number_record 1 5 2 ∷ number_record 1 1 4 ∷ []) ((1, single 5) ∷ (1, single 1) ∷ []) (
+      number_at twice 0 1 5 (omega arith) refl refl (omega arith) (omega arith) (omega arith),
+      (number_at twice 2 1 1 (omega arith) refl refl (omega arith) (omega arith) (omega arith), refl),
+    )
+    (two_values T room)
     (one_field a_number_field [] (Some (one (number 1))) no_fields refl
     (rule.last_value (single 5 ∷ []) (single 1) (number 1) refl refl refl (of_number 1 refl refl) refl) (no_field refl refl) refl)
 
@@ -96,8 +107,10 @@ zero_last = 8 ∷ 5 ∷ 8 ∷ 0 ∷ []
 
 default_is_nothing : (T : Table) (room : ℕ) → MeansIn T room (a_number_field ∷ []) zero_last no_fields
 default_is_nothing T room =
-    means_in (number_record 1 5 2 ∷ number_record 1 0 4 ∷ []) ((1, single 5) ∷ (1, single 0) ∷ [])
-    (number_at zero_last 0 1 5 (omega arith) refl refl (omega arith) (omega arith) (omega arith), (number_at zero_last 2 1 0 (omega arith) refl refl (omega arith) (omega arith) (omega arith), refl))
+    means_in (number_record 1 5 2 ∷ number_record 1 0 4 ∷ []) ((1, single 5) ∷ (1, single 0) ∷ []) (
+      number_at zero_last 0 1 5 (omega arith) refl refl (omega arith) (omega arith) (omega arith),
+      (number_at zero_last 2 1 0 (omega arith) refl refl (omega arith) (omega arith) (omega arith), refl),
+    )
     (known (number_record 1 5 2) (number_record 1 0 4 ∷ []) a_number_field (single 5) ((1, single 0) ∷ []) refl refl (a_number refl refl refl refl)
     (known (number_record 1 0 4) [] a_number_field (single 0) [] refl refl (a_number refl refl refl refl) (no_more refl refl) refl) refl)
     (one_field a_number_field [] None no_fields refl
@@ -157,8 +170,10 @@ piece = (
 
 packed_and_not : (T : Table) (room : ℕ) → MeansIn T room (a_list_field ∷ []) both_forms (field 6 (many (item (number 3) (item (number 4) (item (number 5) no_items)))) no_fields)
 packed_and_not T room =
-    means_in (payload_record 6 2 4 ∷ number_record 6 5 6 ∷ []) ((6, packed (3 ∷ 4 ∷ [])) ∷ (6, single 5) ∷ [])
-    (payload_at both_forms 0 6 2 4 refl (omega arith) refl refl (omega arith) (omega arith) (omega arith), (number_at both_forms 4 6 5 (omega arith) refl refl (omega arith) (omega arith) (omega arith), refl))
+    means_in (payload_record 6 2 4 ∷ number_record 6 5 6 ∷ []) ((6, packed (3 ∷ 4 ∷ [])) ∷ (6, single 5) ∷ []) (
+      payload_at both_forms 0 6 2 4 refl (omega arith) refl refl (omega arith) (omega arith) (omega arith),
+      (number_at both_forms 4 6 5 (omega arith) refl refl (omega arith) (omega arith) (omega arith), refl),
+    )
     (known (payload_record 6 2 4) (number_record 6 5 6 ∷ []) a_list_field (packed (3 ∷ 4 ∷ [])) ((6, single 5) ∷ []) refl refl (a_piece 2 4 (3 ∷ 4 ∷ []) refl refl piece refl)
     (known (number_record 6 5 6) [] a_list_field (single 5) [] refl refl (a_number refl refl refl refl) (no_more refl refl) refl) refl)
     (one_field a_list_field [] (Some (many (item (number 3) (item (number 4) (item (number 5) no_items))))) no_fields refl
@@ -208,7 +223,13 @@ has_second room =
 
 has_both : (room : ℕ) → MeansIn choice room (fields_of choice 1) (8 ∷ 1 ∷ 16 ∷ 2 ∷ []) (field 1 (one (number 1)) (field 2 (one (number 2)) no_fields))
 has_both room =
-    means_in (number_record 1 1 2 ∷ number_record 2 2 4 ∷ []) ((1, single 1) ∷ (2, single 2) ∷ []) (number_at (8 ∷ 1 ∷ 16 ∷ 2 ∷ []) 0 1 1 (omega arith) refl refl (omega arith) (omega arith) (omega arith), (number_at (8 ∷ 1 ∷ 16 ∷ 2 ∷ []) 2 2 2 (omega arith) refl refl (omega arith) (omega arith) (omega arith), refl))
+    means_in (number_record 1 1 2 ∷ number_record 2 2 4 ∷ []) ((1, single 1) ∷ (2, single 2) ∷ []) (
+      number_at (8 ∷ 1 ∷ 16 ∷ 2 ∷ []) 0 1 1 (omega arith) refl refl (omega arith) (omega arith) (omega arith),
+      (
+        number_at (8 ∷ 1 ∷ 16 ∷ 2 ∷ []) 2 2 2 (omega arith) refl refl (omega arith) (omega arith) (omega arith),
+        refl,
+      ),
+    )
     (known (number_record 1 1 2) (number_record 2 2 4 ∷ []) first (single 1) ((2, single 2) ∷ []) refl refl (a_number refl refl refl refl)
     (known (number_record 2 2 4) [] second (single 2) [] refl refl (a_number refl refl refl refl) (no_more refl refl) refl) refl)
     (one_field first (second ∷ []) (Some (one (number 1))) (field 2 (one (number 2)) no_fields) refl (one_is choice room)
@@ -220,10 +241,16 @@ run_bytes = 10 ∷ 2 ∷ 8 ∷ 1 ∷ 10 ∷ 2 ∷ 16 ∷ 2 ∷ []
 
 one_run : MeansIn choice 31 (fields_of choice 0) run_bytes (field 1 (one (node (field 1 (one (number 1)) (field 2 (one (number 2)) no_fields)))) no_fields)
 one_run =
-    means_in (payload_record 1 2 4 ∷ payload_record 1 6 8 ∷ []) ((1, delimited (8 ∷ 1 ∷ [])) ∷ (1, delimited (16 ∷ 2 ∷ [])) ∷ [])
-    (payload_at run_bytes 0 1 2 4 refl (omega arith) refl refl (omega arith) (omega arith) (omega arith), (payload_at run_bytes 4 1 2 8 refl (omega arith) refl refl (omega arith) (omega arith) (omega arith), refl))
-    (known (payload_record 1 2 4) (payload_record 1 6 8 ∷ []) the_message (delimited (8 ∷ 1 ∷ [])) ((1, delimited (16 ∷ 2 ∷ [])) ∷ []) refl refl (a_message 1 30 2 4 (field 1 (one (number 1)) no_fields) refl refl refl refl (has_first 30) refl)
-    (known (payload_record 1 6 8) [] the_message (delimited (16 ∷ 2 ∷ [])) [] refl refl (a_message 1 30 6 8 (field 2 (one (number 2)) no_fields) refl refl refl refl (has_second 30) refl) (no_more refl refl) refl) refl)
+    means_in (payload_record 1 2 4 ∷ payload_record 1 6 8 ∷ []) ((1, delimited (8 ∷ 1 ∷ [])) ∷ (1, delimited (16 ∷ 2 ∷ [])) ∷ []) (
+      payload_at run_bytes 0 1 2 4 refl (omega arith) refl refl (omega arith) (omega arith) (omega arith),
+      (payload_at run_bytes 4 1 2 8 refl (omega arith) refl refl (omega arith) (omega arith) (omega arith), refl),
+    )
+    (known (payload_record 1 2 4) (payload_record 1 6 8 ∷ []) the_message (delimited (8 ∷ 1 ∷ []))
+    ((1, delimited (16 ∷ 2 ∷ [])) ∷ []) refl refl
+    (a_message 1 30 2 4 (field 1 (one (number 1)) no_fields) refl refl refl refl (has_first 30) refl)
+    (known (payload_record 1 6 8) [] the_message (delimited (16 ∷ 2 ∷ [])) [] refl refl
+    (a_message 1 30 6 8 (field 2 (one (number 2)) no_fields) refl refl refl refl (has_second 30) refl)
+    (no_more refl refl) refl) refl)
     (one_field the_message (the_number ∷ []) (Some (one (node (field 1 (one (number 1)) (field 2 (one (number 2)) no_fields))))) no_fields refl
     (one_message 1 30 (field 1 (one (number 1)) (field 2 (one (number 2)) no_fields)) refl refl refl (λ e. cc) (has_both 30) refl)
     (one_field the_number [] None no_fields refl (absent 31 (Member 0) Uint64) (no_field refl refl) refl) refl)
@@ -234,11 +261,23 @@ broken_bytes = 10 ∷ 2 ∷ 8 ∷ 1 ∷ 16 ∷ 3 ∷ 10 ∷ 2 ∷ 16 ∷ 2 ∷ [
 
 broken_run : MeansIn choice 31 (fields_of choice 0) broken_bytes (field 1 (one (node (field 2 (one (number 2)) no_fields))) no_fields)
 broken_run =
-    means_in (payload_record 1 2 4 ∷ number_record 2 3 6 ∷ payload_record 1 8 10 ∷ []) ((1, delimited (8 ∷ 1 ∷ [])) ∷ (2, single 3) ∷ (1, delimited (16 ∷ 2 ∷ [])) ∷ [])
-    (payload_at broken_bytes 0 1 2 4 refl (omega arith) refl refl (omega arith) (omega arith) (omega arith), (number_at broken_bytes 4 2 3 (omega arith) refl refl (omega arith) (omega arith) (omega arith), (payload_at broken_bytes 6 1 2 10 refl (omega arith) refl refl (omega arith) (omega arith) (omega arith), refl)))
-    (known (payload_record 1 2 4) (number_record 2 3 6 ∷ payload_record 1 8 10 ∷ []) the_message (delimited (8 ∷ 1 ∷ [])) ((2, single 3) ∷ (1, delimited (16 ∷ 2 ∷ [])) ∷ []) refl refl (a_message 1 30 2 4 (field 1 (one (number 1)) no_fields) refl refl refl refl (has_first 30) refl)
+    means_in (payload_record 1 2 4 ∷ number_record 2 3 6 ∷ payload_record 1 8 10 ∷ []) ((1, delimited (8 ∷ 1 ∷ [])) ∷ (2, single 3) ∷ (1, delimited (16 ∷ 2 ∷ [])) ∷ []) (
+      payload_at broken_bytes 0 1 2 4 refl (omega arith) refl refl (omega arith) (omega arith) (omega arith),
+      (
+        number_at broken_bytes 4 2 3 (omega arith) refl refl (omega arith) (omega arith) (omega arith),
+        (
+          payload_at broken_bytes 6 1 2 10 refl (omega arith) refl refl (omega arith) (omega arith) (omega arith),
+          refl,
+        ),
+      ),
+    )
+    (known (payload_record 1 2 4) (number_record 2 3 6 ∷ payload_record 1 8 10 ∷ []) the_message
+    (delimited (8 ∷ 1 ∷ [])) ((2, single 3) ∷ (1, delimited (16 ∷ 2 ∷ [])) ∷ []) refl refl
+    (a_message 1 30 2 4 (field 1 (one (number 1)) no_fields) refl refl refl refl (has_first 30) refl)
     (known (number_record 2 3 6) (payload_record 1 8 10 ∷ []) the_number (single 3) ((1, delimited (16 ∷ 2 ∷ [])) ∷ []) refl refl (a_number refl refl refl refl)
-    (known (payload_record 1 8 10) [] the_message (delimited (16 ∷ 2 ∷ [])) [] refl refl (a_message 1 30 8 10 (field 2 (one (number 2)) no_fields) refl refl refl refl (has_second 30) refl) (no_more refl refl) refl) refl) refl)
+    (known (payload_record 1 8 10) [] the_message (delimited (16 ∷ 2 ∷ [])) [] refl refl
+    (a_message 1 30 8 10 (field 2 (one (number 2)) no_fields) refl refl refl refl (has_second 30) refl)
+    (no_more refl refl) refl) refl) refl)
     (one_field the_message (the_number ∷ []) (Some (one (node (field 2 (one (number 2)) no_fields)))) no_fields refl
     (one_message 1 30 (field 2 (one (number 2)) no_fields) refl refl refl (λ e. cc) (has_second 30) refl)
     (one_field the_number [] None no_fields refl (absent 31 (Member 0) Uint64) (no_field refl refl) refl) refl)
@@ -249,9 +288,13 @@ other_bytes = 10 ∷ 2 ∷ 8 ∷ 1 ∷ 16 ∷ 3 ∷ []
 
 other_member : MeansIn choice 31 (fields_of choice 0) other_bytes (field 2 (one (number 3)) no_fields)
 other_member =
-    means_in (payload_record 1 2 4 ∷ number_record 2 3 6 ∷ []) ((1, delimited (8 ∷ 1 ∷ [])) ∷ (2, single 3) ∷ [])
-    (payload_at other_bytes 0 1 2 4 refl (omega arith) refl refl (omega arith) (omega arith) (omega arith), (number_at other_bytes 4 2 3 (omega arith) refl refl (omega arith) (omega arith) (omega arith), refl))
-    (known (payload_record 1 2 4) (number_record 2 3 6 ∷ []) the_message (delimited (8 ∷ 1 ∷ [])) ((2, single 3) ∷ []) refl refl (a_message 1 30 2 4 (field 1 (one (number 1)) no_fields) refl refl refl refl (has_first 30) refl)
+    means_in (payload_record 1 2 4 ∷ number_record 2 3 6 ∷ []) ((1, delimited (8 ∷ 1 ∷ [])) ∷ (2, single 3) ∷ []) (
+      payload_at other_bytes 0 1 2 4 refl (omega arith) refl refl (omega arith) (omega arith) (omega arith),
+      (number_at other_bytes 4 2 3 (omega arith) refl refl (omega arith) (omega arith) (omega arith), refl),
+    )
+    (known (payload_record 1 2 4) (number_record 2 3 6 ∷ []) the_message (delimited (8 ∷ 1 ∷ []))
+    ((2, single 3) ∷ []) refl refl (a_message 1 30 2 4 (field 1 (one (number 1)) no_fields) refl refl refl refl
+    (has_first 30) refl)
     (known (number_record 2 3 6) [] the_number (single 3) [] refl refl (a_number refl refl refl refl) (no_more refl refl) refl) refl)
     (one_field the_message (the_number ∷ []) None (field 2 (one (number 3)) no_fields) refl (absent 31 (Member 0) (OfMessage 1))
     (one_field the_number [] (Some (one (number 3))) no_fields refl (rule.last_value [] (single 3) (number 3) refl refl refl (of_number 3 refl refl) refl) (no_field refl refl) refl) refl)
@@ -277,7 +320,13 @@ key_alone = field 1 (one (number 5)) no_fields
 
 has_key_and_value : (T : Table) (room : ℕ) → MeansIn T room (entry_fields Int32 Uint64) (8 ∷ 5 ∷ 16 ∷ 1 ∷ []) full_entry
 has_key_and_value T room =
-    means_in (number_record 1 5 2 ∷ number_record 2 1 4 ∷ []) ((1, single 5) ∷ (2, single 1) ∷ []) (number_at (8 ∷ 5 ∷ 16 ∷ 1 ∷ []) 0 1 5 (omega arith) refl refl (omega arith) (omega arith) (omega arith), (number_at (8 ∷ 5 ∷ 16 ∷ 1 ∷ []) 2 2 1 (omega arith) refl refl (omega arith) (omega arith) (omega arith), refl))
+    means_in (number_record 1 5 2 ∷ number_record 2 1 4 ∷ []) ((1, single 5) ∷ (2, single 1) ∷ []) (
+      number_at (8 ∷ 5 ∷ 16 ∷ 1 ∷ []) 0 1 5 (omega arith) refl refl (omega arith) (omega arith) (omega arith),
+      (
+        number_at (8 ∷ 5 ∷ 16 ∷ 1 ∷ []) 2 2 1 (omega arith) refl refl (omega arith) (omega arith) (omega arith),
+        refl,
+      ),
+    )
     (known (number_record 1 5 2) (number_record 2 1 4 ∷ []) a_key (single 5) ((2, single 1) ∷ []) refl refl (a_number refl refl refl refl)
     (known (number_record 2 1 4) [] a_value (single 1) [] refl refl (a_number refl refl refl refl) (no_more refl refl) refl) refl)
     (one_field a_key (a_value ∷ []) (Some (one (number 5))) (field 2 (one (number 1)) no_fields) refl (rule.last_value [] (single 5) (number 5) refl refl refl (of_number 5 refl refl) refl)
@@ -292,8 +341,10 @@ has_key T room =
 
 equal_keys : (T : Table) (room : ℕ) → MeansIn T room (a_map_field ∷ []) map_bytes (field 3 (pairs (pair (number 5) (number 0) no_pairs)) no_fields)
 equal_keys T room =
-    means_in (payload_record 3 2 6 ∷ payload_record 3 8 10 ∷ []) ((3, delimited (8 ∷ 5 ∷ 16 ∷ 1 ∷ [])) ∷ (3, delimited (8 ∷ 5 ∷ [])) ∷ [])
-    (payload_at map_bytes 0 3 4 6 refl (omega arith) refl refl (omega arith) (omega arith) (omega arith), (payload_at map_bytes 6 3 2 10 refl (omega arith) refl refl (omega arith) (omega arith) (omega arith), refl))
+    means_in (payload_record 3 2 6 ∷ payload_record 3 8 10 ∷ []) ((3, delimited (8 ∷ 5 ∷ 16 ∷ 1 ∷ [])) ∷ (3, delimited (8 ∷ 5 ∷ [])) ∷ []) (
+      payload_at map_bytes 0 3 4 6 refl (omega arith) refl refl (omega arith) (omega arith) (omega arith),
+      (payload_at map_bytes 6 3 2 10 refl (omega arith) refl refl (omega arith) (omega arith) (omega arith), refl),
+    )
     (known (payload_record 3 2 6) (payload_record 3 8 10 ∷ []) a_map_field (delimited (8 ∷ 5 ∷ 16 ∷ 1 ∷ [])) ((3, delimited (8 ∷ 5 ∷ [])) ∷ []) refl refl
     (an_entry Int32 2 6 full_entry refl refl (has_key_and_value T room) (λ e. absurd (cc)) refl)
     (known (payload_record 3 8 10) [] a_map_field (delimited (8 ∷ 5 ∷ [])) [] refl refl
@@ -309,7 +360,8 @@ abbrev plain_table : Table
 plain_table = a_table (a_message_of (a_field 1 (OfMessage 0) Plain ∷ a_field 2 Text Plain ∷ a_field 4 Fixed32 Repeated ∷ []) ∷ [])
 
 -- the record at the start is at fault
-at_start : (bytes : List ℕ) (f : WireFault) (reason : DecodeReason) → 0 < length bytes → FaultAt bytes 0 f → reason ≡ reason_of f.reason → IsFirstFault plain_table 0 bytes reason f.place
+at_start : (bytes : List ℕ) (f : WireFault) (reason : DecodeReason) → 0 < length bytes → FaultAt bytes 0 f
+    → reason ≡ reason_of f.reason → IsFirstFault plain_table 0 bytes reason f.place
 at_start bytes f reason more fault is = first_fault [] 0 refl (no_record_there f more fault is refl)
 
 abbrev ten_high : List ℕ
@@ -322,7 +374,15 @@ high : (n : ℕ) (bs : List ℕ) → 128 ≤ n → All IsHigh bs → All IsHigh 
 high n bs h more = All-cons IsHigh n bs h more
 
 ten_are_high : All IsHigh ten_high
-ten_are_high = (high 128 (128 ∷ 128 ∷ 128 ∷ 128 ∷ 128 ∷ 128 ∷ 128 ∷ 128 ∷ 128 ∷ []) (omega arith) (high 128 (128 ∷ 128 ∷ 128 ∷ 128 ∷ 128 ∷ 128 ∷ 128 ∷ 128 ∷ []) (omega arith) (high 128 (128 ∷ 128 ∷ 128 ∷ 128 ∷ 128 ∷ 128 ∷ 128 ∷ []) (omega arith) (high 128 (128 ∷ 128 ∷ 128 ∷ 128 ∷ 128 ∷ 128 ∷ []) (omega arith) (high 128 (128 ∷ 128 ∷ 128 ∷ 128 ∷ 128 ∷ []) (omega arith) (high 128 (128 ∷ 128 ∷ 128 ∷ 128 ∷ []) (omega arith) (high 128 (128 ∷ 128 ∷ 128 ∷ []) (omega arith) (high 128 (128 ∷ 128 ∷ []) (omega arith) (high 128 (128 ∷ []) (omega arith) (high 128 ([]) (omega arith) (All-nil IsHigh)))))))))))
+ten_are_high = (high 128 (128 ∷ 128 ∷ 128 ∷ 128 ∷ 128 ∷ 128 ∷ 128 ∷ 128 ∷ 128 ∷ []) (omega arith)
+    (high 128 (128 ∷ 128 ∷ 128 ∷ 128 ∷ 128 ∷ 128 ∷ 128 ∷ 128 ∷ []) (omega arith)
+    (high 128 (128 ∷ 128 ∷ 128 ∷ 128 ∷ 128 ∷ 128 ∷ 128 ∷ []) (omega arith)
+    (high 128 (128 ∷ 128 ∷ 128 ∷ 128 ∷ 128 ∷ 128 ∷ []) (omega arith)
+    (high 128 (128 ∷ 128 ∷ 128 ∷ 128 ∷ 128 ∷ []) (omega arith)
+    (high 128 (128 ∷ 128 ∷ 128 ∷ 128 ∷ []) (omega arith)
+    (high 128 (128 ∷ 128 ∷ 128 ∷ []) (omega arith)
+    (high 128 (128 ∷ 128 ∷ []) (omega arith)
+    (high 128 (128 ∷ []) (omega arith) (high 128 ([]) (omega arith) (All-nil IsHigh)))))))))))
 
 varint_too_long : IsFirstFault plain_table 0 ten_high why.Varint 0
 varint_too_long = at_start ten_high (record { reason = wire.Varint; place = 0 }) why.Varint (omega arith) (no_tag refl (record { ten = omega arith; top = ten_are_high })) refl
@@ -333,7 +393,14 @@ wide_tag = 128 ∷ 128 ∷ 128 ∷ 128 ∷ 16 ∷ []
 
 tag_out_of_range : IsFirstFault plain_table 0 wide_tag why.TagRange 0
 tag_out_of_range = at_start wide_tag (record { reason = wire.TagRange; place = 0 }) why.TagRange (omega arith)
-    (tag_range (2 ^ 32) 5 refl refl (record { within = omega arith; spelled = record { form = (omega arith, (omega arith, (omega arith, (omega arith, omega arith)))); short = omega arith; value = refl } }) (omega arith)) refl
+    (tag_range (2 ^ 32) 5 refl refl (record {
+      within = omega arith;
+      spelled = record {
+        form = (omega arith, (omega arith, (omega arith, (omega arith, omega arith))));
+        short = omega arith;
+        value = refl;
+      };
+    }) (omega arith)) refl
 
 number_is_zero : IsFirstFault plain_table 0 (0 ∷ []) why.NumberZero 0
 number_is_zero = at_start (0 ∷ []) (record { reason = wire.NumberZero; place = 0 }) why.NumberZero (omega arith)
@@ -367,7 +434,12 @@ not_text h = (let e : true ≡ false = sym (is_utf8-from_IsUtf8 (255 ∷ []) h) 
 text_is_not_utf8 : IsFirstFault plain_table 0 bad_text why.Utf8 4
 text_is_not_utf8 =
     first_fault (number_record 1 1 2 ∷ []) 2 (number_at bad_text 0 1 1 (omega arith) refl refl (omega arith) (omega arith) (omega arith), is_skipped refl, refl)
-    (not_utf8 (a_field 2 Text Plain) 5 (record { number = 2; next = 5; stands = payload_at bad_text 2 2 1 5 refl (omega arith) refl refl (omega arith) (omega arith) (omega arith); known = refl }) refl refl not_text refl)
+    (not_utf8 (a_field 2 Text Plain) 5 (record {
+      number = 2;
+      next = 5;
+      stands = payload_at bad_text 2 2 1 5 refl (omega arith) refl refl (omega arith) (omega arith) (omega arith);
+      known = refl;
+    }) refl refl not_text refl)
 
 -- three bytes of packed numbers of four bytes
 abbrev cut_piece : List ℕ
@@ -386,21 +458,31 @@ no_elements_there (n ∷ ns) h = go h.0 h.1 h.2
 piece_is_not_whole : IsFirstFault plain_table 0 cut_piece why.PackedLength 2
 piece_is_not_whole =
     first_fault [] 0 refl
-    (not_whole_elements (a_field 4 Fixed32 Repeated) 5 (record { number = 4; next = 5; stands = payload_at cut_piece 0 4 3 5 refl (omega arith) refl refl (omega arith) (omega arith) (omega arith); known = refl }) refl no_elements_there refl)
+    (not_whole_elements (a_field 4 Fixed32 Repeated) 5 (record {
+      number = 4;
+      next = 5;
+      stands = payload_at cut_piece 0 4 3 5 refl (omega arith) refl refl (omega arith) (omega arith) (omega arith);
+      known = refl;
+    }) refl no_elements_there refl)
 
 -- thirty-two messages in one another inside the message: the innermost is the 33rd
 abbrev nested : List ℕ
-nested = 10 ∷ 62 ∷ 10 ∷ 60 ∷ 10 ∷ 58 ∷ 10 ∷ 56 ∷ 10 ∷ 54 ∷ 10 ∷ 52 ∷ 10 ∷ 50 ∷ 10 ∷ 48 ∷ 10 ∷ 46 ∷ 10 ∷ 44 ∷ 10 ∷ 42 ∷ 10 ∷ 40 ∷ 10 ∷ 38 ∷ 10 ∷ 36 ∷ 10 ∷ 34 ∷ 10 ∷ 32 ∷ 10 ∷ 30 ∷ 10 ∷ 28 ∷ 10 ∷ 26 ∷ 10 ∷ 24 ∷ 10 ∷ 22 ∷ 10 ∷ 20 ∷ 10 ∷ 18 ∷ 10 ∷ 16 ∷ 10 ∷ 14 ∷ 10 ∷ 12 ∷ 10 ∷ 10 ∷ 10 ∷ 8 ∷ 10 ∷ 6 ∷ 10 ∷ 4 ∷ 10 ∷ 2 ∷ 10 ∷ 0 ∷ []
+nested = 10 ∷ 62 ∷ 10 ∷ 60 ∷ 10 ∷ 58 ∷ 10 ∷ 56 ∷ 10 ∷ 54 ∷ 10 ∷ 52 ∷ 10 ∷ 50 ∷ 10 ∷ 48 ∷ 10 ∷ 46 ∷ 10 ∷ 44 ∷ 10 ∷ 42
+    ∷ 10 ∷ 40 ∷ 10 ∷ 38 ∷ 10 ∷ 36 ∷ 10 ∷ 34 ∷ 10 ∷ 32 ∷ 10 ∷ 30 ∷ 10 ∷ 28 ∷ 10 ∷ 26 ∷ 10 ∷ 24 ∷ 10 ∷ 22 ∷ 10 ∷ 20 ∷ 10
+    ∷ 18 ∷ 10 ∷ 16 ∷ 10 ∷ 14 ∷ 10 ∷ 12 ∷ 10 ∷ 10 ∷ 10 ∷ 8 ∷ 10 ∷ 6 ∷ 10 ∷ 4 ∷ 10 ∷ 2 ∷ 10 ∷ 0 ∷ []
 
 abbrev inner : Field
 inner = a_field 1 (OfMessage 0) Plain
 
-nested_payload : (at start len : ℕ) → start ≡ at + 2 → 64 ≡ at + 2 + len → slice_range nested at (at + 1) ≡ 10 ∷ [] → slice_range nested (at + 1) (at + 2) ≡ len ∷ [] → len < 128 → HasPayload (fields_of plain_table 0) nested at inner start 64
+nested_payload : (at start len : ℕ) → start ≡ at + 2 → 64 ≡ at + 2 + len → slice_range nested at (at + 1) ≡ 10 ∷ []
+    → slice_range nested (at + 1) (at + 2) ≡ len ∷ [] → len < 128
+    → HasPayload (fields_of plain_table 0) nested at inner start 64
 nested_payload at start len start_is ends tag is less =
     subst (λ (x : ℕ). HasPayload (fields_of plain_table 0) nested at inner x 64) (sym start_is)
     (record { number = 1; next = 64; stands = payload_at nested at 1 len 64 ends (omega arith) tag is (omega arith) (omega arith) less; known = refl })
 
-level : (room at start len : ℕ) → start ≡ at + 2 → 64 ≡ at + 2 + len → slice_range nested at (at + 1) ≡ 10 ∷ [] → slice_range nested (at + 1) (at + 2) ≡ len ∷ [] → len < 128
+level : (room at start len : ℕ) → start ≡ at + 2 → 64 ≡ at + 2 + len → slice_range nested at (at + 1) ≡ 10 ∷ []
+    → slice_range nested (at + 1) (at + 2) ≡ len ∷ [] → len < 128
     → FirstFault plain_table room (fields_of plain_table 0) nested start why.Depth 64 → FirstFault plain_table (suc room) (fields_of plain_table 0) nested at why.Depth 64
 level room at start len start_is ends tag is less deeper =
     first_fault [] at refl (inside_message inner 0 room start 64 (nested_payload at start len start_is ends tag is less) refl refl refl deeper)

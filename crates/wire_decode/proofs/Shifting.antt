@@ -1,5 +1,6 @@
 -- What stands in bytes stands alike where others stand in front of them, or behind them.
-use Rattle.std.proofs.Common.{◌≡◌, ℕ, ◌+◌, ◌-◌, ◌%◌, ◌≤◌, List, [], ◌∷◌, ◌++◌, length, take, drop, Option, Some, None, false, refl, ap, sym, subst, ◌∙◌, arith}
+use Rattle.std.proofs.Common.{◌≡◌, ℕ, ◌+◌, ◌-◌, ◌%◌, ◌≤◌, List, [], ◌∷◌, ◌++◌, length, take, drop, Option, Some, None}
+use Rattle.std.proofs.Common.{false, refl, ap, sym, subst, ◌∙◌, arith}
 use Rattle.std.specs.Option.{option_map, unwrap_or}
 use Rattle.std.specs.List.{slice_range}
 use Rattle.std.specs.Str.{IsUtf8}
@@ -74,16 +75,46 @@ module _ (d : ℕ) (b : List ℕ) (fits : d ≤ length b) where
   payload-to at w (Varint v) n h = (h.0, varint-to at v n h.1)
   payload-to at w (I64 v) n h = (h.0, (let e = h.1 in omega (arith, e)), (let l = h.2 in omega (arith, l, fits, length-drop d b)), h.3 ∙ ap (from_le_bytes w64) (slice-drop d b at n))
   payload-to at w (I32 v) n h = (h.0, (let e = h.1 in omega (arith, e)), (let l = h.2 in omega (arith, l, fits, length-drop d b)), h.3 ∙ ap (from_le_bytes w32) (slice-drop d b at n))
-  payload-to at w (Len s e) n h = (h.0, h.1, varint-to at h.1 s h.2, (let x = h.3 in omega (arith, x)), (let l = h.4 in omega (arith, l, fits, length-drop d b)), (let x = h.5 in omega (arith, x)))
+  payload-to at w (Len s e) n h = (
+    h.0,
+    h.1,
+    varint-to at h.1 s h.2,
+    (let x = h.3 in omega (arith, x)),
+    (let l = h.4 in omega (arith, l, fits, length-drop d b)),
+    (let x = h.5 in omega (arith, x)),
+  )
 
-  pub payload-found : (at w : ℕ) (q : Payload) (m : ℕ) → PayloadAt b (d + at) w q m → (p : Payload) × (n : ℕ) × (q ≡ payload_ahead d p) × (m ≡ d + n) × PayloadAt (drop d b) at w p n
+  pub payload-found : (at w : ℕ) (q : Payload) (m : ℕ) → PayloadAt b (d + at) w q m
+      → (p : Payload) × (n : ℕ) × (q ≡ payload_ahead d p) × (m ≡ d + n) × PayloadAt (drop d b) at w p n
   payload-found at w (Varint v) m h = let f = varint-found at v m h.1 in (Varint v, f.0, refl, f.1, (h.0, f.2))
   payload-found at w (I64 v) m h =
-      let e : m ≡ d + (at + 8) = (let x = h.1 in omega (arith, x)) in
-      (I64 v, at + 8, refl, e, (h.0, refl, (let l = h.2 in omega (arith, l, e, length-drop d b)), h.3 ∙ ap (λ x. from_le_bytes w64 (slice_range b (d + at) x)) e ∙ ap (from_le_bytes w64) (sym (slice-drop d b at (at + 8)))))
+      let e : m ≡ d + (at + 8) = (let x = h.1 in omega (arith, x)) in (
+        I64 v,
+        at + 8,
+        refl,
+        e,
+        (
+          h.0,
+          refl,
+          (let l = h.2 in omega (arith, l, e, length-drop d b)),
+          h.3 ∙ ap (λ x. from_le_bytes w64 (slice_range b (d + at) x)) e
+              ∙ ap (from_le_bytes w64) (sym (slice-drop d b at (at + 8))),
+        ),
+      )
   payload-found at w (I32 v) m h =
-      let e : m ≡ d + (at + 4) = (let x = h.1 in omega (arith, x)) in
-      (I32 v, at + 4, refl, e, (h.0, refl, (let l = h.2 in omega (arith, l, e, length-drop d b)), h.3 ∙ ap (λ x. from_le_bytes w32 (slice_range b (d + at) x)) e ∙ ap (from_le_bytes w32) (sym (slice-drop d b at (at + 4)))))
+      let e : m ≡ d + (at + 4) = (let x = h.1 in omega (arith, x)) in (
+        I32 v,
+        at + 4,
+        refl,
+        e,
+        (
+          h.0,
+          refl,
+          (let l = h.2 in omega (arith, l, e, length-drop d b)),
+          h.3 ∙ ap (λ x. from_le_bytes w32 (slice_range b (d + at) x)) e
+              ∙ ap (from_le_bytes w32) (sym (slice-drop d b at (at + 4))),
+        ),
+      )
   payload-found at w (Len s' e') m h =
       let f = varint-found at h.1 s' h.2 in
       let ends : e' ≡ d + (f.0 + h.1) = (let x = h.3 in let y = f.1 in omega (arith, x, y)) in
@@ -144,7 +175,8 @@ suits-ahead d label k (Len s e) = refl
 known-ahead : (d : ℕ) (fs : List Field) (r : Record) → is_known fs (record_ahead d r) ≡ is_known fs r
 known-ahead d fs r = go (field_at fs r.number)
   where
-    go : (o : Option Field) → unwrap_or (option_map (λ f. suits f.label f.kind (payload_ahead d r.payload)) o) false ≡ unwrap_or (option_map (λ f. suits f.label f.kind r.payload) o) false
+    go : (o : Option Field) → unwrap_or (option_map (λ f. suits f.label f.kind (payload_ahead d r.payload)) o) false
+        ≡ unwrap_or (option_map (λ f. suits f.label f.kind r.payload) o) false
     go None = refl
     go (Some f) = suits-ahead d f.label f.kind r.payload
 
@@ -163,18 +195,24 @@ len-found d (Len s e) s' e' h = (s, e, refl, cc, cc)
 
 mutual
   -- what is read in bytes is read with others in front of them
-  pub reads-to : (d : ℕ) (b x : List ℕ) → d ≤ length b → x ≡ drop d b → {T : Table} {room : ℕ} {fs : List Field} {at : ℕ} {t : Node} → Reads T room fs x at t → Reads T room fs b (d + at) t
+  pub reads-to : (d : ℕ) (b x : List ℕ) → d ≤ length b → x ≡ drop d b
+      → {T : Table} {room : ℕ} {fs : List Field} {at : ℕ} {t : Node} → Reads T room fs x at t
+      → Reads T room fs b (d + at) t
   reads-to d b x fits e (read_end a is) = read_end (let l = ap length e in omega (arith, a, l, fits, length-drop d b)) is
   reads-to d b x fits e {T} {room} {fs} {at} {t} (read_other r here other g) =
       read_other (record_ahead d r) (record-to d b fits at r (subst (λ (xs : List ℕ). RecordAt xs at r) e here)) (known-ahead d fs r ∙ other) (reads-to d b x fits e g)
   reads-to d b x fits e {T} {room} {fs} {at} {t} (read_known r f c rest here at_f holds is g) =
       read_known (record_ahead d r) f c rest (record-to d b fits at r (subst (λ (xs : List ℕ). RecordAt xs at r) e here)) at_f (holds-to d b x fits e holds) is (reads-to d b x fits e g)
 
-  pub holds-to : (d : ℕ) (b x : List ℕ) → d ≤ length b → x ≡ drop d b → {T : Table} {room : ℕ} {label : Label} {k : Kind} {p : Payload} {c : Content} → Holds T room label k x p c → Holds T room label k b (payload_ahead d p) c
+  pub holds-to : (d : ℕ) (b x : List ℕ) → d ≤ length b → x ≡ drop d b
+      → {T : Table} {room : ℕ} {label : Label} {k : Kind} {p : Payload} {c : Content} → Holds T room label k x p c
+      → Holds T room label k b (payload_ahead d p) c
   holds-to d b x fits e {T} {room} {label} {k} {p} {c} (holds_number single numeric typed is) =
       holds_number single numeric (type-ahead d p ∙ typed) (is ∙ ap (λ n. one (number (word_of k n))) (sym (number-ahead d p)))
   holds-to d b x fits e {T} {room} {label} {k} {p} {c} (holds_piece s f ws packed at whole is) =
-      holds_piece (d + s) (d + f) ws packed (ap (payload_ahead d) at) (elements-to d (take (d + f) b) (cut-fits d f b fits) k s ws (subst (λ (xs : List ℕ). AreElements k xs s ws) (cut-same d f b x e) whole)) is
+      holds_piece (d + s) (d + f) ws packed (ap (payload_ahead d) at)
+      (elements-to d (take (d + f) b) (cut-fits d f b fits) k s ws
+      (subst (λ (xs : List ℕ). AreElements k xs s ws) (cut-same d f b x e) whole)) is
   holds-to d b x fits e (holds_text s f single kind at utf8 is) =
       let same = ap (λ xs. slice_range xs s f) e ∙ slice-drop d b s f in
       holds_text (d + s) (d + f) single kind (ap (payload_ahead d) at) (subst IsUtf8 same utf8) (is ∙ ap (λ xs. one (run xs)) same)
@@ -188,7 +226,9 @@ mutual
 
 mutual
   -- and what is read behind others is read without them
-  pub reads-back : (d : ℕ) (b : List ℕ) → d ≤ length b → (at : ℕ) {T : Table} {room : ℕ} {fs : List Field} {from : ℕ} {t : Node} → from ≡ d + at → Reads T room fs b from t → Reads T room fs (drop d b) at t
+  pub reads-back : (d : ℕ) (b : List ℕ) → d ≤ length b
+      → (at : ℕ) {T : Table} {room : ℕ} {fs : List Field} {from : ℕ} {t : Node} → from ≡ d + at
+      → Reads T room fs b from t → Reads T room fs (drop d b) at t
   reads-back d b fits at {T} {room} {fs} {from} {t} e (read_end a is) = read_end (omega (arith, a, e, fits, length-drop d b)) is
   reads-back d b fits at {T} {room} {fs} {from} {t} e (read_other q here other g) =
       let f = record-found d b fits at q (subst (λ (x : ℕ). RecordAt b x q) e here) in
@@ -200,13 +240,18 @@ mutual
       (is ∙ ap (λ (x : Record). field x.number c rest) f.1)
       (reads-back d b fits f.0.next (ap (λ (x : Record). x.next) f.1) more)
 
-  pub holds-back : (d : ℕ) (b : List ℕ) → d ≤ length b → (p : Payload) {T : Table} {room : ℕ} {label : Label} {k : Kind} {q : Payload} {c : Content} → q ≡ payload_ahead d p → Holds T room label k b q c → Holds T room label k (drop d b) p c
+  pub holds-back : (d : ℕ) (b : List ℕ) → d ≤ length b
+      → (p : Payload) {T : Table} {room : ℕ} {label : Label} {k : Kind} {q : Payload} {c : Content}
+      → q ≡ payload_ahead d p → Holds T room label k b q c → Holds T room label k (drop d b) p c
   holds-back d b fits p {T} {room} {label} {k} {q} {c} e (holds_number single numeric typed is) =
       holds_number single numeric (sym (ap payload_type e ∙ type-ahead d p) ∙ typed) (is ∙ ap (λ n. one (number (word_of k n))) (ap number_in e ∙ number-ahead d p))
   holds-back d b fits p {T} {room} {label} {k} {q} {c} e (holds_piece s' e' ws packed at whole is) =
       let f = len-found d p s' e' (sym e ∙ at) in
-      let here : AreElements k (take (d + f.1) b) (d + f.0) ws = subst (λ (x : ℕ). AreElements k (take x b) (d + f.0) ws) f.4 (subst (λ (x : ℕ). AreElements k (take e' b) x ws) f.3 whole) in
-      holds_piece f.0 f.1 ws packed f.2 (subst (λ (xs : List ℕ). AreElements k xs f.0 ws) (drop-take d f.1 b) (elements-back d (take (d + f.1) b) (cut-fits d f.1 b fits) k f.0 ws here)) is
+      let here : AreElements k (take (d + f.1) b) (d + f.0) ws =
+      subst (λ (x : ℕ). AreElements k (take x b) (d + f.0) ws) f.4
+      (subst (λ (x : ℕ). AreElements k (take e' b) x ws) f.3 whole) in
+      holds_piece f.0 f.1 ws packed f.2 (subst (λ (xs : List ℕ). AreElements k xs f.0 ws) (drop-take d f.1 b)
+      (elements-back d (take (d + f.1) b) (cut-fits d f.1 b fits) k f.0 ws here)) is
   holds-back d b fits p e (holds_text s' e' single kind at utf8 is) =
       let f = len-found d p s' e' (sym e ∙ at) in
       let same : slice_range b s' e' ≡ slice_range (drop d b) f.0 f.1 = ap (λ x. slice_range b x e') f.3 ∙ ap (slice_range b (d + f.0)) f.4 ∙ sym (slice-drop d b f.0 f.1) in
@@ -258,7 +303,8 @@ record-front a b at r h = record {
 }
 
 -- a payload within the front bytes
-holds-front : (a b : List ℕ) {T : Table} {room : ℕ} {label : Label} {k : Kind} {p : Payload} {c : Content} → IsWithin (length a) p → Holds T room label k a p c → Holds T room label k (a ++ b) p c
+holds-front : (a b : List ℕ) {T : Table} {room : ℕ} {label : Label} {k : Kind} {p : Payload} {c : Content}
+    → IsWithin (length a) p → Holds T room label k a p c → Holds T room label k (a ++ b) p c
 holds-front a b w (holds_number single numeric typed is) = holds_number single numeric typed is
 holds-front a b {T} {room} {label} {k} {p} {c} w (holds_piece s e ws packed at whole is) =
     let v = subst (IsWithin (length a)) at w in
@@ -277,7 +323,8 @@ holds-front a b {T} {room} {label} {k} {p} {c} w (holds_entry key s e t map at r
     let v = subst (IsWithin (length a)) at w in
     holds_entry key s e t map at (subst (λ (xs : List ℕ). Reads T room (entry_fields key k) xs s t) (sym (take-append-le e a b v.1)) reads) room_is is
 
-reads-front : {T : Table} {room : ℕ} {fs : List Field} (a b : List ℕ) (u : Node) {at : ℕ} {t : Node} → Reads T room fs a at t → Reads T room fs (a ++ b) (length a) u → Reads T room fs (a ++ b) at (join_fields t u)
+reads-front : {T : Table} {room : ℕ} {fs : List Field} (a b : List ℕ) (u : Node) {at : ℕ} {t : Node}
+    → Reads T room fs a at t → Reads T room fs (a ++ b) (length a) u → Reads T room fs (a ++ b) at (join_fields t u)
 reads-front {T} {room} {fs} a b u {at} {t} (read_end e is) h =
     subst (λ (n : ℕ). Reads T room fs (a ++ b) n (join_fields t u)) (sym e) (subst (λ (x : Node). Reads T room fs (a ++ b) (length a) (join_fields x u)) (sym is) h)
 reads-front {T} {room} {fs} a b u {at} {t} (read_other r here other g) h = read_other r (record-front a b at r here) other (reads-front a b u g h)
@@ -286,7 +333,8 @@ reads-front {T} {room} {fs} a b u {at} {t} (read_known r f c rest here at_f hold
     (ap (λ x. join_fields x u) is) (reads-front a b u g h)
 
 -- the records of two strings, one behind the other
-pub reads-joined : (T : Table) (room : ℕ) (fs : List Field) (a b : List ℕ) (t u : Node) → Reads T room fs a 0 t → Reads T room fs b 0 u → Reads T room fs (a ++ b) 0 (join_fields t u)
+pub reads-joined : (T : Table) (room : ℕ) (fs : List Field) (a b : List ℕ) (t u : Node) → Reads T room fs a 0 t
+    → Reads T room fs b 0 u → Reads T room fs (a ++ b) 0 (join_fields t u)
 reads-joined T room fs a b t u first second =
     let here : Reads T room fs (a ++ b) (length a + 0) u = reads-to (length a) (a ++ b) b (omega (arith, length-append a b)) (sym (drop_at a b (length a) refl)) second in
     reads-front a b u first (subst (λ (n : ℕ). Reads T room fs (a ++ b) n u) (let e : length a + 0 ≡ length a = omega arith in e) here)

@@ -1,5 +1,6 @@
 -- Contents by ascending number.
-use Rattle.std.proofs.Common.{◌≡◌, ◌≢◌, ◌&&◌, ℕ, zero, suc, ◌+◌, ◌<◌, ◌≤◌, List, [], ◌∷◌, ◌++◌, length, take, get_or, map, filter, Bool, true, false, not, cond, refl, ap, sym, subst, ◌∙◌, arith, ⊎_elim}
+use Rattle.std.proofs.Common.{◌≡◌, ◌≢◌, ◌&&◌, ℕ, zero, suc, ◌+◌, ◌<◌, ◌≤◌, List, [], ◌∷◌, ◌++◌, length, take, get_or}
+use Rattle.std.proofs.Common.{map, filter, Bool, true, false, not, cond, refl, ap, sym, subst, ◌∙◌, arith, ⊎_elim}
 use Rattle.std.specs.Ordering.{nat_cmp, is_lt}
 use Rattle.std.specs.List.Sorted.{ties, IsNonDecreasingBy, IsStableByKey}
 use Rattle.std.proofs.lemmas.Bool.Decides.{nat_tests, eqb_tells}
@@ -19,7 +20,11 @@ Parts = List (ℕ × FieldValue)
 fall-from : (last : ℕ) (xs : Parts) → ((d : ℕ × FieldValue) → 0 < length xs → last ≤ (get_or xs 0 d).0) → IsNonDecreasingBy (λ p. p.0) xs → NeverFallFrom last (node_of xs)
 fall-from last [] first h = tt
 fall-from last (x ∷ []) first h = (first x (omega arith), tt)
-fall-from last (x ∷ y ∷ ys) first h = (first x (omega arith), fall-from x.0 (y ∷ ys) (λ d w. h 0 1 d (omega arith) (omega arith)) (λ i j d le w. h (suc i) (suc j) d (omega arith) (omega arith)))
+fall-from last (x ∷ y ∷ ys) first h = (
+  first x (omega arith),
+  fall-from x.0 (y ∷ ys) (λ d w. h 0 1 d (omega arith) (omega arith))
+      (λ i j d le w. h (suc i) (suc j) d (omega arith) (omega arith)),
+)
 
 pub never-fall : (xs : Parts) → IsNonDecreasingBy (λ p. p.0) xs → NeverFallFrom 0 (node_of xs)
 never-fall xs h = fall-from 0 xs (λ d w. omega arith) h
@@ -64,14 +69,21 @@ most-pushed m n c no_fields le h = (le, tt)
 most-pushed m n c (field k d t) le h = (h.0, most-pushed m n c t le h.1)
 
 -- the parts up to a place, and one more
-pub taken-more : (xs : Parts) (i : ℕ) (x : ℕ × FieldValue) → i < length xs → x ≡ get_or xs i x → node_of (take (i + 1) xs) ≡ push_field (node_of (take i xs)) x.0 (content_of x.1)
+pub taken-more : (xs : Parts) (i : ℕ) (x : ℕ × FieldValue) → i < length xs → x ≡ get_or xs i x
+    → node_of (take (i + 1) xs) ≡ push_field (node_of (take i xs)) x.0 (content_of x.1)
 taken-more xs i x within is = ap node_of (take_more xs i x within ∙ ap (λ e. take i xs ++ e ∷ []) (sym is)) ∙ node_of-last (take i xs) x
 
-pub fall-more : (xs : Parts) (i last : ℕ) (x : ℕ × FieldValue) → i < length xs → x ≡ get_or xs i x → last ≤ x.0 → NeverFallFrom 0 (node_of (take i xs)) → AreAtMost last (node_of (take i xs)) → NeverFallFrom 0 (node_of (take (i + 1) xs)) × AreAtMost x.0 (node_of (take (i + 1) xs))
+pub fall-more : (xs : Parts) (i last : ℕ) (x : ℕ × FieldValue) → i < length xs → x ≡ get_or xs i x → last ≤ x.0
+    → NeverFallFrom 0 (node_of (take i xs)) → AreAtMost last (node_of (take i xs))
+    → NeverFallFrom 0 (node_of (take (i + 1) xs)) × AreAtMost x.0 (node_of (take (i + 1) xs))
 fall-more xs i last x within is le fall most =
     let wide = most-weaker last x.0 (node_of (take i xs)) le most in
     let P : Node → Type 0 = λ t. NeverFallFrom 0 t × AreAtMost x.0 t in
-    subst P (sym (taken-more xs i x within is)) (fall-pushed 0 x.0 (content_of x.1) (node_of (take i xs)) (omega arith) fall wide, most-pushed x.0 x.0 (content_of x.1) (node_of (take i xs)) (omega arith) wide)
+    subst P (sym (taken-more xs i x within is)) (
+      fall-pushed 0 x.0 (content_of x.1) (node_of (take i xs))
+          (omega arith) fall wide,
+      most-pushed x.0 x.0 (content_of x.1) (node_of (take i xs)) (omega arith) wide,
+    )
 
 -- no number before a place is above the one there
 fall-first : (last : ℕ) (xs : Parts) (i : ℕ) (d : ℕ × FieldValue) → NeverFallFrom last (node_of xs) → i < length xs → last ≤ (get_or xs i d).0
@@ -79,7 +91,12 @@ fall-first last [] i d h within = absurd (omega (arith, within))
 fall-first last (x ∷ xs) zero d h within = h.0
 fall-first last (x ∷ xs) (suc i) d h within = let rest = fall-first x.0 xs i d h.1 (omega (arith, within)) in let a = h.0 in omega (arith, rest, a)
 
-pub fall-most : (last : ℕ) (xs : Parts) (i : ℕ) (x : ℕ × FieldValue) → NeverFallFrom last (node_of xs) → i < length xs → x ≡ get_or xs i x → AreAtMost x.0 (node_of (take i xs))
+pub fall-most : (last : ℕ) (xs : Parts) (i : ℕ) (x : ℕ × FieldValue) → NeverFallFrom last (node_of xs) → i < length xs
+    → x ≡ get_or xs i x → AreAtMost x.0 (node_of (take i xs))
 fall-most last [] i x h within is = absurd (omega (arith, within))
 fall-most last (y ∷ xs) zero x h within is = tt
-fall-most last (y ∷ xs) (suc i) x h within is = (let a = fall-first y.0 xs i x h.1 (omega (arith, within)) in let e = ap (λ p. p.0) is in omega (arith, a, e), fall-most y.0 xs i x h.1 (omega (arith, within)) is)
+fall-most last (y ∷ xs) (suc i) x h within is = (
+  let a = fall-first y.0 xs i x h.1 (omega (arith, within)) in
+      let e = ap (λ p. p.0) is in omega (arith, a, e),
+  fall-most y.0 xs i x h.1 (omega (arith, within)) is,
+)

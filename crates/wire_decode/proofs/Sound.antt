@@ -15,7 +15,9 @@ use Rattle.mrpc_table.specs.declared.table.Table.{Table}
 use Rattle.mrpc_table.specs.WireTypes.{wire_type_of}
 use Rattle.wire_base.specs.declared.records.Payload.{Payload}
 use Rattle.wire_decode.specs.Words.{word_of, number_in, is_map, AreElements}
-use Rattle.wire_decode.specs.Reads.{Reads, read_end, read_other, read_known, Holds, holds_number, holds_piece, holds_text, holds_octets, holds_message, holds_entry, HasRoom, entry_fields, numbers}
+use Rattle.wire_decode.specs.Reads.{Reads, read_end, read_other, read_known, Holds, holds_number, holds_piece}
+use Rattle.wire_decode.specs.Reads.{holds_text, holds_octets, holds_message, holds_entry, HasRoom, entry_fields}
+use Rattle.wire_decode.specs.Reads.{numbers}
 use Rattle.wire_decode.specs.Merged.{contents_of, items_in, values_in, singles_in, join_fields, joined}
 use Rattle.wire_decode.proofs.Adding.{contents-here, contents-other}
 use Rattle.wire_decode.proofs.Unique.{packed-single, packed-numeric}
@@ -54,7 +56,8 @@ sound-single : (T : Table) (room : ℕ) (label : Label) (k : Kind) (i : Item) �
 sound-single T room label k i single h = (λ s. h, λ key e. absurd (single-not_map label key single e))
 
 -- whole elements are words of their kind
-sound-elements : (T : Table) (room : ℕ) (k : Kind) (bytes : List ℕ) (at : ℕ) (ws : List ℕ) → is_numeric k ≡ true → AreBytes bytes → AreElements k bytes at ws → SoundValues T room k (numbers ws)
+sound-elements : (T : Table) (room : ℕ) (k : Kind) (bytes : List ℕ) (at : ℕ) (ws : List ℕ) → is_numeric k ≡ true
+    → AreBytes bytes → AreElements k bytes at ws → SoundValues T room k (numbers ws)
 sound-elements T room k bytes at [] numeric small h = tt
 sound-elements T room k bytes at (w ∷ ws) numeric small h =
     let p = payload-small bytes at (wire_type_of k) h.0 h.1 small h.2 in
@@ -69,22 +72,44 @@ mutual
   reads-sound {T} {room} {fs} {bytes} {at} {t} (read_known r f c rest here at_f holds is g) small =
       subst (λ (u : Node). SoundNode T room fs u) (sym is) (reads-sound g small, f, at_f, holds-sound holds (payload-small bytes here.start _ r.payload r.next small here.payload) small)
 
-  holds-sound : {T : Table} {room : ℕ} {label : Label} {k : Kind} {bytes : List ℕ} {p : Payload} {c : Content} → Holds T room label k bytes p c → IsSmall p → AreBytes bytes → SoundContent T room label k c
+  holds-sound : {T : Table} {room : ℕ} {label : Label} {k : Kind} {bytes : List ℕ} {p : Payload} {c : Content}
+      → Holds T room label k bytes p c → IsSmall p → AreBytes bytes → SoundContent T room label k c
   holds-sound {T} {room} {label} {k} {bytes} {p} {c} (holds_number single numeric typed is) word small =
-      subst (λ (x : Content). SoundContent T room label k x) (sym is) (sound-single T room label k (number (word_of k (number_in p))) single (word-form k (number_in p) numeric word.word (λ e. word.short (typed ∙ e))))
+      subst (λ (x : Content). SoundContent T room label k x) (sym is)
+      (sound-single T room label k (number (word_of k (number_in p))) single
+      (word-form k (number_in p) numeric word.word (λ e. word.short (typed ∙ e))))
   holds-sound {T} {room} {label} {k} {bytes} {p} {c} (holds_piece s e ws packed at whole is) word small =
-      subst (λ (x : Content). SoundContent T room label k x) (sym is) (packed-single label k packed, sound-elements T room k (take e bytes) s ws (packed-numeric label k packed) (All-take (λ b. b < 256) e bytes small) whole)
+      subst (λ (x : Content). SoundContent T room label k x) (sym is) (
+        packed-single label k packed,
+        sound-elements T room k (take e bytes) s ws (packed-numeric label k packed)
+            (All-take (λ b. b < 256) e bytes small) whole,
+      )
   holds-sound {T} {room} {label} {k} {bytes} {p} {c} (holds_text s e single kind at utf8 is) word small =
-      subst (λ (x : Content). SoundContent T room label k x) (sym is) (sound-single T room label k (run (slice_range bytes s e)) single (subst (λ (x : Kind). IsRun x (slice_range bytes s e)) (sym kind) utf8))
+      subst (λ (x : Content). SoundContent T room label k x) (sym is)
+      (sound-single T room label k (run (slice_range bytes s e)) single
+      (subst (λ (x : Kind). IsRun x (slice_range bytes s e)) (sym kind) utf8))
   holds-sound {T} {room} {label} {k} {bytes} {p} {c} (holds_octets s e single kind at is) word small =
-      subst (λ (x : Content). SoundContent T room label k x) (sym is) (sound-single T room label k (run (slice_range bytes s e)) single (subst (λ (x : Kind). IsRun x (slice_range bytes s e)) (sym kind) (bytes-slice bytes s e small)))
+      subst (λ (x : Content). SoundContent T room label k x) (sym is)
+      (sound-single T room label k (run (slice_range bytes s e)) single
+      (subst (λ (x : Kind). IsRun x (slice_range bytes s e)) (sym kind) (bytes-slice bytes s e small)))
   holds-sound {T} {room} {label} {k} {bytes} {p} {c} (holds_message inside i s e t single kind at room_is reads is) word small =
-      subst (λ (x : Content). SoundContent T room label k x) (sym is) (sound-single T room label k (node t) single (i, inside, kind, room_is, reads-sound reads (All-take (λ b. b < 256) e bytes small)))
+      subst (λ (x : Content). SoundContent T room label k x) (sym is)
+      (sound-single T room label k (node t) single (
+        i,
+        inside,
+        kind,
+        room_is,
+        reads-sound reads (All-take (λ b. b < 256) e bytes small),
+      ))
   holds-sound {T} {room} {label} {k} {bytes} {p} {c} (holds_entry key s e t map at reads has_room is) word small =
       let fields = reads-sound reads (All-take (λ b. b < 256) e bytes small) in
       subst (λ (x : Content). SoundContent T room label k x) (sym is) (
         λ single. absurd (single-not_map label key single map),
-        λ other same. (has_room, (let maps : Map key ≡ Map other = sym map ∙ same in let keys : key ≡ other = cc in subst (λ (x : Kind). SoundNode T room (entry_fields x k) t) keys fields)),
+        λ other same. (
+          has_room,
+          (let maps : Map key ≡ Map other = sym map ∙ same in let keys : key ≡ other = cc in
+              subst (λ (x : Kind). SoundNode T room (entry_fields x k) t) keys fields),
+        ),
       )
 
 pub join-sound : (T : Table) (room : ℕ) (fs : List Field) (t u : Node) → SoundNode T room fs t → SoundNode T room fs u → SoundNode T room fs (join_fields t u)
@@ -108,7 +133,8 @@ one-field : (f g : Field) (o : Option Field) → o ≡ Some f → o ≡ Some g �
 one-field f g o a b = let h : Some f ≡ Some g = sym a ∙ b in cc
 
 -- the contents of one number
-pub contents-sound : (T : Table) (room : ℕ) (fs : List Field) (n : ℕ) (f : Field) (t : Node) → field_at fs n ≡ Some f → SoundNode T room fs t → AllContents T room f.label f.kind (contents_of n t)
+pub contents-sound : (T : Table) (room : ℕ) (fs : List Field) (n : ℕ) (f : Field) (t : Node) → field_at fs n ≡ Some f
+    → SoundNode T room fs t → AllContents T room f.label f.kind (contents_of n t)
 contents-sound T room fs n f no_fields at h = tt
 contents-sound T room fs n f (field m c t) at h =
     let rest = contents-sound T room fs n f t at h.0 in
@@ -120,7 +146,8 @@ contents-sound T room fs n f (field m c t) at h =
     (λ s. subst (λ (cs : List Content). AllContents T room f.label f.kind cs) (sym (contents-other n m c t (λ e. s.1 (sym e)))) rest)
     (eqb_tells m n)
 
-pub singles-sound : (T : Table) (room : ℕ) (label : Label) (k : Kind) (cs : List Content) → is_map label ≡ false → AllContents T room label k cs → AllValues T room k (singles_in cs)
+pub singles-sound : (T : Table) (room : ℕ) (label : Label) (k : Kind) (cs : List Content) → is_map label ≡ false
+    → AllContents T room label k cs → AllValues T room k (singles_in cs)
 singles-sound T room label k [] single h = tt
 singles-sound T room label k (one i ∷ cs) single h = (h.0.0 single, singles-sound T room label k cs single h.1)
 singles-sound T room label k (many is ∷ cs) single h = singles-sound T room label k cs single h.1

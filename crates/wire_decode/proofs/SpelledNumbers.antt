@@ -6,7 +6,9 @@ use Rattle.std.proofs.lemmas.Bool.Decides.{nat_tests}
 use Rattle.std.proofs.lemmas.Nat.{from_le_bytes-to_le_bytes_4, from_le_bytes-to_le_bytes_8}
 use Rattle.mrpc_table.specs.Words.{IsSigned32, IsWordForm}
 use Rattle.mrpc_table.specs.declared.table.Kind.{Kind}
-use Rattle.mrpc_table.specs.declared.table.Kind.TheVariants.{Int32, Int64, Uint32, Uint64, Sint32, Sint64, Bool as TheBool, Fixed32, Fixed64, Sfixed32, Sfixed64, Float, Double, Text, Octets, Message, Choice}
+use Rattle.mrpc_table.specs.declared.table.Kind.TheVariants.{Int32, Int64, Uint32, Uint64, Sint32, Sint64}
+use Rattle.mrpc_table.specs.declared.table.Kind.TheVariants.{Bool as TheBool, Fixed32, Fixed64, Sfixed32, Sfixed64}
+use Rattle.mrpc_table.specs.declared.table.Kind.TheVariants.{Float, Double, Text, Octets, Message, Choice}
 use Rattle.wire_base.specs.Encoding.{zigzag_of, number_bytes}
 use Rattle.mrpc_table.specs.WireTypes.{wire_type_of}
 use Rattle.wire_base.specs.Records.{PayloadAt}
@@ -97,15 +99,27 @@ word-back (Message i) n h = absurd h
 
 eight-stands : (bytes : List ℕ) (at n : ℕ) → n < 2 ^ 64 → Stands bytes at (to_le_bytes w64 n) → PayloadAt bytes at 1 (I64 n) (at + length (to_le_bytes w64 n))
 eight-stands bytes at n small h =
-    let end = at + length (to_le_bytes w64 n) in
-    (refl, omega arith, stands-within bytes at (to_le_bytes w64 n) h, sym (ap (from_le_bytes w64) (stands-slice bytes at (to_le_bytes w64 n) end refl h) ∙ from_le_bytes-to_le_bytes_8 n small))
+    let end = at + length (to_le_bytes w64 n) in (
+      refl,
+      omega arith,
+      stands-within bytes at (to_le_bytes w64 n) h,
+      sym (ap (from_le_bytes w64) (stands-slice bytes at (to_le_bytes w64 n) end refl h)
+          ∙ from_le_bytes-to_le_bytes_8 n small),
+    )
 
 four-stands : (bytes : List ℕ) (at n : ℕ) → n < 2 ^ 32 → Stands bytes at (to_le_bytes w32 n) → PayloadAt bytes at 5 (I32 n) (at + length (to_le_bytes w32 n))
 four-stands bytes at n small h =
-    let end = at + length (to_le_bytes w32 n) in
-    (refl, omega arith, stands-within bytes at (to_le_bytes w32 n) h, sym (ap (from_le_bytes w32) (stands-slice bytes at (to_le_bytes w32 n) end refl h) ∙ from_le_bytes-to_le_bytes_4 n small))
+    let end = at + length (to_le_bytes w32 n) in (
+      refl,
+      omega arith,
+      stands-within bytes at (to_le_bytes w32 n) h,
+      sym (ap (from_le_bytes w32) (stands-slice bytes at (to_le_bytes w32 n) end refl h)
+          ∙ from_le_bytes-to_le_bytes_4 n small),
+    )
 
-pub number-stands : ReadsBack → (bytes : List ℕ) (at : ℕ) (k : Kind) (n : ℕ) → IsWordForm k n → Stands bytes at (number_bytes k n) → PayloadAt bytes at (wire_type_of k) (payload_of k n) (at + length (number_bytes k n))
+pub number-stands : ReadsBack → (bytes : List ℕ) (at : ℕ) (k : Kind) (n : ℕ) → IsWordForm k n
+    → Stands bytes at (number_bytes k n)
+    → PayloadAt bytes at (wire_type_of k) (payload_of k n) (at + length (number_bytes k n))
 number-stands back_read bytes at Int32 n h s = (refl, stands-varint back_read bytes at n (signed-below n h) s)
 number-stands back_read bytes at (Choice i) n h s = (refl, stands-varint back_read bytes at n (signed-below n h) s)
 number-stands back_read bytes at Int64 n h s = (refl, stands-varint back_read bytes at n h s)

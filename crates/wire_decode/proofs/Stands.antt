@@ -1,5 +1,6 @@
 -- A piece of bytes at a place among others, and what is read there.
-use Rattle.std.proofs.Common.{◌≡◌, ℕ, ◌+◌, ◌-◌, ◌*◌, ◌%◌, ◌^◌, ◌<◌, ◌≤◌, List, [], ◌++◌, length, take, drop, refl, ap, sym, subst, ◌∙◌, arith, append_assoc, append-nil}
+use Rattle.std.proofs.Common.{◌≡◌, ℕ, ◌+◌, ◌-◌, ◌*◌, ◌%◌, ◌^◌, ◌<◌, ◌≤◌, List, [], ◌++◌, length, take, drop, refl, ap}
+use Rattle.std.proofs.Common.{sym, subst, ◌∙◌, arith, append_assoc, append-nil}
 use Rattle.std.specs.List.{slice_range}
 use Rattle.std.proofs.lemmas.List.{length-take-le, length-append, drop_at, take_at}
 use Rattle.wire_base.specs.Encoding.{varint, tag, delimited}
@@ -64,11 +65,15 @@ cut-length bytes at piece end e h = length-take-le end bytes (let w = stands-wit
 
 pub stands-varint : ReadsBack → (bytes : List ℕ) (at v : ℕ) → v < 2 ^ 64 → Stands bytes at (varint v) → VarintAt bytes at v (at + length (varint v))
 stands-varint back_read bytes at v small h =
-    let here : VarintAt bytes (length h.before) v (length h.before + length (varint v)) = subst (λ (xs : List ℕ). VarintAt xs (length h.before) v (length h.before + length (varint v))) (sym h.is) (back_read h.before h.after v small) in
+    let here : VarintAt bytes (length h.before) v (length h.before + length (varint v)) =
+    subst (λ (xs : List ℕ). VarintAt xs (length h.before) v (length h.before + length (varint v))) (sym h.is)
+    (back_read h.before h.after v small) in
     subst (λ (k : ℕ). VarintAt bytes k v (k + length (varint v))) (sym h.place) here
 
 -- a tag, and a payload behind it
-pub stands-record : ReadsBack → (bytes : List ℕ) (at n w : ℕ) (p : Payload) (next : ℕ) → 0 < n → n < 2 ^ 29 → w < 8 → Stands bytes at (tag n w) → PayloadAt bytes (at + length (tag n w)) w p next → RecordAt bytes at (record { number = n; payload = p; next = next })
+pub stands-record : ReadsBack → (bytes : List ℕ) (at n w : ℕ) (p : Payload) (next : ℕ) → 0 < n → n < 2 ^ 29 → w < 8
+    → Stands bytes at (tag n w) → PayloadAt bytes (at + length (tag n w)) w p next
+    → RecordAt bytes at (record { number = n; payload = p; next = next })
 stands-record back_read bytes at n w p next positive small type h payload = record {
   tag = 8 * n + w;
   start = at + length (tag n w);
@@ -94,7 +99,9 @@ stands-inner piece h = stands-right (varint (length piece)) piece h
 pub end-length : (at : ℕ) (piece : List ℕ) → end_of at piece ≡ at + length (delimited piece)
 end-length at piece = omega (arith, length-append (varint (length piece)) piece)
 
-pub stands-delimited : ReadsBack → (bytes : List ℕ) (at : ℕ) (piece : List ℕ) → length bytes < 2 ^ 64 → Stands bytes at (delimited piece) → PayloadAt bytes at 2 (Len (start_of at piece) (end_of at piece)) (at + length (delimited piece))
+pub stands-delimited : ReadsBack → (bytes : List ℕ) (at : ℕ) (piece : List ℕ) → length bytes < 2 ^ 64
+    → Stands bytes at (delimited piece)
+    → PayloadAt bytes at 2 (Len (start_of at piece) (end_of at piece)) (at + length (delimited piece))
 stands-delimited back_read bytes at piece few h =
     let within : end_of at piece ≤ length bytes = stands-within bytes (start_of at piece) piece (stands-inner piece h) in
     (refl, length piece, stands-varint back_read bytes at (length piece) (omega (arith, few, within)) (stands-left (varint (length piece)) piece h), refl, within, sym (end-length at piece))

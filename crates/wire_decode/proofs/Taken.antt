@@ -13,7 +13,9 @@ use Rattle.mrpc_table.specs.declared.table.Field.{Field}
 use Rattle.mrpc_table.specs.declared.table.Table.{Table}
 use Rattle.mrpc_table.specs.Ascending.{FieldsAscend, AllAscend}
 use Rattle.wire_decode.specs.Reads.{entry_fields}
-use Rattle.wire_decode.specs.Merged.{contents_of, singles_in, singular, default_of, part, entry, present, field_content, with_content, with_fields, is_overtaken, is_same, counted, oneof_of, oneof_at, merged}
+use Rattle.wire_decode.specs.Merged.{contents_of, singles_in, singular, default_of, part, entry, present}
+use Rattle.wire_decode.specs.Merged.{field_content, with_content, with_fields, is_overtaken, is_same, counted}
+use Rattle.wire_decode.specs.Merged.{oneof_of, oneof_at, merged}
 use Rattle.wire_decode.specs.Meaning.{item_or_default}
 use Rattle.wire_decode.proofs.Adding.{contents-here, contents-other}
 use Rattle.wire_decode.proofs.Merging.{AreAbove, ascend-above, first-least, field-here, field-later}
@@ -57,7 +59,9 @@ contents-but m n (field k c t) h =
     (λ s. ap (contents_of m) (but-other n k c t (λ e. s.1 (sym e))) ∙
     ⊎_elim
     (λ z. let P : ℕ → Type 0 = λ x. contents_of x (field k c (contents_but n t)) ≡ contents_of x (field k c t) in
-    subst P z.1 (contents-here k c (contents_but n t) ∙ ap (λ cs. c ∷ cs) (ap (λ x. contents_of x (contents_but n t)) z.1 ∙ contents-but m n t h ∙ ap (λ x. contents_of x t) (sym z.1)) ∙ sym (contents-here k c t)))
+    subst P z.1 (contents-here k c (contents_but n t)
+    ∙ ap (λ cs. c ∷ cs) (ap (λ x. contents_of x (contents_but n t)) z.1 ∙ contents-but m n t h
+    ∙ ap (λ x. contents_of x t) (sym z.1)) ∙ sym (contents-here k c t)))
     (λ z. let e : m ≢ k = (λ y. z.1 (sym y)) in contents-other m k c (contents_but n t) e ∙ contents-but m n t h ∙ sym (contents-other m k c t e))
     (eqb_tells k m))
     (eqb_tells k n)
@@ -126,7 +130,11 @@ counted-entry key k (field n c t) =
     ∙ ap (field n c) (counted-entry key k t)
 
 -- the key and the value of an entry are those of its meaning
-pub entry-same : (T : Table) (room : ℕ) (key k : Kind) (t : Node) → entry (merged_taken T room) key k (node t) ≡ (item_or_default 1 key (meaning T room (entry_fields key k) t), item_or_default 2 k (meaning T room (entry_fields key k) t))
+pub entry-same : (T : Table) (room : ℕ) (key k : Kind) (t : Node)
+    → entry (merged_taken T room) key k (node t) ≡ (
+      item_or_default 1 key (meaning T room (entry_fields key k) t),
+      item_or_default 2 k (meaning T room (entry_fields key k) t),
+    )
 entry-same T room key k t =
     let inner = merged_taken T room in
     let o = singular inner key (singles_in (contents_of 1 t)) in

@@ -1,5 +1,6 @@
 -- Bytes are read in one way, bytes that are read have no fault, and others one first fault.
-use Rattle.std.proofs.Common.{◌≡◌, ◌≢◌, ℕ, suc, ◌<◌, ◌&&◌, ◌==◌, List, [], ◌∷◌, length, take, Option, Some, Bool, true, false, cond, refl, ap, sym, subst, ◌∙◌, arith}
+use Rattle.std.proofs.Common.{◌≡◌, ◌≢◌, ℕ, suc, ◌<◌, ◌&&◌, ◌==◌, List, [], ◌∷◌, length, take, Option, Some, Bool}
+use Rattle.std.proofs.Common.{true, false, cond, refl, ap, sym, subst, ◌∙◌, arith}
 use Rattle.std.specs.Option.{option_map, unwrap_or}
 use Rattle.std.specs.List.{slice_range}
 use Rattle.std.specs.Str.{IsUtf8}
@@ -22,7 +23,9 @@ use Rattle.wire_decode.proofs.WireLaws.{Law}
 use Rattle.wire_decode.proofs.Payloads.{PayloadAt-ahead, PayloadAt-within, RecordAt-ahead, RecordAt-within}
 use Rattle.std.proofs.lemmas.Bool.{or_left, or_right, eq-eqb}
 use Rattle.wire_decode.specs.Words.{word_of, number_in, payload_type, own_type, is_map, may_be_packed, suits, AreElements}
-use Rattle.wire_decode.specs.Reads.{Reads, read_end, read_other, read_known, Holds, holds_number, holds_piece, holds_text, holds_octets, holds_message, holds_entry, numbers, entry_fields, is_known}
+use Rattle.wire_decode.specs.Reads.{Reads, read_end, read_other, read_known, Holds, holds_number, holds_piece}
+use Rattle.wire_decode.specs.Reads.{holds_text, holds_octets, holds_message, holds_entry, numbers, entry_fields}
+use Rattle.wire_decode.specs.Reads.{is_known}
 use Rattle.wire_decode.specs.FaultWalk.{reason_of, Faults, no_record, behind_other, behind_known, in_payload, Fails, no_elements, no_text, too_deep, in_message, in_entry, no_room}
 use Rattle.wire_decode.specs.declared.fault.DecodeReason.{DecodeReason}
 
@@ -103,13 +106,15 @@ index (holds_entry key s e t map at reads room is) = 5
 
 index-class : {T : Table} {room : ℕ} {label : Label} {k : Kind} {bytes : List ℕ} {p : Payload} {c : Content} (h : Holds T room label k bytes p c) → class label k p ≡ index h
 index-class {label = label} {k = k} {p = p} (holds_number single numeric typed e) = class-single label k p false single (ap (λ w. w == 2) typed ∙ numeric-test k numeric)
-index-class {label = label} {k = k} {p = p} (holds_piece s e ws packed at whole is) = class-len label k p s e (packed-single label k packed) at ∙ numeric-class k (packed-numeric label k packed)
+index-class {label = label} {k = k} {p = p} (holds_piece s e ws packed at whole is) =
+    class-len label k p s e (packed-single label k packed) at ∙ numeric-class k (packed-numeric label k packed)
 index-class {label = label} {k = k} {p = p} (holds_text s e single kind at utf8 is) = class-len label k p s e single at ∙ ap kind_class kind
 index-class {label = label} {k = k} {p = p} (holds_octets s e single kind at is) = class-len label k p s e single at ∙ ap kind_class kind
 index-class {label = label} {k = k} {p = p} (holds_message inside i s e t single kind at room reads is) = class-len label k p s e single at ∙ ap kind_class kind
 index-class {label = label} {k = k} {p = p} (holds_entry key s e t map at reads room is) = class-map label k p key map
 
-abbrev fail_index : {T : Table} {room : ℕ} {label : Label} {k : Kind} {bytes : List ℕ} {p : Payload} {reason : DecodeReason} {place : ℕ} → Fails T room label k bytes p reason place → ℕ
+abbrev fail_index : {T : Table} {room : ℕ} {label : Label} {k : Kind} {bytes : List ℕ} {p : Payload} {reason
+    : DecodeReason} {place : ℕ} → Fails T room label k bytes p reason place → ℕ
 fail_index (no_elements e packed at is none) = 1
 fail_index (no_text e single kind at is none) = 2
 fail_index (too_deep i e single kind at room is) = 4
@@ -117,8 +122,10 @@ fail_index (in_message inside i s e single kind at room faults) = 4
 fail_index (in_entry key s e map at faults) = 5
 fail_index (no_room key e t map at reads room is) = 5
 
-fail-class : {T : Table} {room : ℕ} {label : Label} {k : Kind} {bytes : List ℕ} {p : Payload} {reason : DecodeReason} {place : ℕ} (h : Fails T room label k bytes p reason place) → class label k p ≡ fail_index h
-fail-class {label = label} {k = k} {p = p} {place = s} (no_elements e packed at is none) = class-len label k p s e (packed-single label k packed) at ∙ numeric-class k (packed-numeric label k packed)
+fail-class : {T : Table} {room : ℕ} {label : Label} {k : Kind} {bytes : List ℕ} {p : Payload} {reason
+    : DecodeReason} {place : ℕ} (h : Fails T room label k bytes p reason place) → class label k p ≡ fail_index h
+fail-class {label = label} {k = k} {p = p} {place = s} (no_elements e packed at is none) =
+    class-len label k p s e (packed-single label k packed) at ∙ numeric-class k (packed-numeric label k packed)
 fail-class {label = label} {k = k} {p = p} {place = s} (no_text e single kind at is none) = class-len label k p s e single at ∙ ap kind_class kind
 fail-class {label = label} {k = k} {p = p} {place = s} (too_deep i e single kind at room is) = class-len label k p s e single at ∙ ap kind_class kind
 fail-class {label = label} {k = k} {p = p} (in_message inside i s e single kind at room faults) = class-len label k p s e single at ∙ ap kind_class kind
@@ -140,7 +147,9 @@ map-suits : (label : Label) (k : Kind) (p : Payload) (s e : ℕ) (key : Kind) �
 map-suits label k p s e key map at = own-suits label k p (ap payload_type at ∙ sym (ap (λ l. own_type l k) map))
 
 packed-suits : (label : Label) (k : Kind) (p : Payload) (s e : ℕ) → may_be_packed label k ≡ true → p ≡ Len s e → suits label k p ≡ true
-packed-suits label k p s e packed at = or_right (payload_type p == own_type label k) (may_be_packed label k && (payload_type p == 2)) (ap (λ b. b && (payload_type p == 2)) packed ∙ len-test p s e at)
+packed-suits label k p s e packed at =
+    or_right (payload_type p == own_type label k) (may_be_packed label k && (payload_type p == 2))
+    (ap (λ b. b && (payload_type p == 2)) packed ∙ len-test p s e at)
 
 pub holds-suits : {T : Table} {room : ℕ} {label : Label} {k : Kind} {bytes : List ℕ} {p : Payload} {c : Content} → Holds T room label k bytes p c → suits label k p ≡ true
 holds-suits {label = label} {k = k} {p = p} (holds_number single numeric typed e) = own-suits label k p (typed ∙ sym (own-single label k single))
@@ -150,7 +159,8 @@ holds-suits {label = label} {k = k} {p = p} (holds_octets s e single kind at is)
 holds-suits {label = label} {k = k} {p = p} (holds_message inside i s e t single kind at room reads is) = len-suits label k p s e single (ap wire_type_of kind) at
 holds-suits {label = label} {k = k} {p = p} (holds_entry key s e t map at reads room is) = map-suits label k p s e key map at
 
-fails-suits : {T : Table} {room : ℕ} {label : Label} {k : Kind} {bytes : List ℕ} {p : Payload} {reason : DecodeReason} {place : ℕ} → Fails T room label k bytes p reason place → suits label k p ≡ true
+fails-suits : {T : Table} {room : ℕ} {label : Label} {k : Kind} {bytes : List ℕ} {p : Payload} {reason
+    : DecodeReason} {place : ℕ} → Fails T room label k bytes p reason place → suits label k p ≡ true
 fails-suits {label = label} {k = k} {p = p} {place = s} (no_elements e packed at is none) = packed-suits label k p s e packed at
 fails-suits {label = label} {k = k} {p = p} {place = s} (no_text e single kind at is none) = len-suits label k p s e single (ap wire_type_of kind) at
 fails-suits {label = label} {k = k} {p = p} {place = s} (too_deep i e single kind at room is) = len-suits label k p s e single (ap wire_type_of kind) at
@@ -195,7 +205,8 @@ mutual
       let rests = reads-same law g (subst N same g') in
       is ∙ ap (λ x. field r.number x rest) contents ∙ ap (field r.number c') rests ∙ ap (λ x. field x.number c' rest') (sym same) ∙ sym is'
 
-  holds-same : Law → {T : Table} {room : ℕ} {label : Label} {k : Kind} {bytes : List ℕ} {p : Payload} {c d : Content} → Holds T room label k bytes p c → Holds T room label k bytes p d → c ≡ d
+  holds-same : Law → {T : Table} {room : ℕ} {label : Label} {k : Kind} {bytes : List ℕ} {p : Payload} {c d : Content}
+      → Holds T room label k bytes p c → Holds T room label k bytes p d → c ≡ d
   holds-same law (holds_number single numeric typed is) (holds_number single' numeric' typed' is') = is ∙ sym is'
   holds-same law {k = k} {bytes = bytes} (holds_piece s e ws packed at whole is) (holds_piece s' e' ws' packed' at' whole' is') =
       let same : Len s' e' ≡ Len s e = sym at' ∙ at in
@@ -215,7 +226,9 @@ mutual
       let starts : s ≡ s' = cc in
       let ends : e ≡ e' = cc in
       is ∙ ap (λ x. one (run (slice_range bytes x e))) starts ∙ ap (λ x. one (run (slice_range bytes s' x))) ends ∙ sym is'
-  holds-same law {T} {room} {label} {k} {bytes} {p} {c} {d} (holds_message inside i s e t single kind at room_is reads is) (holds_message inside' i' s' e' t' single' kind' at' room_is' reads' is') =
+  holds-same law {T} {room} {label} {k} {bytes} {p} {c} {d}
+      (holds_message inside i s e t single kind at room_is reads is)
+      (holds_message inside' i' s' e' t' single' kind' at' room_is' reads' is') =
       let same : Len s' e' ≡ Len s e = sym at' ∙ at in
       let starts : s' ≡ s = cc in
       let ends : e' ≡ e = cc in
@@ -242,7 +255,9 @@ mutual
   holds-same law a b = absurd (let h : index a ≡ index b = sym (index-class a) ∙ index-class b in omega (arith, h))
 
 -- a single number, and bytes, have no fault of their own
-fail-kinds : {T : Table} {room : ℕ} {label : Label} {k : Kind} {bytes : List ℕ} {p : Payload} {reason : DecodeReason} {place : ℕ} (h : Fails T room label k bytes p reason place) → (0 < fail_index h) × (fail_index h ≢ 3)
+fail-kinds : {T : Table} {room : ℕ} {label : Label} {k : Kind} {bytes : List ℕ} {p : Payload} {reason
+    : DecodeReason} {place : ℕ} (h : Fails T room label k bytes p reason place)
+    → (0 < fail_index h) × (fail_index h ≢ 3)
 fail-kinds (no_elements e packed at is none) = (omega arith, λ e. omega (arith, e))
 fail-kinds (no_text e single kind at is none) = (omega arith, λ e. omega (arith, e))
 fail-kinds (too_deep i e single kind at room is) = (omega arith, λ e. omega (arith, e))
@@ -251,7 +266,9 @@ fail-kinds (in_entry key s e map at faults) = (omega arith, λ e. omega (arith, 
 fail-kinds (no_room key e t map at reads room is) = (omega arith, λ e. omega (arith, e))
 
 mutual
-  pub reads-faultless : Law → {T : Table} {room : ℕ} {fs : List Field} {bytes : List ℕ} {at : ℕ} {t : Node} {reason : DecodeReason} {place : ℕ} → Reads T room fs bytes at t → Faults T room fs bytes at reason place → ⊥
+  pub reads-faultless : Law
+      → {T : Table} {room : ℕ} {fs : List Field} {bytes : List ℕ} {at : ℕ} {t : Node} {reason : DecodeReason} {place
+      : ℕ} → Reads T room fs bytes at t → Faults T room fs bytes at reason place → ⊥
   reads-faultless law (read_end a b) (no_record f more fault is at_is) = omega (arith, more, a)
   reads-faultless law {bytes = bytes} {at = at} (read_end a b) (behind_other r here other g) = let h = record-ahead bytes at r here in omega (arith, h, a)
   reads-faultless law {bytes = bytes} {at = at} (read_end a b) (behind_known r f c here at_f holds g) = let h = record-ahead bytes at r here in omega (arith, h, a)
@@ -278,7 +295,9 @@ mutual
       let one_field : f' ≡ f = some-same f' f (field_at fs r.number) (subst F same at_f') at_f in
       holds-faultless law holds (subst G one_field (subst H same fails))
 
-  holds-faultless : Law → {T : Table} {room : ℕ} {label : Label} {k : Kind} {bytes : List ℕ} {p : Payload} {c : Content} {reason : DecodeReason} {place : ℕ} → Holds T room label k bytes p c → Fails T room label k bytes p reason place → ⊥
+  holds-faultless : Law
+      → {T : Table} {room : ℕ} {label : Label} {k : Kind} {bytes : List ℕ} {p : Payload} {c : Content} {reason
+      : DecodeReason} {place : ℕ} → Holds T room label k bytes p c → Fails T room label k bytes p reason place → ⊥
   holds-faultless law {k = k} {bytes = bytes} {place = place} (holds_piece s e ws packed at whole is) (no_elements e' packed' at' is' none) =
       let same : Len s e ≡ Len place e' = sym at ∙ at' in
       let starts : s ≡ place = cc in
@@ -293,8 +312,12 @@ mutual
       let P : ℕ → Type 0 = λ x. IsUtf8 (slice_range bytes x e) in
       let Q : ℕ → Type 0 = λ x. IsUtf8 (slice_range bytes place x) in
       none (subst Q ends (subst P starts utf8))
-  holds-faultless law (holds_message inside i s e t single kind at room_is reads is) (too_deep i' e' single' kind' at' room_is' is') = (let h : suc inside ≡ 0 = sym room_is ∙ room_is' in omega (arith, h))
-  holds-faultless law {T} {room} {label} {k} {bytes} {p} {c} {reason} {place} (holds_message inside i s e t single kind at room_is reads is) (in_message inside' i' s' e' single' kind' at' room_is' faults') =
+  holds-faultless law (holds_message inside i s e t single kind at room_is reads is)
+      (too_deep i' e' single' kind' at' room_is' is') = (let h : suc inside ≡ 0 = sym room_is ∙ room_is' in
+      omega (arith, h))
+  holds-faultless law {T} {room} {label} {k} {bytes} {p} {c} {reason} {place}
+      (holds_message inside i s e t single kind at room_is reads is)
+      (in_message inside' i' s' e' single' kind' at' room_is' faults') =
       let same : Len s' e' ≡ Len s e = sym at' ∙ at in
       let starts : s' ≡ s = cc in
       let ends : e' ≡ e = cc in
@@ -342,7 +365,9 @@ fails-at law T room fs bytes at r r' f f' reason place here here' at_f at_f' fai
     subst G one_field (subst H same fails)
 
 -- an entry that is read has no fault
-entry-faultless : Law → (T : Table) (room : ℕ) (label : Label) (k : Kind) (bytes : List ℕ) (p : Payload) (key key' : Kind) (s e s' e' : ℕ) (t : Node) (reason : DecodeReason) (place : ℕ)
+entry-faultless : Law
+    → (T : Table) (room : ℕ) (label : Label) (k : Kind) (bytes : List ℕ) (p : Payload) (key key' : Kind)
+    (s e s' e' : ℕ) (t : Node) (reason : DecodeReason) (place : ℕ)
     → label ≡ Map key → label ≡ Map key' → p ≡ Len s e → p ≡ Len s' e'
     → Reads T room (entry_fields key' k) (take e' bytes) s' t → Faults T room (entry_fields key k) (take e bytes) s reason place → ⊥
 entry-faultless law T room label k bytes p key key' s e s' e' t reason place map map' at at' reads faults =
@@ -398,9 +423,15 @@ mutual
   fails-same law {p = p} {place = s} {there = s'} (no_elements e packed at is none) (no_elements e' packed' at' is' none') = (is ∙ sym is', len-start p s e s' e' at at')
   fails-same law {p = p} {place = s} {there = s'} (no_text e single kind at is none) (no_text e' single' kind' at' is' none') = (is ∙ sym is', len-start p s e s' e' at at')
   fails-same law {p = p} {place = s} {there = s'} (too_deep i e single kind at room is) (too_deep i' e' single' kind' at' room' is') = (is ∙ sym is', len-start p s e s' e' at at')
-  fails-same law (too_deep i e single kind at room_is is) (in_message inside i' s' e' single' kind' at' room_is' faults') = absurd (let h : suc inside ≡ 0 = sym room_is' ∙ room_is in omega (arith, h))
-  fails-same law (in_message inside i s e single kind at room_is faults) (too_deep i' e' single' kind' at' room_is' is') = absurd (let h : suc inside ≡ 0 = sym room_is ∙ room_is' in omega (arith, h))
-  fails-same law {T} {room} {label} {k} {bytes} {p} {reason} {why} {place} {there} (in_message inside i s e single kind at room_is faults) (in_message inside' i' s' e' single' kind' at' room_is' faults') =
+  fails-same law (too_deep i e single kind at room_is is)
+      (in_message inside i' s' e' single' kind' at' room_is' faults') =
+      absurd (let h : suc inside ≡ 0 = sym room_is' ∙ room_is in omega (arith, h))
+  fails-same law (in_message inside i s e single kind at room_is faults)
+      (too_deep i' e' single' kind' at' room_is' is') = absurd (let h : suc inside ≡ 0 = sym room_is ∙ room_is' in
+      omega (arith, h))
+  fails-same law {T} {room} {label} {k} {bytes} {p} {reason} {why} {place} {there}
+      (in_message inside i s e single kind at room_is faults)
+      (in_message inside' i' s' e' single' kind' at' room_is' faults') =
       let same : Len s' e' ≡ Len s e = sym at' ∙ at in
       let starts : s' ≡ s = cc in
       let ends : e' ≡ e = cc in

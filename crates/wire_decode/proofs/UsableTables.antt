@@ -1,6 +1,7 @@
 -- What of a valid table the meaning of bytes rests on: in each message the numbers rise from 1 to below 2^29, no
 -- key is a message, and what is packed is a number.
-use Rattle.std.proofs.Common.{◌≡◌, ℕ, zero, suc, ◌^◌, ◌<◌, ◌≤◌, List, [], ◌∷◌, length, get_or, All, Some, None, true, false, refl, subst, ◌∙◌, arith, slice_get, option_map, unwrap_or}
+use Rattle.std.proofs.Common.{◌≡◌, ℕ, zero, suc, ◌^◌, ◌<◌, ◌≤◌, List, [], ◌∷◌, length, get_or, All, Some, None, true}
+use Rattle.std.proofs.Common.{false, refl, subst, ◌∙◌, arith, slice_get, option_map, unwrap_or}
 use Rattle.std.proofs.lemmas.List.Elements.{All-head, All-tail}
 use Rattle.mrpc_table.specs.Normal.{fields_of, field_at}
 use Rattle.mrpc_table.specs.Words.{is_numeric, is_key}
@@ -50,12 +51,17 @@ usable-field T oneofs f h = record {
   packed = λ e. label-packed oneofs f.label f.kind h.label e;
 }
 
-usable-from : (T : Table) (oneofs last : ℕ) (fs : List Field) → All (IsField T oneofs) fs → Ascends (λ f g. f.number < g.number) fs → ((f : Field) → (0 < length fs) → get_or fs 0 f ≡ f → last < f.number) → AreFieldsFrom last fs
+usable-from : (T : Table) (oneofs last : ℕ) (fs : List Field) → All (IsField T oneofs) fs
+    → Ascends (λ f g. f.number < g.number) fs → ((f : Field) → (0 < length fs) → get_or fs 0 f ≡ f → last < f.number)
+    → AreFieldsFrom last fs
 usable-from T oneofs last [] all ascends first = tt
 usable-from T oneofs last (f ∷ []) all ascends first = (first f (omega arith) refl, usable-field T oneofs f (All-head (IsField T oneofs) f [] all), tt)
 usable-from T oneofs last (f ∷ g ∷ fs) all ascends first =
-    let next : (h : Field) → (0 < length (g ∷ fs)) → g ≡ h → f.number < h.number = λ h less e. subst (λ (x : Field). f.number < x.number) e ascends.0 in
-    (first f (omega arith) refl, usable-field T oneofs f (All-head (IsField T oneofs) f (g ∷ fs) all), usable-from T oneofs f.number (g ∷ fs) (All-tail (IsField T oneofs) f (g ∷ fs) all) ascends.1 next)
+    let next : (h : Field) → (0 < length (g ∷ fs)) → g ≡ h → f.number < h.number = λ h less e. subst (λ (x : Field). f.number < x.number) e ascends.0 in (
+      first f (omega arith) refl,
+      usable-field T oneofs f (All-head (IsField T oneofs) f (g ∷ fs) all),
+      usable-from T oneofs f.number (g ∷ fs) (All-tail (IsField T oneofs) f (g ∷ fs) all) ascends.1 next,
+    )
 
 positive-first : (T : Table) (oneofs : ℕ) (fs : List Field) → All (IsField T oneofs) fs → (f : Field) → (0 < length fs) → get_or fs 0 f ≡ f → 0 < f.number
 positive-first T oneofs [] all f less e = absurd (omega (arith, less))

@@ -17,7 +17,9 @@ OnePayload = (bytes : List ℕ) (at w : ℕ) (p q : Payload) (next other : ℕ) 
 
 -- a payload or a reason stands at a place, a record or a fault, one of them, and never both
 pub record Law : Type 0 where
-  pub some_payload : (bytes : List ℕ) (at w : ℕ) → IsWireType w → at ≤ length bytes → ((p : Payload) × (next : ℕ) × PayloadAt bytes at w p next) ⊎ ((reason : WireReason) × NoPayloadAt bytes at w reason)
+  pub some_payload : (bytes : List ℕ) (at w : ℕ) → IsWireType w → at ≤ length bytes
+      → ((p : Payload) × (next : ℕ) × PayloadAt bytes at w p next)
+      ⊎ ((reason : WireReason) × NoPayloadAt bytes at w reason)
   pub no_payload : (bytes : List ℕ) (at w : ℕ) (p : Payload) (next : ℕ) (reason : WireReason) → PayloadAt bytes at w p next → NoPayloadAt bytes at w reason → ⊥
   pub one_payload : OnePayload
   pub some_record : (bytes : List ℕ) (at : ℕ) → at ≤ length bytes → ((r : Record) × RecordAt bytes at r) ⊎ ((f : WireFault) × FaultAt bytes at f)

@@ -1,4 +1,4 @@
--- What stands behind a record of a oneof.
+-- The code's own: what stands behind a record of a oneof.
 use Rattle.std.specs.Prelude.{◌≡◌, ◌≢◌, ◌==◌, ◌||◌, ℕ, Bool, true, false, not, Some, None, List, slice_index_or}
 use Rattle.mrpc_table.specs.Node.{Node, no_fields, field, Content}
 use Rattle.mrpc_table.specs.declared.table.Field.{Field}

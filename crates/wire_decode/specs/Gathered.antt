@@ -1,4 +1,4 @@
--- The contents of a field's records in one content, which means what they mean.
+-- The code's own: the contents of a field's records in one content, which means what they mean.
 use Rattle.std.specs.Prelude.{◌≡◌, ◌≢◌, ℕ, ◌<◌, ◌≤◌, Bool, true, false, Option, Some, None, option_and_then, List, [], ◌∷◌, ◌++◌}
 use Rattle.mrpc_table.specs.Node.{Node, no_fields, field, Content, Item}
 use Rattle.mrpc_table.specs.Normal.{field_at}

@@ -1,4 +1,4 @@
--- What the readers of one payload find.
+-- The code's own: what the readers of one payload find.
 use Rattle.std.specs.Prelude.{◌≡◌, ℕ, suc, ◌⊎◌, List}
 use Rattle.mrpc_table.specs.Node.{Node, Content, one, many, node}
 use Rattle.mrpc_table.specs.Normal.{fields_of}

@@ -19,7 +19,7 @@ use Rattle.wire_base.specs.declared.records.Payload.{Payload}
 use Rattle.wire_base.specs.declared.records.Payload.TheVariants.{Len}
 use Rattle.wire_decode.specs.Words.{word_of, number_in, payload_type, is_map, may_be_packed, suits, AreElements}
 
--- whether a record is of a field of the message and of the field's own wire type
+-- whether a record is of a field of the message and of a wire type from which that field is read
 abbrev pub is_known : List Field → Record → Bool
 is_known fs r = unwrap_or (option_map (λ f. suits f.label f.kind r.payload) (field_at fs r.number)) false
 

@@ -59,7 +59,7 @@ pub fn add(
     Ok(())
 }
 
-/// Two contents of a field in one.
+// Two contents of a field in one.
 fn joined(
     alloc: Global,
     before: FieldValue,
@@ -75,7 +75,7 @@ fn joined(
     }
 }
 
-/// The values of two contents in one list.
+// The values of two contents in one list.
 fn listed(alloc: Global, before: FieldValue, content: FieldValue) -> Result<FieldValue, Memory>
     ensures { IfOk result
         (λ c. values_in (content_of c ∷ [])
@@ -85,7 +85,7 @@ fn listed(alloc: Global, before: FieldValue, content: FieldValue) -> Result<Fiel
     Ok(FieldValue::Many(values))
 }
 
-/// Two contents of a singular field in one.
+// Two contents of a singular field in one.
 fn singles(before: FieldValue, content: FieldValue, is_message: bool) -> Result<FieldValue, Memory>
     ensures { IfOk result
         (λ c. AreSingles is_message (content_of before) (content_of content) (content_of c)) }
@@ -126,7 +126,7 @@ fn joined_message(before: Value, value: Value) -> Result<Value, Memory>
     }
 }
 
-/// The fields of two messages, one behind another.
+// The fields of two messages, one behind another.
 fn joined_tree(tree: Tree, more: Tree) -> Result<Tree, Memory>
     ensures { IfOk result (λ t. t ≡ join_fields tree more) }
 {
@@ -151,7 +151,7 @@ pub fn values_of(alloc: Global, content: FieldValue) -> Result<Values, Memory>
     }
 }
 
-/// The values, and those of a content behind them.
+// The values, and those of a content behind them.
 fn appended(values: Values, content: FieldValue) -> Result<Values, Memory>
     ensures { IfOk result
         (λ vs. map item_of vs.items ≡ map item_of values.items ++ values_in (content_of content ∷ [])) }

@@ -89,7 +89,7 @@ pub fn decode_with(
     decoded(alloc, spare, bytes, table, msg)
 }
 
-/// The same for any table whose fields stand in order.
+// The same for any table whose fields stand in order.
 fn decoded(
     alloc: Global,
     spare: &mut Spare,
@@ -112,7 +112,7 @@ fn decoded(
     }
 }
 
-/// The same for records in any order.
+// The same for records in any order.
 fn merged_records(alloc: Global, bytes: &[u8], table: &Table, msg: u32) -> Result<Tree, DecodeFault>
     requires { AllAscend table.now }
     ensures means { IfOk result (λ t. Merges table.now msg bytes.now t) }

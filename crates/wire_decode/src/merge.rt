@@ -46,7 +46,7 @@ pub fn merged(
     Ok(Tree { fields })
 }
 
-/// The contents by ascending number, those of one number in their order.
+// The contents by ascending number, those of one number in their order.
 fn by_number(raw: Numbered) -> Result<Numbered, Memory>
     ensures sorted { IfOk result (λ parts. NeverFallFrom 0 (node_of parts.items)) }
     ensures same { IfOk result
@@ -60,7 +60,7 @@ fn by_number(raw: Numbered) -> Result<Numbered, Memory>
     Ok(parts)
 }
 
-/// Whether no number is below the one before it.
+// Whether no number is below the one before it.
 fn ascends(raw: &Numbered) -> bool
     ensures { IsTrue result → NeverFallFrom 0 (node_of raw.now.items) }
 {
@@ -74,7 +74,7 @@ fn ascends(raw: &Numbered) -> bool
     true
 }
 
-/// The contents of each number in one.
+// The contents of each number in one.
 fn gathered(alloc: Global, raw: Numbered, fields: &[Field]) -> Result<Numbered, Memory>
     requires ascend { FieldsAscend fields.now }
     requires sorted { NeverFallFrom 0 (node_of raw.items) }
@@ -90,7 +90,7 @@ fn gathered(alloc: Global, raw: Numbered, fields: &[Field]) -> Result<Numbered, 
     Ok(held)
 }
 
-/// How the contents of the field of a number become one, and its place.
+// How the contents of the field of a number become one, and its place.
 fn form_at(fields: &[Field], number: u32, hint: usize) -> (Form, usize)
     requires { FieldsAscend fields.now }
     ensures { (f : Field) → field_at fields.now number ≡ Some f → result.0 ≡ form_of f.label f.kind }
@@ -104,7 +104,7 @@ fn form_at(fields: &[Field], number: u32, hint: usize) -> (Form, usize)
     }
 }
 
-/// What each field has, from its contents in one.
+// What each field has, from its contents in one.
 #[cycle(merge)]
 fn finished(
     alloc: Global,
@@ -129,7 +129,7 @@ fn finished(
     Ok(whole)
 }
 
-/// What the field of a number has, and the field's place.
+// What the field of a number has, and the field's place.
 #[cycle(merge)]
 fn finish(
     alloc: Global,
@@ -177,7 +177,7 @@ pub fn push_content(
     }
 }
 
-/// What a field has, or nothing.
+// What a field has, or nothing.
 #[cycle(merge)]
 fn field_content(
     alloc: Global,
@@ -260,7 +260,7 @@ pub fn present_if_set(value: Option<Value>) -> Option<FieldValue>
     }
 }
 
-/// Whether a value is a number of 0, or a run of nothing.
+// Whether a value is a number of 0, or a run of nothing.
 fn is_default(value: &Value) -> bool
     ensures { result ≡ is_default (item_of value.now) }
 {
@@ -271,7 +271,7 @@ fn is_default(value: &Value) -> bool
     }
 }
 
-/// The value of a singular field.
+// The value of a singular field.
 #[cycle(merge)]
 fn singular(
     alloc: Global,
@@ -291,7 +291,7 @@ fn singular(
     }
 }
 
-/// A value, where a message is merged.
+// A value, where a message is merged.
 #[cycle(merge)]
 fn element(
     alloc: Global,
@@ -312,7 +312,7 @@ fn element(
     }
 }
 
-/// The fields of a message.
+// The fields of a message.
 fn fields_in(alloc: Global, value: Value) -> Numbered
     ensures { node_of result.items ≡ joined (item_of value ∷ []) }
 {
@@ -322,7 +322,7 @@ fn fields_in(alloc: Global, value: Value) -> Numbered
     }
 }
 
-/// The elements of a repeated field.
+// The elements of a repeated field.
 #[cycle(merge)]
 fn elements(
     alloc: Global,
@@ -346,7 +346,7 @@ fn elements(
     Ok(elements)
 }
 
-/// The entries of a map.
+// The entries of a map.
 #[cycle(merge)]
 fn entries(
     alloc: Global,
@@ -369,7 +369,7 @@ fn entries(
     last_of_each(alloc, entries, key)
 }
 
-/// The key and the value of an entry.
+// The key and the value of an entry.
 #[cycle(merge)]
 fn entry(
     alloc: Global,
@@ -395,7 +395,7 @@ fn entry(
     Ok((key, value))
 }
 
-/// The keys and the values of an entry, each in one, with one content more.
+// The keys and the values of an entry, each in one, with one content more.
 fn noted(
     keys: Option<Value>,
     values: Option<Value>,
@@ -431,7 +431,7 @@ fn noted(
     }
 }
 
-/// The values of a singular field in one, and one more.
+// The values of a singular field in one, and one more.
 fn with(before: Option<Value>, value: Value, kind: Kind) -> Result<Value, Memory>
     ensures { IfOk result
         (λ v. IsWith kind (option_map item_of before) (item_of value) (item_of v)) }
@@ -442,7 +442,7 @@ fn with(before: Option<Value>, value: Value, kind: Kind) -> Result<Value, Memory
     }
 }
 
-/// A part of an entry; where it is missing, the default.
+// A part of an entry; where it is missing, the default.
 #[cycle(merge)]
 fn part(
     alloc: Global,
@@ -461,7 +461,7 @@ fn part(
     }
 }
 
-/// The default of a kind.
+// The default of a kind.
 fn default_of(alloc: Global, kind: Kind) -> Value
     ensures { item_of result ≡ default_of kind }
 {

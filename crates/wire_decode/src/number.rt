@@ -22,14 +22,14 @@ pub fn word_of(kind: Kind, v: u64) -> u64
     }
 }
 
-/// The low 32 bits.
+// The low 32 bits.
 fn low(v: u64) -> u32
     ensures { result ≡ v % 2 ^ 32 }
 {
     (v % (1 << 32)) as u32
 }
 
-/// A word of 32 bits in two's complement as one of 64 bits.
+// A word of 32 bits in two's complement as one of 64 bits.
 fn sign_extended(v: u32) -> u64
     ensures { result ≡ sign_extended v }
 {
@@ -40,7 +40,7 @@ fn sign_extended(v: u32) -> u64
     }
 }
 
-/// The word whose ZigZag number is `v`.
+// The word whose ZigZag number is `v`.
 fn unzigzag_word(v: u64) -> u64
     ensures { result ≡ unzigzag_of v }
 {

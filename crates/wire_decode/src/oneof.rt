@@ -10,7 +10,7 @@ ghost use Rattle.wire_decode.specs.Behind.{overtakes, IsInFront, IsNoted, Tell, 
 use mrpc_table::{Field, FieldValue, Label, Memory, Numbered, find_field};
 use std::alloc::Global;
 
-/// The members of a oneof among the records behind a place.
+// The members of a oneof among the records behind a place.
 #[derive(Clone, Copy)]
 enum Behind {
     Nothing,
@@ -18,7 +18,7 @@ enum Behind {
     Several,
 }
 
-/// Whether another member's record stands behind one of this number.
+// Whether another member's record stands behind one of this number.
 fn overtakes(behind: Behind, number: u32) -> bool
     ensures { result ≡ overtakes behind number }
 {
@@ -29,7 +29,7 @@ fn overtakes(behind: Behind, number: u32) -> bool
     }
 }
 
-/// What stands behind, with a record of this number in front.
+// What stands behind, with a record of this number in front.
 fn in_front(behind: Behind, number: u32) -> Behind
     ensures { IsInFront behind number result }
 {
@@ -58,7 +58,7 @@ pub fn counted(alloc: Global, raw: Numbered, fields: &[Field]) -> Result<Numbere
     }
 }
 
-/// The contents that count, found from the last one to the first.
+// The contents that count, found from the last one to the first.
 fn counted_behind(alloc: Global, raw: Numbered, fields: &[Field]) -> Result<Numbered, Memory>
     requires { FieldsAscend fields.now }
     ensures { IfOk result (λ kept. node_of kept.items ≡ counted fields.now (node_of raw.items)) }
@@ -74,7 +74,7 @@ fn counted_behind(alloc: Global, raw: Numbered, fields: &[Field]) -> Result<Numb
     Ok(kept)
 }
 
-/// Appends a part that counts.
+// Appends a part that counts.
 fn keep_if(kept: &mut Numbered, part: (u32, FieldValue), counts: bool) -> Result<(), Memory>
     ensures { OnOk result
         (kept.new.items ≡ (if counts then kept.old.items ++ part ∷ [] else kept.old.items)) }
@@ -85,7 +85,7 @@ fn keep_if(kept: &mut Numbered, part: (u32, FieldValue), counts: bool) -> Result
     Ok(())
 }
 
-/// Whether a record counts, given what stands behind it; it is noted.
+// Whether a record counts, given what stands behind it; it is noted.
 fn counts(behind: &mut Vec<Behind>, fields: &[Field], number: u32) -> Result<bool, Memory>
     requires { FieldsAscend fields.now }
     ensures { IfOk result (λ b. IsCounted fields.now behind.old.items number behind.new.items b) }
@@ -96,7 +96,7 @@ fn counts(behind: &mut Vec<Behind>, fields: &[Field], number: u32) -> Result<boo
     }
 }
 
-/// Notes a record of a oneof, and says whether it counts.
+// Notes a record of a oneof, and says whether it counts.
 fn note(behind: &mut Vec<Behind>, oneof: usize, number: u32) -> Result<bool, Memory>
     requires { oneof < 2 ^ 32 }
     ensures noted { OnOk result (IsNoted behind.old.items oneof number behind.new.items) }
@@ -109,7 +109,7 @@ fn note(behind: &mut Vec<Behind>, oneof: usize, number: u32) -> Result<bool, Mem
     Ok(!overtakes(tail, number))
 }
 
-/// Makes a place for a oneof.
+// Makes a place for a oneof.
 fn grow(behind: &mut Vec<Behind>, oneof: usize) -> Result<(), Memory>
     requires { oneof < 2 ^ 32 }
     ensures within { OnOk result (oneof < length behind.new.items) }
@@ -123,7 +123,7 @@ fn grow(behind: &mut Vec<Behind>, oneof: usize) -> Result<(), Memory>
     Ok(())
 }
 
-/// Whether a record is of a member of a oneof.
+// Whether a record is of a member of a oneof.
 fn has_member(raw: &Numbered, fields: &[Field]) -> bool
     requires { FieldsAscend fields.now }
     ensures { result ≡ false → HasNoMember fields.now (node_of raw.now.items) }
@@ -136,7 +136,7 @@ fn has_member(raw: &Numbered, fields: &[Field]) -> bool
     false
 }
 
-/// The oneof that the field of a number is a member of.
+// The oneof that the field of a number is a member of.
 fn oneof_at(fields: &[Field], number: u32) -> Option<usize>
     requires { FieldsAscend fields.now }
     ensures value { result ≡ oneof_at fields.now number }

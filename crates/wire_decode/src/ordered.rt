@@ -69,7 +69,7 @@ pub fn ordered_message(
     Some(whole)
 }
 
-/// Whether a field of this label may stand behind members of the first so many oneofs: one of them is no rival.
+// Whether a field of this label may stand behind members of the first so many oneofs: one of them is no rival.
 fn may_follow(label: Label, oneofs: u64) -> bool
     ensures { result ≡ may_follow label oneofs }
 {
@@ -79,7 +79,7 @@ fn may_follow(label: Label, oneofs: u64) -> bool
     }
 }
 
-/// The number of the first oneofs of which members stand in front, with a field of this label, too.
+// The number of the first oneofs of which members stand in front, with a field of this label, too.
 fn oneofs_with(label: Label, oneofs: u64) -> u64
     ensures { result ≡ oneofs_with label oneofs }
 {
@@ -89,7 +89,7 @@ fn oneofs_with(label: Label, oneofs: u64) -> u64
     }
 }
 
-/// Appends what a field has whose first tag ends at `start`, and says where its records end.
+// Appends what a field has whose first tag ends at `start`, and says where its records end.
 #[cycle(ordered)]
 fn ordered_field(
     alloc: Global,
@@ -126,7 +126,7 @@ fn ordered_field(
     }
 }
 
-/// The same for a singular field.
+// The same for a singular field.
 #[cycle(ordered)]
 #[inline(always)]
 fn ordered_single(
@@ -158,7 +158,7 @@ fn ordered_single(
     Some(next)
 }
 
-/// The same for a number.
+// The same for a number.
 #[inline(always)]
 fn ordered_number(
     whole: &mut Numbered,
@@ -185,7 +185,7 @@ fn ordered_number(
     Some(next)
 }
 
-/// What a singular field with this value has: nothing for a default under implicit presence.
+// What a singular field with this value has: nothing for a default under implicit presence.
 #[inline(always)]
 fn single_content(label: Label, value: Value) -> Option<FieldValue>
     ensures { option_map content_of result ≡ single_content label (item_of value) }
@@ -196,7 +196,7 @@ fn single_content(label: Label, value: Value) -> Option<FieldValue>
     }
 }
 
-/// The same for a repeated field.
+// The same for a repeated field.
 #[cycle(ordered)]
 #[inline(never)]
 fn ordered_list(
@@ -230,7 +230,7 @@ fn ordered_list(
     Some(next)
 }
 
-/// The same for numbers in one packed piece.
+// The same for numbers in one packed piece.
 fn ordered_piece(
     alloc: Global,
     spare: &mut Spare,
@@ -259,7 +259,7 @@ fn ordered_piece(
     Some(end)
 }
 
-/// The same for a map.
+// The same for a map.
 #[cycle(ordered)]
 #[inline(never)]
 fn ordered_map(
@@ -288,7 +288,7 @@ fn ordered_map(
     Some(next)
 }
 
-/// The elements of a repeated field whose first tag ends at `start`, a record for each, and where the records end.
+// The elements of a repeated field whose first tag ends at `start`, a record for each, and where the records end.
 #[cycle(ordered)]
 fn ordered_values(
     alloc: Global,
@@ -321,9 +321,9 @@ fn ordered_values(
     None
 }
 
-/// Makes room in a new vector, for what the record in front has and for what those behind it have, of which the tag of
-/// the next one ends at `again`. Mostly there is none, and the bytes are not looked at. A vector that was used before
-/// grows as it needs to.
+// Makes room in a new vector, for what the record in front has and for what those behind it have, of which the tag of
+// the next one ends at `again`. Mostly there is none, and the bytes are not looked at. A vector that was used before
+// grows as it needs to.
 #[inline(always)]
 fn room_ahead<T>(vector: &mut Vec<T>, bytes: &[u8], again: Option<usize>, tag: u32) -> Option<()>
     requires { IfSome again (λ first. first ≤ length bytes.now) }
@@ -339,7 +339,7 @@ fn room_ahead<T>(vector: &mut Vec<T>, bytes: &[u8], again: Option<usize>, tag: u
     Some(())
 }
 
-/// The place behind the same tag, where it stands at a place.
+// The place behind the same tag, where it stands at a place.
 fn tag_again(bytes: &[u8], at: usize, tag: u32) -> Option<usize>
     requires { at ≤ length bytes.now }
     ensures found { IfSome result (λ behind. TagAt bytes.now at tag behind) }
@@ -350,8 +350,8 @@ fn tag_again(bytes: &[u8], at: usize, tag: u32) -> Option<usize>
     if next == tag { Some(behind) } else { None }
 }
 
-/// How many records stand here with this tag, of which the first ends at `start`, for records behind a length; for
-/// others 1. So many values find room.
+// How many records stand here with this tag, of which the first ends at `start`, for records behind a length; for
+// others 1. So many values find room.
 fn records_ahead(bytes: &[u8], start: usize, tag: u32) -> usize
     requires { start ≤ length bytes.now }
 {
@@ -365,7 +365,7 @@ fn records_ahead(bytes: &[u8], start: usize, tag: u32) -> usize
     1
 }
 
-/// Where the tag of the next record ends, if it is the same tag.
+// Where the tag of the next record ends, if it is the same tag.
 fn record_behind(bytes: &[u8], start: usize, tag: u32) -> Option<usize>
     requires { start ≤ length bytes.now }
     ensures { IfSome result (λ next. next ≤ length bytes.now) }
@@ -377,7 +377,7 @@ fn record_behind(bytes: &[u8], start: usize, tag: u32) -> Option<usize>
     tag_again(bytes, end, tag)
 }
 
-/// The entries of a map whose first tag ends at `start`, and where its records end.
+// The entries of a map whose first tag ends at `start`, and where its records end.
 #[cycle(ordered)]
 fn ordered_entries(
     alloc: Global,
@@ -416,7 +416,7 @@ fn ordered_entries(
     None
 }
 
-/// An entry that has its key and then its value.
+// An entry that has its key and then its value.
 #[cycle(ordered)]
 fn ordered_entry(
     alloc: Global,
@@ -449,7 +449,7 @@ fn ordered_entry(
     }
 }
 
-/// The value behind a tag, and where it ends.
+// The value behind a tag, and where it ends.
 #[cycle(ordered)]
 #[inline(never)]
 fn ordered_value(
@@ -494,7 +494,7 @@ fn number_value(
     Some((Value::Number(word_of(kind, v)), next))
 }
 
-/// Text behind its length.
+// Text behind its length.
 fn ordered_text(
     alloc: Global,
     spare: &mut Spare,
@@ -521,7 +521,7 @@ fn ordered_text(
     Some((Value::Run(run), end))
 }
 
-/// Bytes behind its length.
+// Bytes behind its length.
 fn ordered_octets(
     alloc: Global,
     spare: &mut Spare,
@@ -545,7 +545,7 @@ fn ordered_octets(
     Some((Value::Run(run), end))
 }
 
-/// A message behind its length.
+// A message behind its length.
 #[cycle(ordered)]
 fn ordered_node(
     alloc: Global,
@@ -581,7 +581,7 @@ fn ordered_node(
     Some((Value::Node(Tree { fields }), end))
 }
 
-/// The number behind a tag, and where it ends.
+// The number behind a tag, and where it ends.
 #[inline(always)]
 fn number_at(bytes: &[u8], start: usize, tag: u32, kind: Kind) -> Option<(u64, usize)>
     requires place { start ≤ length bytes.now }
@@ -599,7 +599,7 @@ fn number_at(bytes: &[u8], start: usize, tag: u32, kind: Kind) -> Option<(u64, u
     element(bytes, start, wire_type)
 }
 
-/// The place behind a length, and the place behind so many bytes.
+// The place behind a length, and the place behind so many bytes.
 fn span_at(bytes: &[u8], start: usize) -> Option<(usize, usize)>
     requires { start ≤ length bytes.now }
     ensures found { IfSome result (λ r. PayloadAt bytes.now start 2 (Len r.0 r.1) r.1) }

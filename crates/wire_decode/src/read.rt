@@ -68,7 +68,7 @@ pub fn read_message(
     Ok(parts)
 }
 
-/// The fault of a record as one of the message.
+// The fault of a record as one of the message.
 fn told(fault: WireFault) -> DecodeFault
     ensures { FaultsAs (λ reason place. (reason ≡ reason_of fault.reason) × (place ≡ fault.place)) result }
 {
@@ -85,7 +85,7 @@ fn told(fault: WireFault) -> DecodeFault
     }
 }
 
-/// What a record of a field has.
+// What a record of a field has.
 #[cycle(read)]
 fn content(
     alloc: Global,
@@ -124,7 +124,7 @@ fn number(kind: Kind, v: u64) -> FieldValue
     FieldValue::One(Value::Number(word_of(kind, v)))
 }
 
-/// The entry of a map.
+// The entry of a map.
 #[cycle(read)]
 fn entry(
     alloc: Global,
@@ -162,7 +162,7 @@ fn entry(
     Ok(FieldValue::One(Value::Node(Tree { fields })))
 }
 
-/// A message.
+// A message.
 #[cycle(read)]
 fn message(
     alloc: Global,
@@ -191,7 +191,7 @@ fn fault(reason: DecodeReason, place: usize) -> DecodeFault
     DecodeFault::At { reason, place }
 }
 
-/// A string: UTF-8. Its first byte stands at `place`.
+// A string: UTF-8. Its first byte stands at `place`.
 fn text(alloc: Global, bytes: &[u8], place: usize) -> Result<FieldValue, DecodeFault>
     ensures found { IfOk result (λ c. (content_of c ≡ one (run bytes.now)) × IsUtf8 bytes.now) }
     ensures fault { IfErr result
@@ -211,7 +211,7 @@ pub fn is_text(bytes: &[u8]) -> bool
     bytes.is_ascii() || str::from_utf8(bytes).is_ok()
 }
 
-/// Bytes.
+// Bytes.
 fn octets(alloc: Global, bytes: &[u8]) -> Result<FieldValue, DecodeFault>
     ensures found { IfOk result (λ c. content_of c ≡ one (run bytes.now)) }
     ensures fault { IfErr result (FaultsAs (λ reason at. ⊥)) }
@@ -220,7 +220,7 @@ fn octets(alloc: Global, bytes: &[u8]) -> Result<FieldValue, DecodeFault>
     Ok(FieldValue::One(Value::Run(run)))
 }
 
-/// A packed piece: numbers of the kind, one behind another to the end of the bytes.
+// A packed piece: numbers of the kind, one behind another to the end of the bytes.
 fn packed(alloc: Global, bytes: &[u8], start: usize, kind: Kind) -> Result<FieldValue, DecodeFault>
     requires place { start ≤ length bytes.now }
     requires numeric { is_numeric kind ≡ true }
@@ -262,7 +262,7 @@ pub fn elements(
     Ok(values)
 }
 
-/// How many elements of the wire type a packed piece has that is whole: so many find room.
+// How many elements of the wire type a packed piece has that is whole: so many find room.
 fn element_count(bytes: &[u8], wire_type: u64) -> usize {
     match wire_type {
         1 => bytes.len() / 8,
@@ -271,7 +271,7 @@ fn element_count(bytes: &[u8], wire_type: u64) -> usize {
     }
 }
 
-/// How many bytes end a varint.
+// How many bytes end a varint.
 fn ends_of_varints(bytes: &[u8]) -> usize
     ensures { result ≤ length bytes.now }
 {
@@ -302,7 +302,7 @@ pub fn element(bytes: &[u8], at: usize, wire_type: u64) -> Option<(u64, usize)>
     }
 }
 
-/// The value of the varint at a place, and the place behind it.
+// The value of the varint at a place, and the place behind it.
 fn varint(bytes: &[u8], at: usize) -> Option<(u64, usize)>
     requires { at ≤ length bytes.now }
     ensures found { IfSome result (λ e. VarintAt bytes.now at e.0 e.1) }

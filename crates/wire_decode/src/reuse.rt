@@ -7,13 +7,13 @@ use mrpc_table::{Bytes, Entries, FieldValue, Numbered, Tree, Value, Values};
 use std::alloc::Global;
 use std::marker::Model;
 
-/// How many vectors of each sort are kept at most.
+// How many vectors of each sort are kept at most.
 const MAX_KEPT: usize = 512;
 
-/// For how many fields, elements or entries a vector that is kept has room at most.
+// For how many fields, elements or entries a vector that is kept has room at most.
 const MAX_ROOM: usize = 256;
 
-/// For how many bytes a run that is kept has room at most.
+// For how many bytes a run that is kept has room at most.
 const MAX_RUN_ROOM: usize = 4096;
 
 /// Vectors of trees that are no longer needed, which later trees use again in place of new memory. What is decoded
@@ -139,7 +139,7 @@ impl Spare {
     }
 }
 
-/// Keeps a vector, unless there are enough of them or it has more room than `most`.
+// Keeps a vector, unless there are enough of them or it has more room than `most`.
 fn keep<T: Drop>(kept: &mut Vec<Vec<T>>, vector: Vec<T>, most: usize)
     requires { AreFew (rooms kept.old.items) most }
     ensures { AreFew (rooms kept.new.items) most }
@@ -149,7 +149,7 @@ fn keep<T: Drop>(kept: &mut Vec<Vec<T>>, vector: Vec<T>, most: usize)
     }
 }
 
-/// The vector that was kept last, emptied, or a new one.
+// The vector that was kept last, emptied, or a new one.
 fn empty<T: Drop>(alloc: Global, kept: &mut Vec<Vec<T>>) -> Vec<T>
     ensures value { result.items ≡ [] }
     ensures few { (most : ℕ) → AreFew (rooms kept.old.items) most → AreFew (rooms kept.new.items) most }

@@ -1,5 +1,6 @@
 -- Lists of passes' views after one has changed, and the last element of a list.
-use Rattle.std.proofs.Common.{◌≡◌, ◌≢◌, ◌≤◌, ℕ, zero, suc, ◌+◌, List, [], ◌∷◌, ◌++◌, length, length-append, set, take, refl, sym, ap, ◌∙◌, subst, append_assoc, append-nil, arith}
+use Rattle.std.proofs.Common.{◌≡◌, ◌≢◌, ◌≤◌, ℕ, zero, suc, ◌+◌, List, [], ◌∷◌, ◌++◌, length, length-append, set, take}
+use Rattle.std.proofs.Common.{refl, sym, ap, ◌∙◌, subst, append_assoc, append-nil, arith}
 use Rattle.std.specs.Prelude.{IsPermutation, IsSomeAnd, flat_map, slice_get, sum_by}
 use Rattle.std.proofs.lemmas.List.Sorted.{IsPermutation-append_right, IsPermutation-append_comm}
 use Rattle.std.proofs.lemmas.List.Sums.{sum_by-cons}
@@ -15,7 +16,8 @@ module _ {V : Type 0} where
 
   module _ (f : V → List ℕ) where
     -- one pass holds more
-    pub out_more : (views : List V) (pass : ℕ) (v w : V) (more : List ℕ) → get_elem? views pass ≡ some v → f w ≡ f v ++ more → IsPermutation (flat_map f views ++ more) (flat_map f (set views pass w))
+    pub out_more : (views : List V) (pass : ℕ) (v w : V) (more : List ℕ) → get_elem? views pass ≡ some v
+        → f w ≡ f v ++ more → IsPermutation (flat_map f views ++ more) (flat_map f (set views pass w))
     out_more [] pass v w more at e = absurd (some-ne-none v (sym at))
     out_more (x ∷ xs) zero v w more at e =
         let here : f w ≡ f x ++ more = e ∙ ap (λ y. f y ++ more) (sym (some-injective x v at)) in
@@ -38,7 +40,8 @@ module _ {V : Type 0} where
     out_nothing (x ∷ xs) none = ap (λ l. l ++ flat_map f xs) (none zero x refl) ∙ out_nothing xs (λ j v e. none (suc j) v e)
 
     -- no other pass holds anything
-    pub out_alone : (views : List V) (pass : ℕ) (v : V) → get_elem? views pass ≡ some v → ((j : ℕ) (u : V) → get_elem? views j ≡ some u → j ≢ pass → f u ≡ []) → flat_map f views ≡ f v
+    pub out_alone : (views : List V) (pass : ℕ) (v : V) → get_elem? views pass ≡ some v
+        → ((j : ℕ) (u : V) → get_elem? views j ≡ some u → j ≢ pass → f u ≡ []) → flat_map f views ≡ f v
     out_alone [] pass v at others = absurd (some-ne-none v (sym at))
     out_alone (x ∷ xs) zero v at others =
         ap (λ l. f x ++ l) (out_nothing xs (λ j u e. others (suc j) u e (λ h. omega arith))) ∙ append-nil (f x) ∙ ap f (some-injective x v at)
@@ -71,7 +74,8 @@ module _ {V : Type 0} where
         (f x + r.0, omega (arith, e, c))
 
     -- where one has all, the others have none
-    pub others_none : (views : List V) (pass : ℕ) (v : V) → get_elem? views pass ≡ some v → f v ≡ sum_by f views → (j : ℕ) (u : V) → get_elem? views j ≡ some u → j ≢ pass → f u ≡ 0
+    pub others_none : (views : List V) (pass : ℕ) (v : V) → get_elem? views pass ≡ some v → f v ≡ sum_by f views
+        → (j : ℕ) (u : V) → get_elem? views j ≡ some u → j ≢ pass → f u ≡ 0
     others_none [] pass v at all j u there apart = absurd (some-ne-none v (sym at))
     others_none (x ∷ xs) zero v at all zero u there apart = absurd (apart refl)
     others_none (x ∷ xs) zero v at all (suc j) u there apart =

@@ -1,11 +1,14 @@
 -- Each step of a pass keeps the rule of a pool's queue.
-use Rattle.std.proofs.Common.{◌≡◌, ◌≢◌, ◌<◌, ◌≤◌, ◌+◌, ◌-◌, ℕ, zero, suc, List, [], ◌∷◌, ◌++◌, length, length-append, set, refl, sym, ap, ◌∙◌, subst, ⊎_elim, append_assoc, append-nil, arith}
+use Rattle.std.proofs.Common.{◌≡◌, ◌≢◌, ◌<◌, ◌≤◌, ◌+◌, ◌-◌, ℕ, zero, suc, List, [], ◌∷◌, ◌++◌, length, length-append}
+use Rattle.std.proofs.Common.{set, refl, sym, ap, ◌∙◌, subst, ⊎_elim, append_assoc, append-nil, arith}
 use Rattle.std.specs.Prelude.{IsPermutation}
 use Rattle.std.specs.List.{range_with_len}
 use Rattle.std.proofs.lemmas.List.{length-map, map-append, set-set, set_comm}
 use Rattle.std.proofs.lemmas.List.Concat.{flat_map-append}
 use Rattle.std.proofs.lemmas.List.FromFn.{length-range_with_len}
-use Rattle.std.proofs.lemmas.List.Sorted.{IsPermutation-append_comm, IsPermutation-append_left, IsPermutation-append_right, IsPermutation-refl, IsPermutation-sym, IsPermutation-trans, length_permutation}
+use Rattle.std.proofs.lemmas.List.Sorted.{IsPermutation-append_comm, IsPermutation-append_left}
+use Rattle.std.proofs.lemmas.List.Sorted.{IsPermutation-append_right, IsPermutation-refl, IsPermutation-sym}
+use Rattle.std.proofs.lemmas.List.Sorted.{IsPermutation-trans, length_permutation}
 use Rattle.std.proofs.lemmas.List.Sums.{sum_by_push}
 use mathlib.Core.Option.{some, some-injective, some-ne-none}
 use lib.ListN.{get_elem?}
@@ -46,9 +49,11 @@ module _ {T : Type 0} where
   same_once : (firsts : List T) (xs ys : List ℕ) → xs ≡ ys → StandOnce firsts xs → StandOnce firsts ys
   same_once firsts xs ys e once = subst (StandOnce firsts) e once
 
-  fits_set : (firsts : List T) (views : List (Hand T)) (pass : ℕ) (w : Hand T) → Fits firsts w → ((j : ℕ) (u : Hand T) → j ≢ pass → get_elem? views j ≡ some u → Fits firsts u)
+  fits_set : (firsts : List T) (views : List (Hand T)) (pass : ℕ) (w : Hand T) → Fits firsts w
+      → ((j : ℕ) (u : Hand T) → j ≢ pass → get_elem? views j ≡ some u → Fits firsts u)
       → (j : ℕ) (u : Hand T) → get_elem? (set views pass w) j ≡ some u → Fits firsts u
-  fits_set firsts views pass w new old j u e = ⊎_elim (λ (x : (j ≡ pass) × (w ≡ u)). subst (Fits firsts) x.1 new) (λ (x : (j ≢ pass) × (get_elem? views j ≡ some u)). old j u x.0 x.1) (at_set views pass j w u e)
+  fits_set firsts views pass w new old j u e = ⊎_elim (λ (x : (j ≡ pass) × (w ≡ u)). subst (Fits firsts) x.1 new)
+      (λ (x : (j ≢ pass) × (get_elem? views j ≡ some u)). old j u x.0 x.1) (at_set views pass j w u e)
 
 module _ {T : Type 0} (since : T → T → Type 0) where
   one_more : (firsts more : List T) (x : Numbered T) → IsOneOf since firsts x → IsOneOf since (firsts ++ more) x
@@ -82,7 +87,8 @@ module _ {T : Type 0} (since : T → T → Type 0) where
       (omega (arith, long, most, all, range, both, queued), omega (arith, long, few))
 
   -- where a pass holds an item, the queue has a free place
-  pub place : (items : List (Numbered T)) (views : List (Hand T)) → IsPooled since items views → (pass : ℕ) (v : Hand T) → get_elem? views pass ≡ some v → v.held ≢ [] → length items < MOST_ITEMS
+  pub place : (items : List (Numbered T)) (views : List (Hand T)) → IsPooled since items views
+      → (pass : ℕ) (v : Hand T) → get_elem? views pass ≡ some v → v.held ≢ [] → length items < MOST_ITEMS
   place items views rule pass v at some_held =
       let part : 0 < v.parts = not_none v.parts (λ none. some_held ((rule.passes pass v at).idle none)) in
       let room = rooms pass v part items views rule at in
@@ -119,7 +125,9 @@ module _ {T : Type 0} (since : T → T → Type 0) where
         record {
           firsts = firsts;
           once = same_once firsts _ _ list (once_more h.firsts x.item.value x.number _ number h.once);
-          queued = every_append (IsOneOf since firsts) items (x ∷ []) (every_implies (IsOneOf since h.firsts) (IsOneOf since firsts) (one_more h.firsts (x.item.value ∷ [])) items h.queued)
+          queued = every_append (IsOneOf since firsts) items (x ∷ [])
+              (every_implies (IsOneOf since h.firsts) (IsOneOf since firsts) (one_more h.firsts (x.item.value ∷ []))
+              items h.queued)
               (get_here h.firsts x.item.value [] x.number (λ first. IsLater since first x.item.value) number (λ first since_first. since_first), tt);
           few = omega (arith, long, few);
           parts = omega (arith, sums, whole);
@@ -135,7 +143,8 @@ module _ {T : Type 0} (since : T → T → Type 0) where
       let w : Hand T = hand v.parts (v.held ++ x.number ∷ []) v.firsts in
       let same : v.firsts ≡ h.firsts = (h.passes pass v at).knows some_part in
       let out : IsPermutation (numbers_out views ++ x.number ∷ []) (numbers_out (set views pass w)) = out_more (λ (u : Hand T). u.held) views pass v w (x.number ∷ []) at refl in
-      let list : numbers_out views ++ (x.number ∷ numbers_of items) ≡ (numbers_out views ++ x.number ∷ []) ++ numbers_of items = sym (append_assoc (numbers_out views) (x.number ∷ []) (numbers_of items)) in
+      let list : numbers_out views ++ (x.number ∷ numbers_of items) ≡ (numbers_out views ++ x.number ∷ [])
+      ++ numbers_of items = sym (append_assoc (numbers_out views) (x.number ∷ []) (numbers_of items)) in
       let sums = sum_set (λ (u : Hand T). u.parts) views pass v w at in
       let whole = h.parts in
       let rule : IsPooled since items (set views pass w) = record {
@@ -164,7 +173,8 @@ module _ {T : Type 0} (since : T → T → Type 0) where
       let same : v.firsts ≡ h.firsts = (h.passes pass v at).knows some_part in
       let back : set new pass v ≡ views = set-set views pass w v ∙ set_again views pass v at in
       let out : IsPermutation (numbers_out new ++ x.number ∷ []) (numbers_out views)
-      = subst (λ l. IsPermutation (numbers_out new ++ x.number ∷ []) (numbers_out l)) back (out_more (λ (u : Hand T). u.held) new pass w v (x.number ∷ []) (there views pass v w at) in_hand) in
+      = subst (λ l. IsPermutation (numbers_out new ++ x.number ∷ []) (numbers_out l)) back
+      (out_more (λ (u : Hand T). u.held) new pass w v (x.number ∷ []) (there views pass v w at) in_hand) in
       let waiting : IsPermutation ((numbers_out new ++ x.number ∷ []) ++ numbers_of items) (numbers_out new ++ (numbers_of items ++ x.number ∷ []))
       = subst (λ l. IsPermutation l (numbers_out new ++ (numbers_of items ++ x.number ∷ []))) (sym (append_assoc (numbers_out new) (x.number ∷ []) (numbers_of items)))
       (IsPermutation-append_right (numbers_out new) _ _ (IsPermutation-append_comm (x.number ∷ []) (numbers_of items))) in
@@ -202,7 +212,10 @@ module _ {T : Type 0} (since : T → T → Type 0) where
         few = h.few;
         parts = omega (arith, sums, pushed, whole, parts);
         passes = λ j u e. ⊎_elim
-            (λ (old : get_elem? new j ≡ some u). fits_set h.firsts views pass left (record { knows = λ _. same; idle = λ none. absurd (omega (arith, none, parts)) }) (λ k y _ e'. h.passes k y e') j u old)
+            (λ (old : get_elem? new j ≡ some u). fits_set h.firsts views pass left (record {
+              knows = λ _. same;
+              idle = λ none. absurd (omega (arith, none, parts));
+            }) (λ k y _ e'. h.passes k y e') j u old)
             (λ (is : right ≡ u). subst (Fits h.firsts) is (record { knows = λ _. same; idle = λ _. refl })) (at_snoc new right u j e);
       }
 

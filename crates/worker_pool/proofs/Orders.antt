@@ -1,5 +1,7 @@
 -- Items that stand by number are those that were handed in, each at its place.
-use Rattle.std.proofs.Common.{◌≡◌, ◌≢◌, ◌<◌, ◌≤◌, ◌⊎◌, inl, inr, ⊎_elim, ℕ, zero, suc, ◌+◌, eq-eqb, ne_eqb, get_or, List, [], ◌∷◌, ◌++◌, length, length-append, map, refl, sym, ap, ◌∙◌, subst, append_assoc, arith}
+use Rattle.std.proofs.Common.{◌≡◌, ◌≢◌, ◌<◌, ◌≤◌, ◌⊎◌, inl, inr, ⊎_elim, ℕ, zero, suc, ◌+◌, eq-eqb, ne_eqb, get_or}
+use Rattle.std.proofs.Common.{List, [], ◌∷◌, ◌++◌, length, length-append, map, refl, sym, ap, ◌∙◌, subst}
+use Rattle.std.proofs.Common.{append_assoc, arith}
 use Rattle.std.specs.Prelude.{◌==◌, IsPermutation, All, ⊤, cond, sum_by}
 use Rattle.std.specs.List.{AllZip, range_with_len}
 use Rattle.std.specs.List.Sorted.{IsNonDecreasingBy}
@@ -70,7 +72,8 @@ first_of a n y ys r same = one (cases_eq y a)
         let rest = none_below a y ys r.1 (omega (arith, le, ne)) in
         absurd (omega (arith, e, s, h, t, no, rest))
 
-tail_of : (a n y : ℕ) (ys : List ℕ) → y ≡ a → ((x : ℕ) → counted x (y ∷ ys) ≡ counted x (range_with_len a (suc n))) → (x : ℕ) → counted x ys ≡ counted x (range_with_len (a + 1) n)
+tail_of : (a n y : ℕ) (ys : List ℕ) → y ≡ a → ((x : ℕ) → counted x (y ∷ ys) ≡ counted x (range_with_len a (suc n)))
+    → (x : ℕ) → counted x ys ≡ counted x (range_with_len (a + 1) n)
 tail_of a n y ys e same x =
     let w = same x in
     let s = sum_by-cons (hit x) a (range_with_len (a + 1) n) in
@@ -92,7 +95,8 @@ rises_once a (suc n) (y ∷ ys) r same =
     λ i. e i ∷ rest i
 
 module _ {T : Type 0} where
-  rises_of : (xs : List (Numbered T)) (a : ℕ) → ((d : Numbered T) → 0 < length xs → a ≤ (get_or xs 0 d).number) → IsNonDecreasingBy (λ x. x.number) xs → Rises a (numbers_of xs)
+  rises_of : (xs : List (Numbered T)) (a : ℕ) → ((d : Numbered T) → 0 < length xs → a ≤ (get_or xs 0 d).number)
+      → IsNonDecreasingBy (λ x. x.number) xs → Rises a (numbers_of xs)
   rises_of [] a first s = tt
   rises_of (x ∷ xs) a first s = (
     first x (omega arith),
@@ -100,7 +104,8 @@ module _ {T : Type 0} where
   )
 
   -- items by number, of which each number below n stands once, have the numbers from 0 on
-  pub numbers_by_number : (n : ℕ) (xs : List (Numbered T)) → IsPermutation (range_with_len 0 n) (numbers_of xs) → IsNonDecreasingBy (λ x. x.number) xs → numbers_of xs ≡ range_with_len 0 n
+  pub numbers_by_number : (n : ℕ) (xs : List (Numbered T)) → IsPermutation (range_with_len 0 n) (numbers_of xs)
+      → IsNonDecreasingBy (λ x. x.number) xs → numbers_of xs ≡ range_with_len 0 n
   numbers_by_number n xs once order =
       rises_once 0 n (numbers_of xs) (rises_of xs 0 (λ d some. omega arith) order)
       (λ x. sum_by-IsPermutation (hit x) _ _ once)
@@ -133,7 +138,8 @@ module _ {T : Type 0} where
 
   module _ (since : T → T → Type 0) where
     -- items with the numbers from so many on are those that were handed in behind so many
-    placed : (before firsts : List T) (xs : List (Numbered T)) (a : ℕ) → a ≡ length before → numbers_of xs ≡ range_with_len a (length firsts) → Every (IsOneOf since (before ++ firsts)) xs
+    placed : (before firsts : List T) (xs : List (Numbered T)) (a : ℕ) → a ≡ length before
+        → numbers_of xs ≡ range_with_len a (length firsts) → Every (IsOneOf since (before ++ firsts)) xs
         → AllZip (IsLater since) firsts (map (λ x. x.item.value) xs)
     placed before [] [] a at numbers ones = tt
     placed before [] (x ∷ xs) a at numbers ones = let e = ap length numbers in absurd (omega (arith, e))
@@ -147,7 +153,8 @@ module _ {T : Type 0} where
         )
 
     -- the items by number are those that were handed in, each at its place
-    pub in_place : (firsts : List T) (kept xs : List (Numbered T)) → StandOnce firsts (numbers_of kept) → IsPermutation kept xs → IsNonDecreasingBy (λ x. x.number) xs → Every (IsOneOf since firsts) kept
+    pub in_place : (firsts : List T) (kept xs : List (Numbered T)) → StandOnce firsts (numbers_of kept)
+        → IsPermutation kept xs → IsNonDecreasingBy (λ x. x.number) xs → Every (IsOneOf since firsts) kept
         → AllZip (IsLater since) firsts (map (λ x. x.item.value) xs)
     in_place firsts kept xs once same order ones =
         let numbers = numbers_by_number (length firsts) xs (IsPermutation-trans _ _ _ once (IsPermutation-map (λ (x : Numbered T). x.number) kept xs same)) order in

@@ -1,4 +1,5 @@
-// What each pass of a pool's queue knows, and what its steps tell. No value of `Hand` is made.
+//! What each pass of a pool's queue knows, and what its steps tell. No value of `Hand` is made.
+
 use crate::visited::Visited;
 use crossbeam_queue::protocol::{Join, Lesson, Outcome, Protocol, Split};
 use crossbeam_queue::{Pass, RuledArrayQueue};

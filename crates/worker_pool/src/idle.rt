@@ -1,4 +1,5 @@
-// What a worker does where it finds nothing to do.
+//! What a worker does where it finds nothing to do.
+
 use pauses::Pauses;
 use std::sync::Wait;
 

@@ -1,4 +1,5 @@
-// A worker: its pass, and the items that it keeps.
+//! A worker: its pass, and the items that it keeps.
+
 ghost use Rattle.std.specs.Prelude.{◌≡◌, ◌<◌, ◌≤◌, ◌+◌, ◌⊎◌, [], ◌∷◌, ◌++◌, true, false, All, IfNone, IfSome, IsPermutation, length, map};
 ghost use Rattle.std.specs.List.{AllZip};
 ghost use Rattle.std.specs.List.Sorted.{IsNonDecreasingBy};

@@ -12,13 +12,19 @@ returns-clause-normal c =
     let table = c.args.table.now in
     let bytes = c.args.bytes.now in
     let small : AreBytes bytes = All-from_get_or (λ b. b < 256) bytes 0 (λ i within. omega (arith, c.type_inv.bytes i)) in
-    IfOk-weaker c.decoded.result _ _ (λ t m. c.meaning_is_normal.ensures table c.args.msg bytes t c.requires.valid c.requires.known small (c.rules_and_reader_agree.ensures.meant table c.args.msg bytes t (valid-ascends table c.requires.valid) m)) c.decoded.ensures.means
+    IfOk-weaker c.decoded.result _ _
+    (λ t m. c.meaning_is_normal.ensures table c.args.msg bytes t c.requires.valid c.requires.known small
+    (c.rules_and_reader_agree.ensures.meant table c.args.msg bytes t (valid-ascends table c.requires.valid) m))
+    c.decoded.ensures.means
 
 pub returns-clause-within : goal.returns-clause-within
 returns-clause-within c = IfErr-weaker c.decoded.result _ _ (λ f h. faults_as _ _ f h (λ r p. fault-within)) c.decoded.ensures.fault
 
 pub returns-clause-fault : goal.returns-clause-fault
-returns-clause-fault c = IfErr-weaker c.decoded.result _ _ (λ f h. faults_as _ _ f h (c.rules_and_reader_agree.ensures.first c.args.table.now c.args.msg c.args.bytes.now)) c.decoded.ensures.fault
+returns-clause-fault c =
+    IfErr-weaker c.decoded.result _ _
+    (λ f h. faults_as _ _ f h (c.rules_and_reader_agree.ensures.first c.args.table.now c.args.msg c.args.bytes.now))
+    c.decoded.ensures.fault
 
 pub returns-clause-means : goal.returns-clause-means
 returns-clause-means c =

@@ -10,12 +10,25 @@ use Rattle.app_stub.proofs.clients.do_lines.Goals as goal
 pub do_line-requires-clause-few_stores : goal.do_line-requires-clause-few_stores
 do_line-requires-clause-few_stores g c κs within =
     let items = c.as_slice-line-items.result.now in
-    omega (arith, ap length c.loop-line.invariant.4, length-flat_map-take line_stores items c.loop-line.line-index (Store 0 0) c.loop-line-test.true, ap (λ xs. length (stores_of xs)) c.as_slice-line-items.ensures)
+    omega (
+      arith,
+      ap length c.loop-line.invariant.4,
+      length-flat_map-take line_stores items c.loop-line.line-index
+          (Store 0 0) c.loop-line-test.true,
+      ap (λ xs. length (stores_of xs)) c.as_slice-line-items.ensures,
+    )
 
 pub do_line-requires-clause-few_calls : goal.do_line-requires-clause-few_calls
 do_line-requires-clause-few_calls g c κs within =
     let front = take c.loop-line.line-index c.as_slice-line-items.result.now in
-    omega (arith, length-map c.loop-line.outgoing.sender.sent submission_of, ap length c.loop-line.invariant.5, submits_few 0 front, length-take c.loop-line.line-index c.as_slice-line-items.result.now, ap length c.as_slice-line-items.ensures)
+    omega (
+      arith,
+      length-map c.loop-line.outgoing.sender.sent submission_of,
+      ap length c.loop-line.invariant.5,
+      submits_few 0 front,
+      length-take c.loop-line.line-index c.as_slice-line-items.result.now,
+      ap length c.as_slice-line-items.ensures,
+    )
 
 pub do_line-requires-clause-few_reclaims : goal.do_line-requires-clause-few_reclaims
 do_line-requires-clause-few_reclaims g c κs within =

@@ -33,7 +33,7 @@ replied-requires-clause-normal c =
     let msg = c.message_of-message.result in
     let k = rw c.in-Copied.is at c.in_ok-answer.ensures.copied in
     let n = c.sound_tree_is_normal.ensures T c.meet.new.self.heap.words msg c.args.notice.addr k.placed c.requires.valid k.sound in
-    subst (λ (m : ℕ). IsNormal T m c.in-Copied.tree) c.message_of-message.ensures.message (subst (λ (t : Node). IsNormal T msg t) (sym k.tree_is) n)
+    subst (λ (m : ℕ). IsNormal T m c.in-Copied.tree) c.message_of-message.ensures.place (subst (λ (t : Node). IsNormal T msg t) (sym k.tree_is) n)
 
 pub returns-in-Copied-clause-copies : goal.returns-in-Copied-clause-copies
 returns-in-Copied-clause-copies c =
@@ -46,12 +46,14 @@ returns-in-Copied-clause-copies c =
     let k = rw c.in-Copied.is at c.in_ok-answer.ensures.copied in
     let copy : Copying = record { loads = record { after = notice.stores; loads = own }; outcome = copied tree } in
     let comes = copied_comes T met.heap.words c.message_of-message.result notice.addr MAX_LOADS own tree k c.copy_message.ensures.few in
-    let comes' = subst (λ (m : ℕ). ComesTo T met.heap.words m notice.addr MAX_LOADS own (copied tree)) c.message_of-message.ensures.message comes in
+    let comes' = subst (λ (m : ℕ). ComesTo T met.heap.words m notice.addr MAX_LOADS own (copied tree)) c.message_of-message.ensures.place comes in
     let comes'' = subst (λ (h : ℕ). ComesTo T h (message_of T notice.method Request) notice.addr MAX_LOADS own (copied tree)) (ap (λ h. h.words) c.meet.ensures.heap) comes' in
     made copy
     (some_method notice.kind notice.method (length T.methods) (omega arith) (omega arith))
     (record { comes = comes''; after = refl })
-    (replied_by _ _ notice copy tree c.replied.result (echo_same T (record c.args.desk.now { reader = new }) c.args.desk.now refl (c.copy_message.ensures.heap ∙ c.meet.ensures.heap) refl) refl c.replied.ensures.tree c.replied.ensures.reply)
+    (replied_by _ _ notice copy tree c.replied.result
+    (echo_same T (record c.args.desk.now { reader = new }) c.args.desk.now refl (c.copy_message.ensures.heap
+    ∙ c.meet.ensures.heap) refl) refl c.replied.ensures.tree c.replied.ensures.reply)
     (c.copy_message.ensures.adds ∙ ap (λ (l : List Load). map word_of l ++ own) c.meet.ensures.loads)
     (λ calls were.
     c.copy_message.ensures.fresh calls notice.stores
@@ -65,7 +67,7 @@ returns-in-Copied-clause-normal c =
     let k = rw c.in-Copied.is at c.in_ok-answer.ensures.copied in
     let n = c.sound_tree_is_normal.ensures T c.meet.new.self.heap.words msg c.args.notice.addr k.placed c.requires.valid k.sound in
     normal_reply T _ c.args.notice.method c.args.notice.number c.in-Copied.tree c.replied.result refl
-    (subst (λ (m : ℕ). IsNormal T m c.in-Copied.tree) c.message_of-message.ensures.message (subst (λ (t : Node). IsNormal T msg t) (sym k.tree_is) n))
+    (subst (λ (m : ℕ). IsNormal T m c.in-Copied.tree) c.message_of-message.ensures.place (subst (λ (t : Node). IsNormal T msg t) (sym k.tree_is) n))
     c.replied.ensures.tree c.replied.ensures.reply
 
 pub returns-in-Malformed-clause-copies : goal.returns-in-Malformed-clause-copies
@@ -79,7 +81,7 @@ returns-in-Malformed-clause-copies c =
     let what : Outcome = malformed c.in-Malformed.reason c.in-Malformed.place c.in-Malformed.value in
     let copy : Copying = record { loads = record { after = notice.stores; loads = own }; outcome = what } in
     let comes = malformed_comes T met.heap.words c.message_of-message.result notice.addr MAX_LOADS own c.in-Malformed.reason c.in-Malformed.place c.in-Malformed.value m in
-    let comes' = subst (λ (m : ℕ). ComesTo T met.heap.words m notice.addr MAX_LOADS own what) c.message_of-message.ensures.message comes in
+    let comes' = subst (λ (m : ℕ). ComesTo T met.heap.words m notice.addr MAX_LOADS own what) c.message_of-message.ensures.place comes in
     let comes'' = subst (λ (h : ℕ). ComesTo T h (message_of T notice.method Request) notice.addr MAX_LOADS own what) (ap (λ h. h.words) c.meet.ensures.heap) comes' in
     made copy
     (some_method notice.kind notice.method (length T.methods) (omega arith) (omega arith))

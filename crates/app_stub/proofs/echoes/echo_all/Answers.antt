@@ -20,5 +20,8 @@ loop-init g c =
       omega (arith, ap length new.taken),
       omega (arith, ap length new.sent),
       new.reclaimed ∙ sym new.numbers,
-      nothing_echoed (echo_of c.args.table.now c.args.desk.now) c.args.delivery.now.notices.taken c.args.desk.now.writer.stores (map submission_of c.args.outgoing.now.sender.sent) c.args.desk.now.reader new.taken new.stored (ap (map submission_of) new.sent) new.loaded (c.calls_are_fresh.ensures.none c.args.desk.now.reader.known),
+      nothing_echoed (echo_of c.args.table.now c.args.desk.now) c.args.delivery.now.notices.taken
+          c.args.desk.now.writer.stores (map submission_of c.args.outgoing.now.sender.sent) c.args.desk.now.reader
+          new.taken new.stored (ap (map submission_of) new.sent) new.loaded
+          (c.calls_are_fresh.ensures.none c.args.desk.now.reader.known),
     )

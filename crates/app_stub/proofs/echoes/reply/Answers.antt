@@ -36,7 +36,7 @@ returns-clause-desk g c =
     let words = ap (λ h. h.words) same in
     let stored = ap (λ w. w.stores) c.call-reply.ensures.same ∙ c.in_ok-place.ensures.stores in
     let placed = c.in_ok-place.ensures.stands.few in
-    let message = ap (λ m. tree_words c.args.table.now m c.args.tree.now) c.message_of-message.ensures.message in
+    let message = ap (λ m. tree_words c.args.table.now m c.args.tree.now) c.message_of-message.ensures.place in
     record {
       heap_of = c.send.ensures.heap ∙ before.heap_of ∙ sym same;
       least_heap = omega (arith, words, before.least_heap);
@@ -45,5 +45,15 @@ returns-clause-desk g c =
       greatest_receive = before.greatest_receive;
       few_slices = before.few_slices;
       counted = omega (arith, before.counted, ap length c.in_ok-send.ensures.sent, length-append c.args.sender.now.sent);
-      few = omega (arith, before.few, ap length stored, length-append c.args.desk.now.writer.stores c.in_ok-place.field-0.words, placed, message, c.requires.fits, div-le_self (old.heap.words - 2) (c.args.desk.now.ring + 2), before.greatest_heap);
+      few = omega (
+        arith,
+        before.few,
+        ap length stored,
+        length-append c.args.desk.now.writer.stores c.in_ok-place.field-0.words,
+        placed,
+        message,
+        c.requires.fits,
+        div-le_self (old.heap.words - 2) (c.args.desk.now.ring + 2),
+        before.greatest_heap,
+      );
     }

@@ -10,7 +10,15 @@ serve-requires-clause-few_stores g c κs within =
 
 pub serve-requires-clause-few_calls : goal.serve-requires-clause-few_calls
 serve-requires-clause-few_calls g c κs within =
-    omega (arith, length-map c.loop.outgoing.sender.sent submission_of, ap length c.loop.invariant.11, all_served_replies_few c.args.program.now 0 c.loop.delivery.notices.taken, c.in_ok-notice.ensures.few, ap length (rw c.in-Some-2.is at c.in_ok-notice.ensures.taken), length-append c.loop.delivery.notices.taken)
+    omega (
+      arith,
+      length-map c.loop.outgoing.sender.sent submission_of,
+      ap length c.loop.invariant.11,
+      all_served_replies_few c.args.program.now 0 c.loop.delivery.notices.taken,
+      c.in_ok-notice.ensures.few,
+      ap length (rw c.in-Some-2.is at c.in_ok-notice.ensures.taken),
+      length-append c.loop.delivery.notices.taken,
+    )
 
 pub loop-preserved : goal.loop-preserved
 loop-preserved g c =

@@ -7,4 +7,10 @@ use Rattle.app_stub.proofs.servers.store_lines.Goals as goal
 pub store_line-requires-clause-few : goal.store_line-requires-clause-few
 store_line-requires-clause-few c =
     let items = c.as_slice-line-items.result.now in
-    omega (arith, ap length c.loop-line.invariant.1, length-append c.args.writer.now.stores (stores_of (take c.loop-line.line-index items)), length-flat_map-take line_stores items c.loop-line.line-index (Store 0 0) c.loop-line-test.true, ap (λ xs. length (stores_of xs)) c.as_slice-line-items.ensures)
+    omega (
+      arith,
+      ap length c.loop-line.invariant.1,
+      length-append c.args.writer.now.stores (stores_of (take c.loop-line.line-index items)),
+      length-flat_map-take line_stores items c.loop-line.line-index (Store 0 0) c.loop-line-test.true,
+      ap (λ xs. length (stores_of xs)) c.as_slice-line-items.ensures,
+    )

@@ -31,7 +31,9 @@ returns-in_default-of c =
       rest = rest;
       reads = c.loop-line.invariant;
       left_is = refl;
-      stop = no_item line behind c.in-Some.ensures.parts (λ e. false≢true (sym c.if-is_audit.false ∙ c.is_audit.ensures ∙ (bytes_eq-Decides line audit_line).1 e)) (sym c.of.ensures ∙ c.in_default-of.is) refl refl;
+      stop = no_item line behind c.in-Some.ensures.parts
+          (λ e. false≢true (sym c.if-is_audit.false ∙ c.is_audit.ensures ∙ (bytes_eq-Decides line audit_line).1 e))
+          (sym c.of.ensures ∙ c.in_default-of.is) refl refl;
     })
 
 pub loop-line-smaller : goal.loop-line-smaller
@@ -45,7 +47,8 @@ loop-line-preserved c =
     let T = c.args.table.now in
     let text = c.args.text.now in
     subst (λ (d : Declared). Reads T nothing text d c.in-Ok.more.now) (sym c.in_ok-declared-in-Ok.ensures)
-    (reads_more T nothing text c.loop-line.declared c.loop-line.rest.now c.in-Some.line.now c.in-Some.behind.now c.in-Ok.more.now c.in-Some-of.form c.in-Ok.item c.loop-line.invariant c.in-Some.ensures.parts
+    (reads_more T nothing text c.loop-line.declared c.loop-line.rest.now c.in-Some.line.now c.in-Some.behind.now
+    c.in-Ok.more.now c.in-Some-of.form c.in-Ok.item c.loop-line.invariant c.in-Some.ensures.parts
     (sym c.of.ensures ∙ c.in-Some-of.is) c.in-Ok.ensures.read)
 
 pub returns-in-Err : goal.returns-in-Err
@@ -53,4 +56,6 @@ returns-in-Err c =
     let T = c.args.table.now in
     let text = c.args.text.now in
     subst (IsStopOf T text) (sym c.stopped_by.ensures)
-    (stop_by T text c.loop-line.declared c.loop-line.rest.now c.in-Some.line.now c.in-Some.behind.now c.in-Some-of.form c.in-Err.fault c.loop-line.invariant c.in-Some.ensures.parts (sym c.of.ensures ∙ c.in-Some-of.is) c.in-Err.ensures.fault)
+    (stop_by T text c.loop-line.declared c.loop-line.rest.now c.in-Some.line.now c.in-Some.behind.now
+    c.in-Some-of.form c.in-Err.fault c.loop-line.invariant c.in-Some.ensures.parts
+    (sym c.of.ensures ∙ c.in-Some-of.is) c.in-Err.ensures.fault)

@@ -15,19 +15,27 @@ pub returns-clause-charged : goal.returns-clause-charged
 returns-clause-charged c = noted-charged
 
 pub returns-clause-charged_another : goal.returns-clause-charged_another
-returns-clause-charged_another c = λ past seq s left name other apart. noted-call past (Charged seq name left ∷ past) seq s name other (notes.Charged left) (charge-note past seq name left) apart
+returns-clause-charged_another c = λ past seq s left name other apart.
+    noted-call past (Charged seq name left ∷ past) seq s name other (notes.Charged left)
+    (charge-note past seq name left) apart
 
 pub returns-clause-charged_elsewhere : goal.returns-clause-charged_elsewhere
-returns-clause-charged_elsewhere c = λ past seq s left name other apart. noted-name past (Charged seq name left ∷ past) seq s name other (notes.Charged left) (charge-note past seq name left) apart
+returns-clause-charged_elsewhere c = λ past seq s left name other apart.
+    noted-name past (Charged seq name left ∷ past) seq s name other (notes.Charged left)
+    (charge-note past seq name left) apart
 
 pub returns-clause-drawn : goal.returns-clause-drawn
 returns-clause-drawn c = noted-drawn
 
 pub returns-clause-drawn_another : goal.returns-clause-drawn_another
-returns-clause-drawn_another c = λ past seq s window ticket name other apart. noted-call past (Drawn seq name window ticket ∷ past) seq s name other (notes.Drawn window ticket) (draw-note past seq name window ticket) apart
+returns-clause-drawn_another c = λ past seq s window ticket name other apart.
+    noted-call past (Drawn seq name window ticket ∷ past) seq s name other (notes.Drawn window ticket)
+    (draw-note past seq name window ticket) apart
 
 pub returns-clause-drawn_elsewhere : goal.returns-clause-drawn_elsewhere
-returns-clause-drawn_elsewhere c = λ past seq s window ticket name other apart. noted-name past (Drawn seq name window ticket ∷ past) seq s name other (notes.Drawn window ticket) (draw-note past seq name window ticket) apart
+returns-clause-drawn_elsewhere c = λ past seq s window ticket name other apart.
+    noted-name past (Drawn seq name window ticket ∷ past) seq s name other (notes.Drawn window ticket)
+    (draw-note past seq name window ticket) apart
 
 pub returns-clause-counted : goal.returns-clause-counted
 returns-clause-counted c = noted-counted

@@ -9,7 +9,21 @@ pub returns-clause-done : goal.returns-clause-done
 returns-clause-done c = done_there
 
 pub returns-clause-one_fault : goal.returns-clause-one_fault
-returns-clause-one_fault c = one_fault (record { parts = c.one_decoding.ensures.parts; text_fault = c.one_decoding.ensures.text_fault; no_text_fault = c.one_decoding.ensures.no_text_fault; cut = c.one_decoding.ensures.cut; no_cut = c.one_decoding.ensures.no_cut })
+returns-clause-one_fault c =
+    one_fault (record {
+      parts = c.one_decoding.ensures.parts;
+      text_fault = c.one_decoding.ensures.text_fault;
+      no_text_fault = c.one_decoding.ensures.no_text_fault;
+      cut = c.one_decoding.ensures.cut;
+      no_cut = c.one_decoding.ensures.no_cut;
+    })
 
 pub returns-clause-never_both : goal.returns-clause-never_both
-returns-clause-never_both c = never_both (record { parts = c.one_decoding.ensures.parts; text_fault = c.one_decoding.ensures.text_fault; no_text_fault = c.one_decoding.ensures.no_text_fault; cut = c.one_decoding.ensures.cut; no_cut = c.one_decoding.ensures.no_cut })
+returns-clause-never_both c =
+    never_both (record {
+      parts = c.one_decoding.ensures.parts;
+      text_fault = c.one_decoding.ensures.text_fault;
+      no_text_fault = c.one_decoding.ensures.no_text_fault;
+      cut = c.one_decoding.ensures.cut;
+      no_cut = c.one_decoding.ensures.no_cut;
+    })

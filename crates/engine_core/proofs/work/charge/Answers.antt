@@ -12,7 +12,8 @@ pub returns-in-Pass-clause-step : goal.returns-in-Pass-clause-step
 returns-in-Pass-clause-step c = λ version moment.
     let enough = pays c.args.rate.now.per c.args.bucket.now.level c.step.result c.in-Pass.level c.step.ensures.short c.in-Pass.is in
     let left = c.step.ensures.charged enough in
-    charges c.args.rate.now refl (rw c.if-is_noted.false at c.is_noted.ensures.none) enough (ap (λ (l : ℕ). Passed (Charged l)) (let passed = c.step.ensures.pass enough in cc)) c.mark.ensures left
+    charges c.args.rate.now refl (rw c.if-is_noted.false at c.is_noted.ensures.none) enough
+    (ap (λ (l : ℕ). Passed (Charged l)) (let passed = c.step.ensures.pass enough in cc)) c.mark.ensures left
 
 pub returns-in-Short-clause-step : goal.returns-in-Short-clause-step
 returns-in-Short-clause-step c = λ version moment.

@@ -17,7 +17,14 @@ pub returns-then-is_allowed : goal.returns-then-is_allowed
 returns-then-is_allowed c = λ level moment. was_allowed c.args.access.now refl (cc) refl refl refl
 
 pub returns-then-not-verdict : goal.returns-then-not-verdict
-returns-then-not-verdict c = λ level moment. denies c.args.access.now refl (cc) (ap (λ (v : Verdict). v.allow) (sym (rw c.call.ensures at c.judge-verdict.ensures.verdict)) ∙ not_allowed c.if-not-verdict.true) (ap (λ (v : Verdict). Refused Nothing (Denied v.rule)) (rw c.call.ensures at c.judge-verdict.ensures.verdict)) refl refl
+returns-then-not-verdict c =
+    λ level moment. denies c.args.access.now refl (cc)
+    (ap (λ (v : Verdict). v.allow) (sym (rw c.call.ensures at c.judge-verdict.ensures.verdict))
+    ∙ not_allowed c.if-not-verdict.true)
+    (ap (λ (v : Verdict). Refused Nothing (Denied v.rule)) (rw c.call.ensures at c.judge-verdict.ensures.verdict))
+    refl refl
 
 pub returns : goal.returns
-returns c = λ level moment. allows c.args.access.now refl (cc) (ap (λ (v : Verdict). v.allow) (sym (rw c.call.ensures at c.judge-verdict.ensures.verdict)) ∙ is_allowed c.if-not-verdict.false) refl c.mark.ensures refl
+returns c = λ level moment. allows c.args.access.now refl (cc)
+    (ap (λ (v : Verdict). v.allow) (sym (rw c.call.ensures at c.judge-verdict.ensures.verdict))
+    ∙ is_allowed c.if-not-verdict.false) refl c.mark.ensures refl

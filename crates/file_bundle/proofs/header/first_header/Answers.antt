@@ -13,7 +13,9 @@ pub returns-in_err-words-clause-none : goal.returns-in_err-words-clause-none
 returns-in_err-words-clause-none c =
     let none = strip_prefix_is Decides-eqb c.in_ok-line.line.now (codes "file ") None c.in_err-words.ensures.cases in
     rw c.from_residual-in_err-words.ensures
-    (none_without_file c.args.bytes.now c.in_ok-line.line.now c.in_ok-line.behind.now (cut_from_parts 10 c.args.bytes.now c.in_ok-line.line.now c.in_ok-line.behind.now c.in_ok-line.ensures.parts) none)
+    (none_without_file c.args.bytes.now c.in_ok-line.line.now c.in_ok-line.behind.now
+    (cut_from_parts 10 c.args.bytes.now c.in_ok-line.line.now c.in_ok-line.behind.now c.in_ok-line.ensures.parts)
+    none)
 
 pub returns-in_err-path-clause-none : goal.returns-in_err-path-clause-none
 returns-in_err-path-clause-none c =
@@ -36,11 +38,13 @@ returns-in_err-size-clause-none c =
     rw c.from_residual-in_err-size.ensures
     (none_without_number c.args.bytes.now c.in_ok-line.line.now c.in_ok-line.behind.now c.in_ok-words.words.now c.in_ok-path.path.now c.in_ok-path.size.now
     (cut_from_parts 10 c.args.bytes.now c.in_ok-line.line.now c.in_ok-line.behind.now c.in_ok-line.ensures.parts) is
-    (cut_from_parts 32 c.in_ok-words.words.now c.in_ok-path.path.now c.in_ok-path.size.now c.in_ok-path.ensures.parts) (not_counted (number_of c.in_ok-path.size.now) (sym c.in_err-size.ensures)))
+    (cut_from_parts 32 c.in_ok-words.words.now c.in_ok-path.path.now c.in_ok-path.size.now c.in_ok-path.ensures.parts)
+    (not_counted (number_of c.in_ok-path.size.now) (sym c.in_err-size.ensures)))
 
 pub returns-clause-found : goal.returns-clause-found
 returns-clause-found c =
     let is = strip_prefix_is Decides-eqb c.in_ok-line.line.now (codes "file ") (Some c.in_ok-words.words) c.in_ok-words.ensures.cases in
     header_found c.args.bytes.now c.in_ok-line.line.now c.in_ok-line.behind.now c.in_ok-words.words.now c.in_ok-path.path.now c.in_ok-path.size.now c.in_ok-size.size
     (cut_from_parts 10 c.args.bytes.now c.in_ok-line.line.now c.in_ok-line.behind.now c.in_ok-line.ensures.parts) is
-    (cut_from_parts 32 c.in_ok-words.words.now c.in_ok-path.path.now c.in_ok-path.size.now c.in_ok-path.ensures.parts) (is_something c.in_ok-path.path.now c.if-is_empty.ensures) (sym c.in_ok-size.ensures)
+    (cut_from_parts 32 c.in_ok-words.words.now c.in_ok-path.path.now c.in_ok-path.size.now c.in_ok-path.ensures.parts)
+    (is_something c.in_ok-path.path.now c.if-is_empty.ensures) (sym c.in_ok-size.ensures)

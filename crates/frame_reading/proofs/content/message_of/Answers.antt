@@ -29,7 +29,8 @@ returns-in-Err-At-clause-fault c =
     let f = frame_of c.args.frame.now in
     let message : c.message_in-message.result ≡ message_in T f = c.message_in-message.ensures.place in
     let first = rw c.in-Err-At.field-0-is at c.in-Err-At.ensures.fault in
-    let here : IsFirstFault T (message_in T f) f.payload c.in-Err-At.reason c.in-Err-At.place = subst (λ (n : ℕ). IsFirstFault T n f.payload c.in-Err-At.reason c.in-Err-At.place) message first in
+    let here : IsFirstFault T (message_in T f) f.payload c.in-Err-At.reason c.in-Err-At.place =
+    subst (λ (n : ℕ). IsFirstFault T n f.payload c.in-Err-At.reason c.in-Err-At.place) message first in
     on_fault _ (IsFaultIn T f) _
     (λ place word is. in_payload c.in-Err-At.reason c.in-Err-At.place c.requires.call c.requires.known here (omega (arith, is.0)) (is.1 ∙ c.word.ensures))
     c.at.ensures.is

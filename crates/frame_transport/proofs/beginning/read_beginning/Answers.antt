@@ -6,7 +6,9 @@ use Rattle.frame_transport.proofs.beginning.read_beginning.Goals as goal
 pub returns-in-Some : goal.returns-in-Some
 returns-in-Some c =
     let seen = c.bytes-bytes.ensures ∙ c.of-part.ensures in
-    front_fault c.args.place (c.args.begun.now ++ c.args.piece.now) c.in-Some.fault (subst (λ (bs : List ℕ). HasFault c.args.place bs (Some c.in-Some.fault)) seen (subst (HasFault c.args.place c.bytes-bytes.result.now) c.in-Some.is c.fault_in.ensures))
+    front_fault c.args.place (c.args.begun.now ++ c.args.piece.now) c.in-Some.fault
+    (subst (λ (bs : List ℕ). HasFault c.args.place bs (Some c.in-Some.fault)) seen
+    (subst (HasFault c.args.place c.bytes-bytes.result.now) c.in-Some.is c.fault_in.ensures))
 
 pub returns-in-None : goal.returns-in-None
 returns-in-None c =

@@ -8,5 +8,6 @@ returns-then-piece-header c =
 
 pub returns : goal.returns
 returns c =
-    front_whole c.args.place c.args.begun.now c.args.piece.now c.in-Clear.header c.in_ok-payload.payload (λ i. omega (arith, c.type_inv.begun i)) (λ i. omega (arith, c.type_inv.piece i)) c.in-Clear.ensures
+    front_whole c.args.place c.args.begun.now c.args.piece.now c.in-Clear.header c.in_ok-payload.payload
+    (λ i. omega (arith, c.type_inv.begun i)) (λ i. omega (arith, c.type_inv.piece i)) c.in-Clear.ensures
     (omega (arith, c.in-Clear.ensures.longer)) c.in_ok-payload.ensures

@@ -11,13 +11,16 @@ front_of-requires-clause-room c =
 pub overflow_add-end : goal.overflow_add-end
 overflow_add-end c =
     let total = found_total c.args.place c.args.begun.now c.args.piece.now c.frames.frames.items c.frames.end c.frames.ahead.now c.frames.left.now c.frames.invariant in
-    let h : EndsFrame c.frames.end c.frames.ahead.now c.frames.left.now c.in-Whole.frame = subst (IsFront c.frames.end c.frames.ahead.now c.frames.left.now) c.in-Whole.is c.in_ok-frame.ensures in
+    let h : EndsFrame c.frames.end c.frames.ahead.now c.frames.left.now c.in-Whole.frame =
+    subst (IsFront c.frames.end c.frames.ahead.now c.frames.left.now) c.in-Whole.is c.in_ok-frame.ensures in
     omega (arith, h.within)
 
 pub frames-preserved : goal.frames-preserved
 frames-preserved c =
-    let h : EndsFrame c.frames.end c.frames.ahead.now c.frames.left.now c.in-Whole.frame = subst (IsFront c.frames.end c.frames.ahead.now c.frames.left.now) c.in-Whole.is c.in_ok-frame.ensures in
-    found_next c.args.place c.args.begun.now c.args.piece.now c.frames.frames.items c.frames.end c.frames.ahead.now c.frames.left.now c.in-Whole.frame c.len-size.result c.push_back.new.self.items
+    let h : EndsFrame c.frames.end c.frames.ahead.now c.frames.left.now c.in-Whole.frame =
+    subst (IsFront c.frames.end c.frames.ahead.now c.frames.left.now) c.in-Whole.is c.in_ok-frame.ensures in
+    found_next c.args.place c.args.begun.now c.args.piece.now c.frames.frames.items c.frames.end c.frames.ahead.now
+    c.frames.left.now c.in-Whole.frame c.len-size.result c.push_back.new.self.items
     c.frames.invariant h c.len-size.ensures (search rules)
 
 pub returns-in-Partial : goal.returns-in-Partial

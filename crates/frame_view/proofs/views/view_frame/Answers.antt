@@ -8,7 +8,8 @@ use Rattle.frame_view.proofs.views.view_frame.Goals as goal
 pub returns-in_err-frame-clause-fault : goal.returns-in_err-frame-clause-fault
 returns-in_err-frame-clause-fault c =
     let rest = drop c.args.from c.args.stream.now in
-    let here : (place : ℕ) (word : List ℕ) → IsFaultOfFront c.args.from rest place word → (c.args.lines.now ≡ c.args.lines.now) × IsFaultHere c.args.table.now c.args.from rest place word =
+    let here : (place : ℕ) (word : List ℕ) → IsFaultOfFront c.args.from rest place word
+    → (c.args.lines.now ≡ c.args.lines.now) × IsFaultHere c.args.table.now c.args.from rest place word =
     λ place word is. (refl, of_front is) in
     let same = err_from_is_err_and c.from_residual.result c.from_residual.ensures.1 in
     rw (same.1, same.2) (on_fault _ _ _ here c.in_err-frame.ensures.fault)
@@ -17,7 +18,8 @@ pub returns-in_err-content-clause-fault : goal.returns-in_err-content-clause-fau
 returns-in_err-content-clause-fault c =
     let rest = drop c.args.from c.args.stream.now in
     let f = frame_of c.in_ok-frame.frame in
-    let here : (place : ℕ) (word : List ℕ) → IsFaultIn c.args.table.now f place word → (c.args.lines.now ≡ c.args.lines.now) × IsFaultHere c.args.table.now c.args.from rest place word =
+    let here : (place : ℕ) (word : List ℕ) → IsFaultIn c.args.table.now f place word
+    → (c.args.lines.now ≡ c.args.lines.now) × IsFaultHere c.args.table.now c.args.from rest place word =
     λ place word is. (refl, of_frame f c.in_ok-frame.ensures.frame is) in
     let same = err_from_is_err_and c.from_residual-in_err-content.result c.from_residual-in_err-content.ensures.1 in
     rw (same.1, same.2) (on_fault _ _ _ here c.in_err-content.ensures.fault)

@@ -13,7 +13,9 @@ returns-in-Ok-clause-cut g c =
     let stream = c.in-Ok.stream.now in
     let old = g.K.Sink.written c.args.out.now in
     let new = g.K.Sink.written c.view_stream.new.out in
-    let cut : (place : ℕ) (word : List ℕ) → (to : ℕ) × WritesShown T stream to old new × IsFaultHere T to (drop to stream) place word → CutsView c.args.text.now old new place word =
+    let cut : (place : ℕ) (word : List ℕ)
+    → (to : ℕ) × WritesShown T stream to old new × IsFaultHere T to (drop to stream) place word
+    → CutsView c.args.text.now old new place word =
     λ place word h. in_stream T stream h.1.text h.0 h.1.shows.frames c.in-Ok.ensures.read h.1.shows.stands h.1.shows.views h.2 h.1.written in
     if_stop _ _ _ cut c.view_stream.ensures.cut
 

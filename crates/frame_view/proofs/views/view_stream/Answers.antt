@@ -26,7 +26,8 @@ returns-in_err-place-clause-cut g c =
     let stream = c.args.stream.now in
     let before = c.loop-place.invariant.0 in
     let lines = c.view_piece-told.new.lines in
-    let cut : (place : ℕ) (word : List ℕ) → (to : ℕ) × (text : List ℕ) × (lines ≡ c.new-lines.result ++ text) × Shows T stream c.loop-place.place to text × IsFaultHere T to (drop to stream) place word
+    let cut : (place : ℕ) (word : List ℕ) → (to : ℕ) × (text : List ℕ) × (lines ≡ c.new-lines.result ++ text)
+    × Shows T stream c.loop-place.place to text × IsFaultHere T to (drop to stream) place word
     → (to : ℕ) × WritesShown T stream to (g.K.Sink.written c.args.out.now) (g.K.Sink.written c.write_all.new.out) × IsFaultHere T to (drop to stream) place word =
     λ place word h.
     let written : c.as_slice.result.now ≡ h.1 = c.as_slice.ensures ∙ h.2 ∙ ap (λ (bs : List ℕ). bs ++ h.1) c.new-lines.ensures in (
@@ -34,7 +35,9 @@ returns-in_err-place-clause-cut g c =
       record {
         text = before.text ++ h.1;
         shows = shows_more law _ _ _ _ _ _ _ before.shows h.3;
-        written = appends-more _ _ _ _ _ before.written (subst (Appends (g.K.Sink.written c.loop-place.out) (g.K.Sink.written c.write_all.new.out)) written (c.if-not-write_all.ensures.done refl));
+        written = appends-more _ _ _ _ _ before.written
+            (subst (Appends (g.K.Sink.written c.loop-place.out) (g.K.Sink.written c.write_all.new.out)) written
+            (c.if-not-write_all.ensures.done refl));
       },
       h.4,
     ) in
@@ -51,7 +54,9 @@ loop-place-preserved g c =
       record {
         text = before.0.text ++ told.0;
         shows = shows_more law _ _ _ _ _ _ _ before.0.shows told.2;
-        written = appends-more _ _ _ _ _ before.0.written (subst (Appends (g.K.Sink.written c.loop-place.out) (g.K.Sink.written c.write_all.new.out)) written (c.if-not-write_all.ensures.done refl));
+        written = appends-more _ _ _ _ _ before.0.written
+            (subst (Appends (g.K.Sink.written c.loop-place.out) (g.K.Sink.written c.write_all.new.out)) written
+            (c.if-not-write_all.ensures.done refl));
       },
       same ∙ before.1,
     )

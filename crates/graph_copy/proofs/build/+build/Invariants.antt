@@ -38,10 +38,13 @@ abbrev pub invariant-entries-loop-entry : goal.invariant-entries-loop-entry
 invariant-entries-loop-entry l = EntriesOn l.table l.key l.kind l.room l.count l.initial.tape.loads.now (l.count - l._entry) l.tape.loads.now l.entries.items
 
 abbrev pub invariant-members-loop-oneof : goal.invariant-members-loop-oneof
-invariant-members-loop-oneof l = CasesOn l.table (fields_of l.table l.message) l.room (oneofs_of l.table l.message) l.fn.tape.loads.now (oneofs_of l.table l.message - l._oneof) l.tape.loads.now l.fn.found.items l.found.items
+invariant-members-loop-oneof l =
+    CasesOn l.table (fields_of l.table l.message) l.room (oneofs_of l.table l.message) l.fn.tape.loads.now
+    (oneofs_of l.table l.message - l._oneof) l.tape.loads.now l.fn.found.items l.found.items
 
 abbrev pub invariant-slots-loop-place : goal.invariant-slots-loop-place
-invariant-slots-loop-place l = SlotsOn l.table (fields_of l.table l.message) (own_slots (fields_of l.table l.message)) l.room l.fn.tape.loads.now (own_slots (drop l.from l.fields)) l.tape.loads.now l.fn.found.items l.found.items
+invariant-slots-loop-place l = SlotsOn l.table (fields_of l.table l.message) (own_slots (fields_of l.table l.message))
+    l.room l.fn.tape.loads.now (own_slots (drop l.from l.fields)) l.tape.loads.now l.fn.found.items l.found.items
 
 abbrev pub decreases-slots-loop-place : goal.decreases-slots-loop-place
 decreases-slots-loop-place l = length l.fields - l.from

@@ -16,7 +16,8 @@ node_words-content_words-requires t c =
 pub node_words-returns : goal.node_words-returns
 node_words-returns t c =
     let none : fields_words c.args.table.now (fields_of c.args.table.now c.args.msg) (node_of (drop c.loop-field.field-index c.deref-field-items.result.now)) ≡ 0
-    = ap (λ xs. fields_words c.args.table.now (fields_of c.args.table.now c.args.msg) (node_of xs)) (drop_all c.loop-field.field-index c.deref-field-items.result.now c.loop-field-test.false) in
+    = ap (λ xs. fields_words c.args.table.now (fields_of c.args.table.now c.args.msg) (node_of xs))
+    (drop_all c.loop-field.field-index c.deref-field-items.result.now c.loop-field-test.false) in
     omega (arith, none, c.loop-field.invariant.0, c.loop-field.invariant.1)
 
 pub elements_words-item_words-content-requires : goal.elements_words-item_words-content-requires

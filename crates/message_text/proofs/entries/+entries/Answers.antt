@@ -120,7 +120,11 @@ put_pairs-returns t c =
 pub put_pair-returns : goal.put_pair-returns
 put_pair-returns t c =
     let first = c.in_ok-put_item.ensures in
-    on_ok_weaker c.put_item-2.result (λ h. (first.0 ++ h.0, (first.0, h.0, first.1, h.1, refl), two c.args.out.now c.put_item.new.out c.put_item-2.new.out first.0 h.0 first.2 h.2)) c.put_item-2.ensures
+    on_ok_weaker c.put_item-2.result (λ h. (
+      first.0 ++ h.0,
+      (first.0, h.0, first.1, h.1, refl),
+      two c.args.out.now c.put_item.new.out c.put_item-2.new.out first.0 h.0 first.2 h.2,
+    )) c.put_item-2.ensures
 
 -- ---- one value
 
@@ -133,7 +137,13 @@ pub put_item-returns-in_ok-put_fields-in-Node : goal.put_item-returns-in_ok-put_
 put_item-returns-in_ok-put_fields-in-Node t c =
     let told = rw (c.message.ensures, c.in_ok-inner-in-Node.ensures) at (rw c.fields_at.ensures.value at c.in_ok-put_fields-in-Node.ensures) in
     rw c.in-Node.is (on_ok_weaker c.put_closing.result
-    (λ h. (enclosed c.args.deep c.args.name.now told.0, (told.0, told.1, refl), three c.args.out.now c.put_opening.new.out c.put_fields.new.out c.put_closing.new.out (opening c.args.deep c.args.name.now) told.0 (closing c.args.deep) c.in_ok-put_opening-in-Node.ensures told.2 h))
+    (λ h. (
+      enclosed c.args.deep c.args.name.now told.0,
+      (told.0, told.1, refl),
+      three c.args.out.now c.put_opening.new.out c.put_fields.new.out c.put_closing.new.out
+          (opening c.args.deep c.args.name.now) told.0 (closing c.args.deep) c.in_ok-put_opening-in-Node.ensures told.2
+          h,
+    ))
     c.put_closing.ensures)
 
 pub put_item-returns-in-Number : goal.put_item-returns-in-Number
@@ -143,5 +153,9 @@ put_item-returns-in-Number t c =
 pub put_item-returns-in-Run : goal.put_item-returns-in-Run
 put_item-returns-in-Run t c =
     rw c.in-Run.is (on_ok_weaker c.put_run_line.result
-    (λ h. (scalar_line c.args.deep c.args.name.now (quoted c.in-Run.bytes), refl, h ∙ ap (λ bs. c.args.out.now ++ scalar_line c.args.deep c.args.name.now (quoted bs)) c.as_slice.ensures))
+    (λ h. (
+      scalar_line c.args.deep c.args.name.now (quoted c.in-Run.bytes),
+      refl,
+      h ∙ ap (λ bs. c.args.out.now ++ scalar_line c.args.deep c.args.name.now (quoted bs)) c.as_slice.ensures,
+    ))
     c.put_run_line.ensures)

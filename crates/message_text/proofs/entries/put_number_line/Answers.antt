@@ -8,5 +8,10 @@ pub returns : goal.returns
 returns c =
     let told = c.in_ok-put_number.ensures in
     on_ok_weaker c.append.result
-    (λ h. (told.0, told.1, three c.args.out.now c.put_scalar_front.new.out c.put_number.new.out c.append.new.self (scalar_front c.args.deep c.args.name.now) told.0 (codes "\n") c.in_ok-put_scalar_front.ensures told.2 h))
+    (λ h. (
+      told.0,
+      told.1,
+      three c.args.out.now c.put_scalar_front.new.out c.put_number.new.out c.append.new.self
+          (scalar_front c.args.deep c.args.name.now) told.0 (codes "\n") c.in_ok-put_scalar_front.ensures told.2 h,
+    ))
     c.append.ensures.ok

@@ -15,7 +15,8 @@ loop-place-preserved c =
     let longer = ap length stored.stores ∙ length-append c.loop-place.words.stores _ in
     let inside = (in_heap-first c.loop-place.words.size old new store (first_of_due c.args.number old new store first) kept.in_heap).1 in
     record {
-      stores = ap (λ stores. stores ++ stores_of (races_up_to c.args.number new)) stored.stores ∙ stores_up_to-first c.args.number old new store c.loop-place.words.stores first ∙ kept.stores;
+      stores = ap (λ stores. stores ++ stores_of (races_up_to c.args.number new)) stored.stores
+          ∙ stores_up_to-first c.args.number old new store c.loop-place.words.stores first ∙ kept.stores;
       races = races_past-first c.args.number old new store first ∙ kept.races;
       size = stored.size ∙ kept.size;
       listed = c.in-Some.ensures.listed ∙ kept.listed;

@@ -29,4 +29,6 @@ abbrev pub invariant-pairs_fit-loop-entry : goal.invariant-pairs_fit-loop-entry
 invariant-pairs_fit-loop-entry l = PairsFit l.table l.key l.kind l.room (pairs_of l.entries) ↔ PairsFit l.table l.key l.kind l.room (pairs_of (drop l.entry-index l.entries))
 
 abbrev pub invariant-fields_fit-loop-number : goal.invariant-fields_fit-loop-number
-invariant-fields_fit-loop-number l = (RestFits l.table l.message.fields l.room 0 l.fn.taken (node_of l.number-items) ↔ RestFits l.table l.message.fields l.room l.last l.taken (node_of (drop l.number-index l.number-items))) × (length l.taken ≡ 128)
+invariant-fields_fit-loop-number l = (RestFits l.table l.message.fields l.room 0 l.fn.taken (node_of l.number-items)
+    ↔ RestFits l.table l.message.fields l.room l.last l.taken (node_of (drop l.number-index l.number-items)))
+    × (length l.taken ≡ 128)

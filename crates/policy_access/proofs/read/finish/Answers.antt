@@ -15,6 +15,10 @@ returns-in_ok-into_access-in-None-clause-accepted c =
 pub returns-in_ok-reason-in-Some-clause-fault : goal.returns-in_ok-reason-in-Some-clause-fault
 returns-in_ok-reason-in-Some-clause-fault c =
     let count : c.len.result ≡ length (names_in c.args.so_far.rules.items) = omega (arith, length-map c.args.so_far.rules.items (λ (r : Rule). r.name), c.len.ensures) in
-    let stands = c.in_ok-reason-in-Some.ensures (names_in c.args.so_far.rules.items) c.requires.names count ∙ ap (λ (l : List ℕ). reason_behind (said_in c.args.table.now (names_in c.args.so_far.rules.items) (line_of l))) c.as_slice.ensures in
-    fault-next c.args.table.now c.args.lines.now c.args.place c.args.so_far.rules.items c.args.allow c.in-Some.line.now c.in_ok-reason-in-Some.reason c.at.result c.requires.read c.requires.default
+    let stands = c.in_ok-reason-in-Some.ensures (names_in c.args.so_far.rules.items) c.requires.names count
+    ∙ ap (λ (l : List ℕ).
+    reason_behind (said_in c.args.table.now (names_in c.args.so_far.rules.items) (line_of l))) c.as_slice.ensures
+    in
+    fault-next c.args.table.now c.args.lines.now c.args.place c.args.so_far.rules.items c.args.allow
+    c.in-Some.line.now c.in_ok-reason-in-Some.reason c.at.result c.requires.read c.requires.default
     c.in-Some.ensures.lookup.3.0 c.in-Some.ensures.lookup.1 stands c.at.ensures

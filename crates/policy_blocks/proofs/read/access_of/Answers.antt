@@ -18,7 +18,9 @@ returns-in-Err c =
     let fault = c.in-Err.fault in
     let first = subst (λ (ls : List (List ℕ)). faults.IsFaultOf T ls fault) c.in_ok-block.ensures.lines c.in-Err.ensures.fault in
     subst (IsBlockFault T c.args.skips Access text) (sym c.item_fault.ensures)
-    (access_fault T c.args.skips text _ (broken (faults.IsFirstFault T) (λ ls. c.one_fault.ensures T ls) c.args.skips text block.rest fault c.in_ok-block.ensures.rest (access_first T _ fault first)))
+    (access_fault T c.args.skips text _
+    (broken (faults.IsFirstFault T) (λ ls. c.one_fault.ensures T ls) c.args.skips text block.rest fault
+    c.in_ok-block.ensures.rest (access_first T _ fault first)))
 
 pub returns-in_default : goal.returns-in_default
 returns-in_default c =
@@ -29,4 +31,6 @@ returns-in_default c =
     let whole = c.in-Ok.ensures.accepted in
     subst (IsBlockFault T c.args.skips Access text) (sym c.endless_fault.ensures)
     (access_fault T c.args.skips text (At (length (whole_lines text) + 2) Word)
-    (endless (faults.IsFirstFault T) c.args.skips text left (λ n q first. c.text_or_fault.ensures.not_both T (kept c.args.skips (inner_lines text)) policy n q (subst (λ (ls : List (List ℕ)). texts.IsTextOf T ls policy) c.in_ok-block.ensures.lines whole) first)))
+    (endless (faults.IsFirstFault T) c.args.skips text left
+    (λ n q first. c.text_or_fault.ensures.not_both T (kept c.args.skips (inner_lines text)) policy n q
+    (subst (λ (ls : List (List ℕ)). texts.IsTextOf T ls policy) c.in_ok-block.ensures.lines whole) first)))

@@ -16,7 +16,9 @@ returns-in-Access c =
     let ms = meanings_of c.as_slice-words.result.now in
     let heads = subst (λ (ws : List Said). Heads d l.form l.line.now (meanings_of ws)) (sym c.as_slice-words.ensures.value) c.in-Ok.ensures in
     let moved = subst (λ (f : ItemForm). Heads d f l.line.now ms) c.in-Access.is heads in
-    subst (λ (f : ItemForm). MatchResult c.access_of.result (λ r. Declares T skips d f l.line.now l.behind.now r.0 r.1.now) (IsFaultOf T skips d f l.line.now l.behind.now)) (sym c.in-Access.is)
+    subst (λ (f : ItemForm). MatchResult c.access_of.result
+    (λ r. Declares T skips d f l.line.now l.behind.now r.0 r.1.now)
+    (IsFaultOf T skips d f l.line.now l.behind.now)) (sym c.in-Access.is)
     (access_read T skips d l.line.now l.behind.now ms c.access_of.result moved c.access_of.ensures)
 
 pub returns-in-Redact : goal.returns-in-Redact
@@ -28,5 +30,7 @@ returns-in-Redact c =
     let ms = meanings_of c.as_slice-words.result.now in
     let heads = subst (λ (ws : List Said). Heads d l.form l.line.now (meanings_of ws)) (sym c.as_slice-words.ensures.value) c.in-Ok.ensures in
     let moved = subst (λ (f : ItemForm). Heads d f l.line.now ms) c.in-Redact.is heads in
-    subst (λ (f : ItemForm). MatchResult c.redact_of.result (λ r. Declares T skips d f l.line.now l.behind.now r.0 r.1.now) (IsFaultOf T skips d f l.line.now l.behind.now)) (sym c.in-Redact.is)
+    subst (λ (f : ItemForm). MatchResult c.redact_of.result
+    (λ r. Declares T skips d f l.line.now l.behind.now r.0 r.1.now)
+    (IsFaultOf T skips d f l.line.now l.behind.now)) (sym c.in-Redact.is)
     (redact_read T skips d l.line.now l.behind.now ms c.redact_of.result moved c.redact_of.ensures)

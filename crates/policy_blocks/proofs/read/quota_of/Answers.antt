@@ -19,7 +19,8 @@ unreachable-requires c =
     let ms = meanings_of c.args.words.now in
     let none = ap (tenant_place d) (sym c.name_at.ensures) ∙ sym c.tenant.ensures ∙ c.in_default.is in
     c.requires.free Unknown
-    (no_tenant (name_at ms 3) refl (third_name d of.Quota (words_of c.args.line.now) ms c.requires.said refl) (naming.none_there (λ (t : Tenant). t.name) (name_at ms 3) d.tenants none) refl)
+    (no_tenant (name_at ms 3) refl (third_name d of.Quota (words_of c.args.line.now) ms c.requires.said refl)
+    (naming.none_there (λ (t : Tenant). t.name) (name_at ms 3) d.tenants none) refl)
 
 pub returns : goal.returns
 returns c =

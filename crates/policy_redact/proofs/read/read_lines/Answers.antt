@@ -6,7 +6,9 @@ use Rattle.policy_redact.proofs.read.read_lines.Goals as goal
 
 pub returns-then-place-ge-MAX_CLEARS-clause-fault : goal.returns-then-place-ge-MAX_CLEARS-clause-fault
 returns-then-place-ge-MAX_CLEARS-clause-fault c =
-    fault-beyond c.args.table.now c.args.lines.now c.loop-place.place c.loop-place.clears.items c.at-then-place-ge-MAX_CLEARS.result c.loop-place.invariant c.if-place-ge-MAX_CLEARS.true c.loop-place-test.true
+    fault-beyond c.args.table.now c.args.lines.now c.loop-place.place c.loop-place.clears.items
+    c.at-then-place-ge-MAX_CLEARS.result c.loop-place.invariant c.if-place-ge-MAX_CLEARS.true
+    c.loop-place-test.true
     c.at-then-place-ge-MAX_CLEARS.ensures
 
 pub returns-in-Err-clause-fault : goal.returns-in-Err-clause-fault

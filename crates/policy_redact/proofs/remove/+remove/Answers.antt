@@ -1,4 +1,5 @@
-use Rattle.std.proofs.Common.{◌≡◌, ℕ, ◌-◌, ◌<◌, Bool, true, false, List, [], ◌∷◌, ◌++◌, length, length-take, length-drop, drop, get_or, set, None, ap, sym, ◌∙◌, subst, arith}
+use Rattle.std.proofs.Common.{◌≡◌, ℕ, ◌-◌, ◌<◌, Bool, true, false, List, [], ◌∷◌, ◌++◌, length, length-take}
+use Rattle.std.proofs.Common.{length-drop, drop, get_or, set, None, ap, sym, ◌∙◌, subst, arith}
 use Rattle.std.specs.Str.{bytes_eq}
 use Rattle.std.specs.Bool.{OnTrue, OnFalse}
 use Rattle.mrpc_table.specs.Node.{Node, content_at}
@@ -14,8 +15,16 @@ pub remove_at-remove_inside-requires : goal.remove_at-remove_inside-requires
 remove_at-remove_inside-requires t c =
     let fs = c.tree.inside.fields.items in
     let up = subst IsAscending (sym c.tree.view_is) c.requires in
-    let within = subst (λ (l : List (ℕ × FieldValue)). c.in-Some.place < length l) c.as_slice.ensures.value c.in-Some.ensures.within in
-    (omega (arith, length-take (length c.args.way.now - 1) (drop 1 c.args.way.now), length-drop 1 c.args.way.now, c.in-len1-up.len_at_least), subst (λ (f : ℕ × FieldValue). HoldsAscending (content_of f.1)) (sym c.index_mut.ensures.value) (held fs 0 c.in-Some.place c.index_mut.result.now up within))
+    let within = subst (λ (l : List (ℕ × FieldValue)). c.in-Some.place < length l) c.as_slice.ensures.value c.in-Some.ensures.within in (
+      omega (
+        arith,
+        length-take (length c.args.way.now - 1) (drop 1 c.args.way.now),
+        length-drop 1 c.args.way.now,
+        c.in-len1-up.len_at_least,
+      ),
+      subst (λ (f : ℕ × FieldValue). HoldsAscending (content_of f.1))
+          (sym c.index_mut.ensures.value) (held fs 0 c.in-Some.place c.index_mut.result.now up within),
+    )
 
 pub remove_at-returns-in-None-clause-left : goal.remove_at-returns-in-None-clause-left
 remove_at-returns-in-None-clause-left t c =
@@ -51,7 +60,9 @@ remove_at-returns-in-Some-clause-smaller t c =
     let within = subst (λ (l : List (ℕ × FieldValue)). c.in-Some.place < length l) c.as_slice.ensures.value c.in-Some.ensures.within in
     on_true c.remove_inside.result (content_weight (content_of new) < content_weight (content_of f.1)) (weight (node_of (set fs c.in-Some.place (f.0, new))) < weight c.args.tree.now)
     (λ less. subst (λ (u : Node). weight (node_of (set fs c.in-Some.place (f.0, new))) < weight u) c.tree.view_is
-    (lighter-inside fs c.in-Some.place f (f.0, new) within (subst (λ (g : ℕ × FieldValue). content_weight (content_of new) < content_weight (content_of g.1)) c.index_mut.ensures.value less)))
+    (lighter-inside fs c.in-Some.place f (f.0, new) within
+    (subst (λ (g : ℕ × FieldValue). content_weight (content_of new) < content_weight (content_of g.1))
+    c.index_mut.ensures.value less)))
     c.remove_inside.ensures.smaller
 
 pub remove_at-returns-in-Some-clause-unchanged : goal.remove_at-returns-in-Some-clause-unchanged
@@ -61,5 +72,7 @@ remove_at-returns-in-Some-clause-unchanged t c =
     let new = c.remove_inside.new.content in
     let within = subst (λ (l : List (ℕ × FieldValue)). c.in-Some.place < length l) c.as_slice.ensures.value c.in-Some.ensures.within in
     on_false c.remove_inside.result (content_of new ≡ content_of f.1) (node_of (set fs c.in-Some.place (f.0, new)) ≡ c.args.tree.now)
-    (λ same. same-inside fs c.in-Some.place f (f.0, new) within (ap (λ (g : ℕ × FieldValue). g.0) c.index_mut.ensures.value) (same ∙ ap (λ (g : ℕ × FieldValue). content_of g.1) c.index_mut.ensures.value) ∙ c.tree.view_is)
+    (λ same. same-inside fs c.in-Some.place f (f.0, new) within
+    (ap (λ (g : ℕ × FieldValue). g.0) c.index_mut.ensures.value)
+    (same ∙ ap (λ (g : ℕ × FieldValue). content_of g.1) c.index_mut.ensures.value) ∙ c.tree.view_is)
     c.remove_inside.ensures.unchanged

@@ -5,7 +5,9 @@ use Rattle.proto_schema.proofs.draft.push_ranges.Goals as goal
 
 pub returns-in_ok-append : goal.returns-in_ok-append
 returns-in_ok-append c =
-    rw c.in_ok-append.ensures (sym (edit_set c.args.place (λ (m : MessageDecl). record m { ranges = m.ranges ++ c.args.ranges }) c.args.messages.now c.index-messages-place.result c.if-place-messages.true))
+    rw c.in_ok-append.ensures
+    (sym (edit_set c.args.place (λ (m : MessageDecl). record m { ranges = m.ranges ++ c.args.ranges })
+    c.args.messages.now c.index-messages-place.result c.if-place-messages.true))
 
 pub returns-else-place-messages : goal.returns-else-place-messages
 returns-else-place-messages c = sym (edit_beyond c.args.place _ c.args.messages.now c.if-place-messages.false)

@@ -11,7 +11,8 @@ pub returns-in_default : goal.returns-in_default
 returns-in_default c = λ ts a.
     let text = c.args.text.now in
     let over : is_over (draft_of c.tokens.draft) c.tokens.state (lexeme c.args.text.now c.next-token.result) ≡ true = c.in_default.ensures text in
-    goes_over text c.args.semicolon.end c.tokens.last.end c.next-token.result (draft_of c.tokens.draft) c.tokens.state c.next-token.ensures.list over c.tokens.invariant.comes ts a ∙ ap read (sym c.into_file.ensures)
+    goes_over text c.args.semicolon.end c.tokens.last.end c.next-token.result (draft_of c.tokens.draft) c.tokens.state
+    c.next-token.ensures.list over c.tokens.invariant.comes ts a ∙ ap read (sym c.into_file.ensures)
 
 pub take-requires-clause-depth : goal.take-requires-clause-depth
 take-requires-clause-depth c =
@@ -48,5 +49,7 @@ tokens-preserved c =
       within = c.next-token.ensures.next.within;
       line = sym (c.next-token.ensures.same_line more);
       depth = omega arith;
-      comes = goes_on text c.args.semicolon.end c.tokens.last.end c.next-token.result d (draft_of c.take.new.draft) begun c.in_ok-state.state c.next-token.ensures.list more goes.1 c.in_ok-state.ensures.reads comes;
+      comes = goes_on text c.args.semicolon.end c.tokens.last.end c.next-token.result d
+          (draft_of c.take.new.draft) begun c.in_ok-state.state c.next-token.ensures.list more goes.1
+          c.in_ok-state.ensures.reads comes;
     }

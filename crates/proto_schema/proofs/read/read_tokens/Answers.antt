@@ -12,7 +12,8 @@ returns-then-is_word c = λ ts a.
 pub returns-then-is_none : goal.returns-then-is_none
 returns-then-is_none c = λ ts a.
     let text = c.args.text.now in
-    rw (c.unexpected.ensures text) (no_syntax text c.next-first.result ts true (c.next-first.ensures.list ts a) (sym c.is_word.ensures ∙ c.if-is_word.false) (sym (c.is_none.ensures text) ∙ c.if-is_none.true))
+    rw (c.unexpected.ensures text) (no_syntax text c.next-first.result ts true (c.next-first.ensures.list ts a)
+    (sym c.is_word.ensures ∙ c.if-is_word.false) (sym (c.is_none.ensures text) ∙ c.if-is_none.true))
 
 pub returns : goal.returns
 returns c = λ ts a.

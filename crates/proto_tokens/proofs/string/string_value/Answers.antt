@@ -42,4 +42,6 @@ pub returns : goal.returns
 returns c =
     let body : List ℕ = take (length c.args.literal.now - 1 - 1) (drop 1 c.args.literal.now) in
     let two : length c.args.literal.now - 1 - 1 ≡ length c.args.literal.now - 2 = omega arith in
-    string_done body c.loop-i.out c.loop-i.i c.loop-i-test.false c.loop-i.invariant.same ∙ ap (λ (n : ℕ). value_up_to (length (take n (drop 1 c.args.literal.now))) (take n (drop 1 c.args.literal.now))) two
+    string_done body c.loop-i.out c.loop-i.i c.loop-i-test.false c.loop-i.invariant.same
+    ∙ ap (λ (n : ℕ). value_up_to (length (take n (drop 1 c.args.literal.now)))
+    (take n (drop 1 c.args.literal.now))) two

@@ -31,12 +31,16 @@ broken : (b : ℕ) → (b ≡ 10) ⊎ ((b ≡ 10 → ⊥) × (b ≡ 0)) → (b =
 broken b h = elim h [ inl e ↦ or_left _ _ (eq-eqb _ _ e) | inr p ↦ or_right _ _ (eq-eqb _ _ p.1) ]
 
 pub returns-then-byte-eq0-clause-value : goal.returns-then-byte-eq0-clause-value
-returns-then-byte-eq0-clause-value c = sym (closes_break c.args.quote c.args.bytes.now c.loop-i.i c.loop-i.invariant.same c.loop-i-test.true c.if-byte-quote.false c.if-byte-eq92.false (broken _ c.if-byte-eq0.either))
+returns-then-byte-eq0-clause-value c =
+    sym (closes_break c.args.quote c.args.bytes.now c.loop-i.i c.loop-i.invariant.same c.loop-i-test.true
+    c.if-byte-quote.false c.if-byte-eq92.false (broken _ c.if-byte-eq0.either))
 
 pub loop-i-preserved : goal.loop-i-preserved
 loop-i-preserved c = record {
   within = omega arith;
-  same = closes_on c.args.quote c.args.bytes.now c.loop-i.i c.loop-i.invariant.same c.loop-i-test.true c.if-byte-quote.false c.if-byte-eq92.false (or_from _ _ (ne_eqb _ _ c.if-byte-eq0.false.0) (ne_eqb _ _ c.if-byte-eq0.false.1));
+  same = closes_on c.args.quote c.args.bytes.now c.loop-i.i c.loop-i.invariant.same c.loop-i-test.true
+      c.if-byte-quote.false c.if-byte-eq92.false
+      (or_from _ _ (ne_eqb _ _ c.if-byte-eq0.false.0) (ne_eqb _ _ c.if-byte-eq0.false.1));
 }
 
 pub returns-clause-value : goal.returns-clause-value

@@ -9,7 +9,8 @@ use Rattle.qos_order.proofs.weights.apart_len.Goals as goal
 pub loop-i-preserved : goal.loop-i-preserved
 loop-i-preserved c =
     let none : Weight = record { conn = 0; weight = 0 } in
-    All-more (λ w. ¬ Contains (conns_of c.args.front.now) w.conn) c.args.back.now c.loop-i.i none c.loop-i-test.true c.loop-i.invariant (λ there. let no = c.if-has_conn.ensures.1 there in cc)
+    All-more (λ w. ¬ Contains (conns_of c.args.front.now) w.conn) c.args.back.now c.loop-i.i none c.loop-i-test.true
+    c.loop-i.invariant (λ there. let no = c.if-has_conn.ensures.1 there in cc)
 
 pub returns-clause-apart : goal.returns-clause-apart
 returns-clause-apart c = let end : c.loop-i.i ≡ length c.args.back.now = omega arith in rw (← end) c.loop-i.invariant

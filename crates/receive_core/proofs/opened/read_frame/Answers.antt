@@ -12,5 +12,7 @@ returns-in-Err-At c policy words =
     let told : IsFirstFault c.args.table.now c.message_at-message.result c.as_slice.result.now c.in-Err-At.reason c.in-Err-At.place =
     subst (FaultsAs (IsFirstFault c.args.table.now c.message_at-message.result c.as_slice.result.now)) c.in-Err-At.field-0-is c.in-Err-At.ensures.fault in
     let fault = subst (λ (msg : ℕ). IsFirstFault c.args.table.now msg c.as_slice.result.now c.in-Err-At.reason c.in-Err-At.place) message told in
-    let first = subst (λ (bytes : List ℕ). IsFirstFault c.args.table.now (message_of c.args.table.now c.args.frame.now) bytes c.in-Err-At.reason c.in-Err-At.place) c.as_slice.ensures fault in
+    let first = subst
+    (λ (bytes : List ℕ). IsFirstFault c.args.table.now (message_of c.args.table.now c.args.frame.now) bytes
+    c.in-Err-At.reason c.in-Err-At.place) c.as_slice.ensures fault in
     is_faulty call c.in-Err-At.reason c.in-Err-At.place first refl

@@ -10,7 +10,8 @@ returns-then-index-span-clause-holes c = rw c.remove-hole.ensures.items
 
 pub returns-then-index-span-clause-stands : goal.returns-then-index-span-clause-stands
 returns-then-index-span-clause-stands c = rw c.remove-hole.ensures.items
-    (stands_joined_before _ c.args.index c.args.span c.remove-hole.result c.requires.holes c.requires.stands c.if-index-gt0.true (omega (arith, c.requires.stands.within, c.if-index-gt0.true)) c.remove-hole.ensures.value
+    (stands_joined_before _ c.args.index c.args.span c.remove-hole.result c.requires.holes c.requires.stands
+    c.if-index-gt0.true (omega (arith, c.requires.stands.within, c.if-index-gt0.true)) c.remove-hole.ensures.value
     (let lt : c.args.index - 1 < length c.args.holes.now.items = omega (arith, c.requires.stands.within, c.if-index-gt0.true) in
     let e = same_hole _ (c.args.index - 1) c.index.result.now c.remove-hole.result lt c.index.ensures c.remove-hole.ensures.value in
     let f = same_hole _ (c.args.index - 1) c.index-then-index-gt0.result.now c.remove-hole.result lt c.index-then-index-gt0.ensures c.remove-hole.ensures.value in
@@ -18,11 +19,14 @@ returns-then-index-span-clause-stands c = rw c.remove-hole.ensures.items
 
 pub returns-then-index-span-clause-before : goal.returns-then-index-span-clause-before
 returns-then-index-span-clause-before c = rw c.remove-hole.ensures.items
-    (clear_joined_before _ c.args.index c.args.span c.remove-hole.result c.requires.holes c.if-index-gt0.true (omega (arith, c.requires.stands.within, c.if-index-gt0.true)) c.remove-hole.ensures.value)
+    (clear_joined_before _ c.args.index c.args.span c.remove-hole.result c.requires.holes c.if-index-gt0.true
+    (omega (arith, c.requires.stands.within, c.if-index-gt0.true)) c.remove-hole.ensures.value)
 
 pub returns-clause-before : goal.returns-clause-before
 returns-clause-before c = elim c.else-index-gt0.branch [
-  | else-index-gt0-via-then-index-gt0+else-index-span w ↦ clear_apart_before _ c.args.index c.args.span w.index.result.now c.requires.holes c.requires.stands w.if-index-gt0.true (omega (arith, c.requires.stands.within, w.if-index-gt0.true)) w.index.ensures
+  | else-index-gt0-via-then-index-gt0+else-index-span w ↦ clear_apart_before _ c.args.index c.args.span
+      w.index.result.now c.requires.holes c.requires.stands w.if-index-gt0.true
+      (omega (arith, c.requires.stands.within, w.if-index-gt0.true)) w.index.ensures
       (let lt : c.args.index - 1 < length c.args.holes.now.items = omega (arith, c.requires.stands.within, w.if-index-gt0.true) in
       let e = same_hole _ (c.args.index - 1) w.index.result.now w.index-then-index-gt0.result.now lt w.index.ensures w.index-then-index-gt0.ensures in
       λ touch. w.if-index-span.false (omega (arith, ap (λ (h : Span). h.at) e, ap (λ (h : Span). h.words) e, touch)))

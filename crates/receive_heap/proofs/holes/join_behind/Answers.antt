@@ -20,6 +20,7 @@ returns-then-index-span-clause-clear c = rw c.remove-hole.ensures.items
 
 pub returns-clause-clear : goal.returns-clause-clear
 returns-clause-clear c = elim c.else-index-len.branch [
-  | else-index-len-via-then-index-len+else-index-span w ↦ clear_apart _ c.args.index c.args.span w.index.result.now c.requires.holes c.requires.stands (search rules) w.index.ensures w.if-index-span.false
+  | else-index-len-via-then-index-len+else-index-span w ↦ clear_apart _ c.args.index c.args.span w.index.result.now
+      c.requires.holes c.requires.stands (search rules) w.index.ensures w.if-index-span.false
   | else-index-len-via-else-index-len w ↦ λ k d le klt. let past : length c.args.holes.now.items ≤ c.args.index = search rules in omega (arith, past, le, klt)
 ]

@@ -80,7 +80,9 @@ returns-in_err-same_methods-clause-refused c =
     let v = c.args.version in
     let o = offers_of T s c.count_methods-methods.result c.count_methods-methods.ensures c.if-methods-eq0.false in
     let p = offers_of U s c.count_methods-others.result c.count_methods-others.ensures c.if-others-eq0.false in
-    let may : MayRefuse T U s v c.in_err-same_methods.field-0.0 = inr (methods_refusal T U s v c.in_err-same_methods.field-0.0 (second v c.requires.version c.if-version-eq-VERSION.false) o p c.in_err-same_methods.ensures.differ) in
+    let may : MayRefuse T U s v c.in_err-same_methods.field-0.0 =
+    inr (methods_refusal T U s v c.in_err-same_methods.field-0.0
+    (second v c.requires.version c.if-version-eq-VERSION.false) o p c.in_err-same_methods.ensures.differ) in
     let q = err_from_is_err_and c.from_residual-in_err-same_methods.result c.from_residual-in_err-same_methods.ensures.1 in
     rw (q.1, q.2) may
 
@@ -93,7 +95,9 @@ returns-in_err-same_methods-clause-refused_only c = λ why refuses.
     let v = c.args.version in
     let o = offers_of T s c.count_methods-methods.result c.count_methods-methods.ensures c.if-methods-eq0.false in
     let p = offers_of U s c.count_methods-others.result c.count_methods-others.ensures c.if-others-eq0.false in
-    let may : MayRefuse T U s v c.in_err-same_methods.field-0.0 = inr (methods_refusal T U s v c.in_err-same_methods.field-0.0 (second v c.requires.version c.if-version-eq-VERSION.false) o p c.in_err-same_methods.ensures.differ) in
+    let may : MayRefuse T U s v c.in_err-same_methods.field-0.0 =
+    inr (methods_refusal T U s v c.in_err-same_methods.field-0.0
+    (second v c.requires.version c.if-version-eq-VERSION.false) o p c.in_err-same_methods.ensures.differ) in
     let q = err_from_is_err_and c.from_residual-in_err-same_methods.result c.from_residual-in_err-same_methods.ensures.1 in
     rw (q.1, q.2) (no_other_refusal T U s v c.in_err-same_methods.field-0.0 why may refuses)
 
@@ -105,7 +109,10 @@ returns-in_err-same_fields-clause-refused c =
     let v = c.args.version in
     let o = offers_of T s c.count_methods-methods.result c.count_methods-methods.ensures c.if-methods-eq0.false in
     let p = offers_of U s c.count_methods-others.result c.count_methods-others.ensures c.if-others-eq0.false in
-    let may : MayRefuse T U s v c.in_err-same_fields.field-0.0 = fields_refusal T U s v c.in_err-same_fields.field-0.0 (second v c.requires.version c.if-version-eq-VERSION.false) o p c.in_ok-same_methods.ensures.same c.in_err-same_fields.ensures.differ in
+    let may : MayRefuse T U s v c.in_err-same_fields.field-0.0 =
+    fields_refusal T U s v c.in_err-same_fields.field-0.0
+    (second v c.requires.version c.if-version-eq-VERSION.false) o p c.in_ok-same_methods.ensures.same
+    c.in_err-same_fields.ensures.differ in
     let q = err_from_is_err_and c.from_residual-in_err-same_fields.result c.from_residual-in_err-same_fields.ensures.1 in
     rw (q.1, q.2) may
 
@@ -117,7 +124,10 @@ returns-in_err-same_fields-clause-agreed_only c = λ agree.
     let v = c.args.version in
     let o = offers_of T s c.count_methods-methods.result c.count_methods-methods.ensures c.if-methods-eq0.false in
     let p = offers_of U s c.count_methods-others.result c.count_methods-others.ensures c.if-others-eq0.false in
-    let may : MayRefuse T U s v c.in_err-same_fields.field-0.0 = fields_refusal T U s v c.in_err-same_fields.field-0.0 (second v c.requires.version c.if-version-eq-VERSION.false) o p c.in_ok-same_methods.ensures.same c.in_err-same_fields.ensures.differ in
+    let may : MayRefuse T U s v c.in_err-same_fields.field-0.0 =
+    fields_refusal T U s v c.in_err-same_fields.field-0.0
+    (second v c.requires.version c.if-version-eq-VERSION.false) o p c.in_ok-same_methods.ensures.same
+    c.in_err-same_fields.ensures.differ in
     let q = err_from_is_err_and c.from_residual-in_err-same_fields.result c.from_residual-in_err-same_fields.ensures.1 in
     rw (q.1, q.2) (memory_alone T U s v c.in_err-same_fields.field-0.0 may agree)
 
@@ -130,7 +140,10 @@ returns-in_err-same_fields-clause-refused_only c = λ why refuses.
     let v = c.args.version in
     let o = offers_of T s c.count_methods-methods.result c.count_methods-methods.ensures c.if-methods-eq0.false in
     let p = offers_of U s c.count_methods-others.result c.count_methods-others.ensures c.if-others-eq0.false in
-    let may : MayRefuse T U s v c.in_err-same_fields.field-0.0 = fields_refusal T U s v c.in_err-same_fields.field-0.0 (second v c.requires.version c.if-version-eq-VERSION.false) o p c.in_ok-same_methods.ensures.same c.in_err-same_fields.ensures.differ in
+    let may : MayRefuse T U s v c.in_err-same_fields.field-0.0 =
+    fields_refusal T U s v c.in_err-same_fields.field-0.0
+    (second v c.requires.version c.if-version-eq-VERSION.false) o p c.in_ok-same_methods.ensures.same
+    c.in_err-same_fields.ensures.differ in
     let q = err_from_is_err_and c.from_residual-in_err-same_fields.result c.from_residual-in_err-same_fields.ensures.1 in
     rw (q.1, q.2) (no_other_refusal T U s v c.in_err-same_fields.field-0.0 why may refuses)
 

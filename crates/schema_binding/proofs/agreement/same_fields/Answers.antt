@@ -16,7 +16,8 @@ returns-in-Some-clause-differ c =
     inr (
       message_name T our,
       number,
-      differs_first T c.args.theirs.now c.args.service.now c.in_ok-reached.reached c.requires.ours c.requires.theirs c.in_ok-reached.ensures our number c.loop-our.invariant c.in-Some.ensures,
+      differs_first T c.args.theirs.now c.args.service.now c.in_ok-reached.reached c.requires.ours c.requires.theirs
+          c.in_ok-reached.ensures our number c.loop-our.invariant c.in-Some.ensures,
       ap (λ (name : List ℕ). Field name number) (c.in_ok-copied.ensures ∙ sym is_named),
     )
 

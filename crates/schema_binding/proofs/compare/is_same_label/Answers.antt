@@ -15,5 +15,7 @@ returns-in-Member-their c =
     (same_oneofs c.args.ours.now c.args.theirs.now os ps o p c.eq.result
     (equal_texts c.as_slice-in-Member-their.result.now c.as_slice-in-Member-their-3.result.now (unwrap_or (slice_get os o) []) (unwrap_or (slice_get ps p) []) c.eq.result
     (named_oneof os o c.index-as_slice-left.result c.as_slice.result.now c.as_slice.ensures ours c.index-as_slice-left.is ∙ sym c.as_slice-in-Member-their.ensures)
-    (named_oneof ps p c.index-as_slice-right.result c.as_slice-in-Member-their-2.result.now c.as_slice-in-Member-their-2.ensures theirs c.index-as_slice-right.is ∙ sym c.as_slice-in-Member-their-3.ensures)
+    (named_oneof ps p c.index-as_slice-right.result c.as_slice-in-Member-their-2.result.now
+    c.as_slice-in-Member-their-2.ensures theirs c.index-as_slice-right.is
+    ∙ sym c.as_slice-in-Member-their-3.ensures)
     c.eq.ensures))

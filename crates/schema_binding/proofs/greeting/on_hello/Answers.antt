@@ -29,7 +29,8 @@ pub returns-in_err-table-clause-fault : goal.returns-in_err-table-clause-fault
 returns-in_err-table-clause-fault c =
     let p = err_from_is_err_and c.from_residual.result c.from_residual.ensures.1 in
     rw (p.1, p.2)
-    (bad_behind c.args.payload.now c.in-Some.service.now c.in-Some.text.now c.in_err-table.field-0.0 c.in-Some.ensures.parts (c.if-not-is_full_name.ensures.0 refl) c.in_err-table.ensures.fault)
+    (bad_behind c.args.payload.now c.in-Some.service.now c.in-Some.text.now c.in_err-table.field-0.0
+    c.in-Some.ensures.parts (c.if-not-is_full_name.ensures.0 refl) c.in_err-table.ensures.fault)
 
 pub returns-clause-read : goal.returns-clause-read
 returns-clause-read c =

@@ -4,7 +4,9 @@ use Rattle.std.proofs.lemmas.Option.{same_Some}
 use Rattle.file_bundle.specs.Packed.{files_of}
 use Rattle.schema_files.specs.Placing.{ArePlaces, ArePlaced}
 use Rattle.schema_files.proofs.Lists.{some_at}
-use Rattle.schema_files.proofs.Taken.{order_within, seen_within, taken_none, taken_more, as_many, some_members, order_at, sees_at, below_at, sees_below, packed_below, packed_here, file_there, some_there}
+use Rattle.schema_files.proofs.Taken.{order_within, seen_within, taken_none, taken_more, as_many, some_members}
+use Rattle.schema_files.proofs.Taken.{order_at, sees_at, below_at, sees_below, packed_below, packed_here, file_there}
+use Rattle.schema_files.proofs.Taken.{some_there}
 use Rattle.schema_files.proofs.parts.parts_of.Goals as goal
 
 pub places_in-requires-clause-within : goal.places_in-requires-clause-within

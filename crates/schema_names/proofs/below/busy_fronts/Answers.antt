@@ -15,7 +15,8 @@ loop-n-preserved-then-is_one c =
     let w = is_one_of (get_or c.args.below.now c.front-front.result Nothing) (sym c.if-is_one.ensures) in
     let short : c.loop-n.n - 1 ≤ length (package_at c.args.places.now c.args.file) = omega (arith, c.loop-n.auto.n, c.depth-n.ensures.is) in
     busy_skip c.loop-n-test.true
-    (only_own c.args.places.now c.args.below.now c.args.file (c.loop-n.n - 1) c.front-front.result w.0 c.requires.behind c.requires.tells c.requires.there short c.front-front.ensures.number w.1)
+    (only_own c.args.places.now c.args.below.now c.args.file (c.loop-n.n - 1) c.front-front.result w.0
+    c.requires.behind c.requires.tells c.requires.there short c.front-front.ensures.number w.1)
     c.loop-n.invariant
 
 pub loop-n-preserved : goal.loop-n-preserved

@@ -46,7 +46,8 @@ loop-i-preserved c =
           let own : IsNumber c.args.places.now s c.number-scope.result =
           c.number-scope.ensures.number s (subst (λ (q : ℕ). IsScope c.args.places.now (home.Message q) s) e scope) in
           let same : c.number-scope.result ≡ k = number_same own number in
-          subst (λ (q : ℕ). get_or (set c.loop-i.below.items c.number-scope.result Several) q Nothing ≡ Several) same (get_or-set_same c.loop-i.below.items c.number-scope.result Several Nothing l))
+          subst (λ (q : ℕ). get_or (set c.loop-i.below.items c.number-scope.result Several) q Nothing ≡ Several) same
+          (get_or-set_same c.loop-i.below.items c.number-scope.result Several Nothing l))
           (cases_lt i c.loop-i.i);
     }
 

@@ -16,7 +16,10 @@ loop-n-preserved c =
     let is : c.with.result ≡ with_front (get_or c.loop-n.below c.front-outer.result Nothing) c.front-next.result = c.with.ensures in
     let g : Grows c.loop-n.below (set c.loop-n.below c.front-outer.result c.with.result) =
     subst (λ (b : Below). Grows c.loop-n.below (set c.loop-n.below c.front-outer.result b)) (sym is)
-    (grows_front c.loop-n.below c.front-outer.result c.front-next.result (get_or c.loop-n.below c.front-outer.result Nothing) l (get_or_default c.loop-n.below c.front-outer.result Nothing (get_or c.loop-n.below c.front-outer.result Nothing) l)) in
+    (grows_front c.loop-n.below c.front-outer.result c.front-next.result
+    (get_or c.loop-n.below c.front-outer.result Nothing) l
+    (get_or_default c.loop-n.below c.front-outer.result Nothing
+    (get_or c.loop-n.below c.front-outer.result Nothing) l)) in
     record {
       grows = grows_more c.loop-n.invariant.grows g;
       noted = λ n k less number.
@@ -29,7 +32,8 @@ loop-n-preserved c =
           let same : c.front-outer.result ≡ k = number_same own number in
           let next : IsNumber c.args.places.now (take (n + 1) (package_at c.args.places.now c.args.file)) c.front-next.result =
           subst (λ (q : ℕ). IsNumber c.args.places.now (take (q + 1) (package_at c.args.places.now c.args.file)) c.front-next.result) e c.front-next.ensures.number in
-          let at : get_or (set c.loop-n.below c.front-outer.result c.with.result) c.front-outer.result Nothing ≡ c.with.result = get_or-set_same c.loop-n.below c.front-outer.result c.with.result Nothing l in
+          let at : get_or (set c.loop-n.below c.front-outer.result c.with.result) c.front-outer.result Nothing
+          ≡ c.with.result = get_or-set_same c.loop-n.below c.front-outer.result c.with.result Nothing l in
           let has : Has (get_or (set c.loop-n.below c.front-outer.result c.with.result) c.front-outer.result Nothing) c.front-next.result =
           subst (λ (b : Below). Has b c.front-next.result) (sym (at ∙ is)) (with_new (get_or c.loop-n.below c.front-outer.result Nothing) c.front-next.result) in
           (c.front-next.result, next, subst (λ (q : ℕ). Has (get_or (set c.loop-n.below c.front-outer.result c.with.result) q Nothing) c.front-next.result) same has))

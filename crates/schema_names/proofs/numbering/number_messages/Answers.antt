@@ -34,16 +34,27 @@ loop-i-preserved c =
     let number : IsNumber c.args.files.now up.0 (number_at c.args.packages.now c.len-fronts.result c.loop-i.numbering.numbers.items (home_of c.index-messages-i.result)) =
     number_known c.len-fronts.result c.requires.packages c.loop-i.invariant.numbers (home_of c.index-messages-i.result) up.0 n within up.1 in
     let is : c.number_in-outer.result ≡ number_at c.args.packages.now c.len-fronts.result c.loop-i.numbering.numbers.items (home_of c.index-messages-i.result) =
-    c.number_in-outer.ensures ∙ ap (λ q. number_at c.args.packages.now c.len-fronts.result q c.home.result) c.deref.ensures.value ∙ ap (number_at c.args.packages.now c.len-fronts.result c.loop-i.numbering.numbers.items) c.home.ensures in
+    c.number_in-outer.ensures ∙ ap (λ q. number_at c.args.packages.now c.len-fronts.result q c.home.result)
+    c.deref.ensures.value
+    ∙ ap (number_at c.args.packages.now c.len-fronts.result c.loop-i.numbering.numbers.items) c.home.ensures in
     let outer : IsNumber c.args.files.now up.0 c.number_in-outer.result = subst (IsNumber c.args.files.now up.0) (sym is) number in
     let listed : IsListed c.args.files.now (fronts c.args.files.now + c.loop-i.i) (up.0 ++ c.index-messages-i.result.name.name ∷ []) =
     a_message_scope c.loop-i.i refl (of_message c.loop-i.i c.index-messages-i.result at up.1) in
     let named : c.as_slice.result.now ≡ c.index-messages-i.result.name.name = c.as_slice.ensures in
-    let number_is : c.in_ok-list.field-0 ≡ unwrap_or (child c.loop-i.numbering.inner c.number_in-outer.result c.index-messages-i.result.name.name) (length c.loop-i.numbering.numbers.items) =
+    let number_is : c.in_ok-list.field-0
+    ≡ unwrap_or (child c.loop-i.numbering.inner c.number_in-outer.result c.index-messages-i.result.name.name)
+    (length c.loop-i.numbering.numbers.items) =
     c.in_ok-list.ensures.number ∙ ap (λ (q : List ℕ). unwrap_or (child c.loop-i.numbering.inner c.number_in-outer.result q) (length c.loop-i.numbering.numbers.items)) named in
-    let changed : (k : ℕ) (o : List ℕ) → child c.list.new.self.inner k o ≡ cond (same_child c.number_in-outer.result c.index-messages-i.result.name.name k o) (Some c.in_ok-list.field-0) (child c.loop-i.numbering.inner k o) =
-    λ k o. c.in_ok-list.ensures.inner k o ∙ ap (λ (q : List ℕ). cond (same_child c.number_in-outer.result q k o) (Some c.in_ok-list.field-0) (child c.loop-i.numbering.inner k o)) named in
+    let changed : (k : ℕ) (o : List ℕ)
+    → child c.list.new.self.inner k o
+    ≡ cond (same_child c.number_in-outer.result c.index-messages-i.result.name.name k o)
+    (Some c.in_ok-list.field-0) (child c.loop-i.numbering.inner k o) =
+    λ k o. c.in_ok-list.ensures.inner k o
+    ∙ ap (λ (q : List ℕ). cond (same_child c.number_in-outer.result q k o) (Some c.in_ok-list.field-0)
+    (child c.loop-i.numbering.inner k o)) named in
     let next : IsNumbered c.args.files.now (fronts c.args.files.now + c.loop-i.i + 1) c.list.new.self =
-    next_numbered c.args.files.now c.loop-i.numbering c.list.new.self (fronts c.args.files.now + c.loop-i.i) c.number_in-outer.result c.in_ok-list.field-0 up.0 c.index-messages-i.result.name.name c.loop-i.invariant listed outer number_is c.in_ok-list.ensures.numbers changed in
+    next_numbered c.args.files.now c.loop-i.numbering c.list.new.self (fronts c.args.files.now + c.loop-i.i)
+    c.number_in-outer.result c.in_ok-list.field-0 up.0 c.index-messages-i.result.name.name c.loop-i.invariant
+    listed outer number_is c.in_ok-list.ensures.numbers changed in
     let count : fronts c.args.files.now + c.loop-i.i + 1 ≡ fronts c.args.files.now + (c.loop-i.i + 1) = omega arith in
     subst (λ (q : ℕ). IsNumbered c.args.files.now q c.list.new.self) count next

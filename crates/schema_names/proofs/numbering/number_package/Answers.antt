@@ -24,7 +24,8 @@ loop-n-init c =
     record {
       numbered = subst (λ (q : ℕ). IsNumbered c.args.files.now q c.list_root.new.self) same numbered;
       its_number = root_number c.args.files.now some;
-      its_depths = subst (AreDepths c.args.files.now (start + 0 + 1)) (sym c.in_ok-push.ensures.items) (depth_next c.args.file 0 c.args.depths.now.items c.requires.there (omega arith) before);
+      its_depths = subst (AreDepths c.args.files.now (start + 0 + 1)) (sym c.in_ok-push.ensures.items)
+          (depth_next c.args.file 0 c.args.depths.now.items c.requires.there (omega arith) before);
     }
 
 pub loop-n-preserved : goal.loop-n-preserved
@@ -38,13 +39,27 @@ loop-n-preserved c =
     part_get c.in_ok-parts.parts.items (package_at c.args.files.now c.args.file) parts c.loop-n.n c.index.result.now m c.index.ensures in
     let more : take (c.loop-n.n + 1) (package_at c.args.files.now c.args.file) ≡ take c.loop-n.n (package_at c.args.files.now c.args.file) ++ c.index.result.now.now ∷ [] =
     front_more (package_at c.args.files.now c.args.file) c.loop-n.n c.index.result.now.now part in
-    let l : c.loop-n.n + 1 ≤ length (package_at c.args.files.now c.args.file) = omega (arith, slice_get_within (package_at c.args.files.now c.args.file) c.loop-n.n c.index.result.now.now part) in
-    let listed : IsListed c.args.files.now (fronts_before c.args.files.now c.args.file + c.loop-n.n + 1) (take c.loop-n.n (package_at c.args.files.now c.args.file) ++ c.index.result.now.now ∷ []) =
+    let l : c.loop-n.n + 1 ≤ length (package_at c.args.files.now c.args.file) =
+    omega (
+      arith,
+      slice_get_within (package_at c.args.files.now c.args.file) c.loop-n.n c.index.result.now.now
+          part,
+    ) in
+    let listed : IsListed c.args.files.now (fronts_before c.args.files.now c.args.file + c.loop-n.n + 1)
+    (take c.loop-n.n (package_at c.args.files.now c.args.file) ++ c.index.result.now.now ∷ []) =
     a_front c.args.file (c.loop-n.n + 1) c.requires.there l (omega arith) (sym more) in
     let next : IsNumbered c.args.files.now (fronts_before c.args.files.now c.args.file + c.loop-n.n + 1 + 1) c.list.new.self =
-    next_numbered c.args.files.now c.loop-n.numbering c.list.new.self (fronts_before c.args.files.now c.args.file + c.loop-n.n + 1) c.loop-n.number c.in_ok-number.number (take c.loop-n.n (package_at c.args.files.now c.args.file)) c.index.result.now.now c.loop-n.invariant.numbered listed c.loop-n.invariant.its_number c.in_ok-number.ensures.number c.in_ok-number.ensures.numbers c.in_ok-number.ensures.inner in
+    next_numbered c.args.files.now c.loop-n.numbering c.list.new.self (fronts_before c.args.files.now c.args.file
+    + c.loop-n.n + 1) c.loop-n.number c.in_ok-number.number
+    (take c.loop-n.n (package_at c.args.files.now c.args.file)) c.index.result.now.now c.loop-n.invariant.numbered
+    listed c.loop-n.invariant.its_number c.in_ok-number.ensures.number c.in_ok-number.ensures.numbers
+    c.in_ok-number.ensures.inner in
     let number : IsNumber c.args.files.now (take c.loop-n.n (package_at c.args.files.now c.args.file) ++ c.index.result.now.now ∷ []) c.in_ok-number.number =
-    number_next c.args.files.now c.loop-n.numbering c.list.new.self (fronts_before c.args.files.now c.args.file + c.loop-n.n + 1) c.loop-n.number c.in_ok-number.number (take c.loop-n.n (package_at c.args.files.now c.args.file)) c.index.result.now.now c.loop-n.invariant.numbered listed c.loop-n.invariant.its_number c.in_ok-number.ensures.number c.in_ok-number.ensures.numbers c.in_ok-number.ensures.inner in
+    number_next c.args.files.now c.loop-n.numbering c.list.new.self (fronts_before c.args.files.now c.args.file
+    + c.loop-n.n + 1) c.loop-n.number c.in_ok-number.number
+    (take c.loop-n.n (package_at c.args.files.now c.args.file)) c.index.result.now.now c.loop-n.invariant.numbered
+    listed c.loop-n.invariant.its_number c.in_ok-number.ensures.number c.in_ok-number.ensures.numbers
+    c.in_ok-number.ensures.inner in
     let e : fronts_before c.args.files.now c.args.file + c.loop-n.n + 1 ≡ fronts_before c.args.files.now c.args.file + (c.loop-n.n + 1) = omega arith in
     let f : fronts_before c.args.files.now c.args.file + c.loop-n.n + 1 + 1 ≡ fronts_before c.args.files.now c.args.file + (c.loop-n.n + 1) + 1 = omega arith in
     let before : AreDepths c.args.files.now (fronts_before c.args.files.now c.args.file + (c.loop-n.n + 1)) c.loop-n.depths.items =
@@ -52,7 +67,9 @@ loop-n-preserved c =
     record {
       numbered = subst (λ (q : ℕ). IsNumbered c.args.files.now q c.list.new.self) f next;
       its_number = subst (λ (q : List (List ℕ)). IsNumber c.args.files.now q c.in_ok-number.number) (sym more) number;
-      its_depths = subst (AreDepths c.args.files.now (fronts_before c.args.files.now c.args.file + (c.loop-n.n + 1) + 1)) (sym c.in_ok-push-2.ensures.items) (depth_next c.args.file (c.loop-n.n + 1) c.loop-n.depths.items c.requires.there l before);
+      its_depths = subst (AreDepths c.args.files.now (fronts_before c.args.files.now c.args.file + (c.loop-n.n + 1)
+          + 1)) (sym c.in_ok-push-2.ensures.items)
+          (depth_next c.args.file (c.loop-n.n + 1) c.loop-n.depths.items c.requires.there l before);
     }
 
 pub returns-clause-package : goal.returns-clause-package
@@ -60,8 +77,16 @@ returns-clause-package c =
     let parts : values_of c.in_ok-parts.parts.items ≡ package_at c.args.files.now c.args.file =
     c.in_ok-parts.ensures ∙ head_package c.args.files.now c.heads.result.now c.args.file c.index-heads-file.result c.heads.ensures c.requires.there c.index-heads-file.is in
     let n : c.loop-n.n ≡ length (package_at c.args.files.now c.args.file) =
-    omega (arith, c.loop-n-test.false, c.loop-n.auto.n-end, c.len-n-end.ensures, c.in_ok-parts.parts.ok.0, parts_length c.in_ok-parts.parts.items (package_at c.args.files.now c.args.file) parts) in
-    let all : take c.loop-n.n (package_at c.args.files.now c.args.file) ≡ package_at c.args.files.now c.args.file = take_all c.loop-n.n (package_at c.args.files.now c.args.file) (omega (arith, n)) in
+    omega (
+      arith,
+      c.loop-n-test.false,
+      c.loop-n.auto.n-end,
+      c.len-n-end.ensures,
+      c.in_ok-parts.parts.ok.0,
+      parts_length c.in_ok-parts.parts.items (package_at c.args.files.now c.args.file) parts,
+    ) in
+    let all : take c.loop-n.n (package_at c.args.files.now c.args.file) ≡ package_at c.args.files.now c.args.file =
+    take_all c.loop-n.n (package_at c.args.files.now c.args.file) (omega (arith, n)) in
     let of : values_of c.deref.result.now ≡ package_at c.args.files.now c.args.file = ap values_of c.deref.ensures.value ∙ parts in
     record {
       its_parts = parts;
@@ -75,8 +100,16 @@ returns-clause-numbers c =
     let parts : values_of c.in_ok-parts.parts.items ≡ package_at c.args.files.now c.args.file =
     c.in_ok-parts.ensures ∙ head_package c.args.files.now c.heads.result.now c.args.file c.index-heads-file.result c.heads.ensures c.requires.there c.index-heads-file.is in
     let n : c.loop-n.n ≡ length (package_at c.args.files.now c.args.file) =
-    omega (arith, c.loop-n-test.false, c.loop-n.auto.n-end, c.len-n-end.ensures, c.in_ok-parts.parts.ok.0, parts_length c.in_ok-parts.parts.items (package_at c.args.files.now c.args.file) parts) in
-    let e : fronts_before c.args.files.now c.args.file + c.loop-n.n + 1 ≡ fronts_before c.args.files.now (c.args.file + 1) = omega (arith, fronts_next c.args.files.now c.args.file c.requires.there) in
+    omega (
+      arith,
+      c.loop-n-test.false,
+      c.loop-n.auto.n-end,
+      c.len-n-end.ensures,
+      c.in_ok-parts.parts.ok.0,
+      parts_length c.in_ok-parts.parts.items (package_at c.args.files.now c.args.file) parts,
+    ) in
+    let e : fronts_before c.args.files.now c.args.file + c.loop-n.n + 1 ≡ fronts_before c.args.files.now
+    (c.args.file + 1) = omega (arith, fronts_next c.args.files.now c.args.file c.requires.there) in
     subst (λ (q : ℕ). IsNumbered c.args.files.now q c.loop-n.numbering) e c.loop-n.invariant.numbered
 
 pub returns-clause-depths : goal.returns-clause-depths
@@ -84,6 +117,14 @@ returns-clause-depths c =
     let parts : values_of c.in_ok-parts.parts.items ≡ package_at c.args.files.now c.args.file =
     c.in_ok-parts.ensures ∙ head_package c.args.files.now c.heads.result.now c.args.file c.index-heads-file.result c.heads.ensures c.requires.there c.index-heads-file.is in
     let n : c.loop-n.n ≡ length (package_at c.args.files.now c.args.file) =
-    omega (arith, c.loop-n-test.false, c.loop-n.auto.n-end, c.len-n-end.ensures, c.in_ok-parts.parts.ok.0, parts_length c.in_ok-parts.parts.items (package_at c.args.files.now c.args.file) parts) in
-    let e : fronts_before c.args.files.now c.args.file + c.loop-n.n + 1 ≡ fronts_before c.args.files.now (c.args.file + 1) = omega (arith, fronts_next c.args.files.now c.args.file c.requires.there) in
+    omega (
+      arith,
+      c.loop-n-test.false,
+      c.loop-n.auto.n-end,
+      c.len-n-end.ensures,
+      c.in_ok-parts.parts.ok.0,
+      parts_length c.in_ok-parts.parts.items (package_at c.args.files.now c.args.file) parts,
+    ) in
+    let e : fronts_before c.args.files.now c.args.file + c.loop-n.n + 1 ≡ fronts_before c.args.files.now
+    (c.args.file + 1) = omega (arith, fronts_next c.args.files.now c.args.file c.requires.there) in
     subst (λ (q : ℕ). AreDepths c.args.files.now q c.loop-n.depths.items) e c.loop-n.invariant.its_depths

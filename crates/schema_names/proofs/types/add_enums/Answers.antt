@@ -28,5 +28,8 @@ loop-i-preserved c =
     let d : Declared = record { file = c.index-enums-i.result.file; start = c.index-enums-i.result.name.span.start; named = Enum c.loop-i.i } in
     let adds : Adds (declared_in c.loop-i.types) (declared_in c.add.new.self) c.number-outer.result c.index-enums-i.result.name.name d =
     subst (λ (q : List ℕ). Adds (declared_in c.loop-i.types) (declared_in c.add.new.self) c.number-outer.result q d) c.as_slice.ensures c.in_ok-add.ensures in
-    more_types c.args.places.now (length c.args.places.now.messages) c.loop-i.i (length c.args.places.now.messages) (c.loop-i.i + 1) (declared_in c.loop-i.types) (declared_in c.add.new.self) (Enum c.loop-i.i) up.0 c.index-enums-i.result.name.name c.index-enums-i.result.name.span c.number-outer.result d c.loop-i.invariant
+    more_types c.args.places.now (length c.args.places.now.messages) c.loop-i.i (length c.args.places.now.messages)
+    (c.loop-i.i + 1) (declared_in c.loop-i.types) (declared_in c.add.new.self)
+    (Enum c.loop-i.i) up.0 c.index-enums-i.result.name.name c.index-enums-i.result.name.span c.number-outer.result
+    d c.loop-i.invariant
     (enum c.loop-i.i c.index-enums-i.result at up.1) (enum_of c.loop-i.i c.index-enums-i.result at) number refl refl adds (one_enum (length c.args.places.now.messages) c.loop-i.i)

@@ -28,5 +28,7 @@ loop-i-preserved c =
     let d : Declared = record { file = c.index-messages-i.result.file; start = c.index-messages-i.result.name.span.start; named = Message c.loop-i.i } in
     let adds : Adds (declared_in c.loop-i.types) (declared_in c.add.new.self) c.number-outer.result c.index-messages-i.result.name.name d =
     subst (λ (q : List ℕ). Adds (declared_in c.loop-i.types) (declared_in c.add.new.self) c.number-outer.result q d) c.as_slice.ensures c.in_ok-add.ensures in
-    more_types c.args.places.now c.loop-i.i 0 (c.loop-i.i + 1) 0 (declared_in c.loop-i.types) (declared_in c.add.new.self) (Message c.loop-i.i) up.0 c.index-messages-i.result.name.name c.index-messages-i.result.name.span c.number-outer.result d c.loop-i.invariant
+    more_types c.args.places.now c.loop-i.i 0 (c.loop-i.i + 1) 0 (declared_in c.loop-i.types)
+    (declared_in c.add.new.self) (Message c.loop-i.i) up.0 c.index-messages-i.result.name.name
+    c.index-messages-i.result.name.span c.number-outer.result d c.loop-i.invariant
     (message c.loop-i.i c.index-messages-i.result at up.1) (message_of c.loop-i.i c.index-messages-i.result at) number refl refl adds (one_message c.loop-i.i)

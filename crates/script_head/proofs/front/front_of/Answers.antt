@@ -16,7 +16,9 @@ returns-in_err-table-clause-fault c =
     let head = c.in_ok-head.head in
     let p = err_from_is_err_and c.from_residual-in_err-table.result c.from_residual-in_err-table.ensures.1 in
     rw (p.1, p.2)
-    (table_fault_of c.args.first.now c.args.text.now head.front.now c.in-Some.front.now head.loads c.in_err-table.field-0.0 c.in_ok-head.ensures.head.0 (inl (c.in-Some.behind.now, c.in-Some.ensures.found)) c.in_err-table.ensures.fault)
+    (table_fault_of c.args.first.now c.args.text.now head.front.now c.in-Some.front.now head.loads
+    c.in_err-table.field-0.0 c.in_ok-head.ensures.head.0 (inl (c.in-Some.behind.now, c.in-Some.ensures.found))
+    c.in_err-table.ensures.fault)
 
 pub returns-clause-read : goal.returns-clause-read
 returns-clause-read c =

@@ -34,5 +34,6 @@ returns-then-len-gt-MAX_LOADS-clause-fault c =
 
 pub returns-clause-placed : goal.returns-clause-placed
 returns-clause-placed c =
-    let narrow : FIRST_PLACE + tree_words c.args.table.now c.args.message c.args.tree.now ≤ MAX_REPLAY_WORDS = omega (arith, c.place_words.ensures, c.if-place_words-ge-MAX_REPLAY_WORDS.false) in
+    let narrow : FIRST_PLACE + tree_words c.args.table.now c.args.message c.args.tree.now ≤ MAX_REPLAY_WORDS =
+    omega (arith, c.place_words.ensures, c.if-place_words-ge-MAX_REPLAY_WORDS.false) in
     record { stands = c.in_ok-placed.ensures.stands MAX_REPLAY_WORDS narrow; few = omega (arith, c.len.ensures, c.if-len-gt-MAX_LOADS.false) }

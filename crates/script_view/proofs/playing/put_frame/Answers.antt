@@ -40,7 +40,9 @@ returns-clause-made c =
     let made = c.in_ok-put_content.ensures.made in (
       made.0,
       made.1,
-      plays_one law c.args.table.now c.args.stream.now c.args.from _ (frame_of c.in_ok-frame.frame) (made_by c.args.calls.now) (made_by c.put_content.new.calls) made.0 c.in_ok-frame.ensures.frame made.2 (omega arith),
+      plays_one law c.args.table.now c.args.stream.now c.args.from _ (frame_of c.in_ok-frame.frame)
+          (made_by c.args.calls.now) (made_by c.put_content.new.calls) made.0 c.in_ok-frame.ensures.frame made.2
+          (omega arith),
     )
 
 pub returns-then-len-gt-MAX_BODY-clause-fault : goal.returns-then-len-gt-MAX_BODY-clause-fault
@@ -53,4 +55,6 @@ returns-then-len-gt-MAX_BODY-clause-fault c =
     let text = made.0 in
     let big : MAX_BODY < size + length text = omega (arith, c.len.ensures, c.if-len-gt-MAX_BODY.true, ap length made.1, length-append c.args.body.now text) in
     on_fault _ (StopsHere T c.args.stream.now c.args.from before size) _
-    (λ place word is. unplayable f c.in_ok-frame.ensures.frame (large T before (made_by c.put_content.new.calls) size f text place word made.2 big (let at = is.0 in omega arith) is.1)) c.unplayable.ensures
+    (λ place word is. unplayable f c.in_ok-frame.ensures.frame
+    (large T before (made_by c.put_content.new.calls) size f text place word made.2 big (let at = is.0 in
+    omega arith) is.1)) c.unplayable.ensures

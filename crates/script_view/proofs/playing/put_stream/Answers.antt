@@ -24,7 +24,9 @@ returns-in_err-place-clause-fault c =
     let T = c.args.table.now in
     let stream = c.args.stream.now in
     let made = made_by c.loop-place.calls in
-    let stops : (place : ℕ) (word : List ℕ) → StopsHere T stream c.loop-place.place made (length c.loop-place.body) place word → StopsAt T stream (made_by c.args.calls.now) place word =
+    let stops : (place : ℕ) (word : List ℕ)
+    → StopsHere T stream c.loop-place.place made (length c.loop-place.body) place word
+    → StopsAt T stream (made_by c.args.calls.now) place word =
     λ place word here. record { to = c.loop-place.place; text = c.loop-place.body; after = made; plays = c.loop-place.invariant.plays; here = here } in
     let same = err_from_is_err_and c.from_residual.result c.from_residual.ensures.1 in
     rw (same.1, same.2) (on_fault _ _ _ stops c.in_err-place.ensures.fault)

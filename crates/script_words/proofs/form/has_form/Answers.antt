@@ -9,4 +9,6 @@ returns-in_default c =
 
 pub returns : goal.returns
 returns c =
-    form_end c.args.sorts.now c.loop-sort.sort-index c.loop-sort.rest c.is_none.result (has_form c.args.sorts.now (words_of c.args.line.now)) c.loop-sort-test.false c.is_none.ensures c.loop-sort.invariant
+    form_end c.args.sorts.now c.loop-sort.sort-index c.loop-sort.rest c.is_none.result
+    (has_form c.args.sorts.now (words_of c.args.line.now)) c.loop-sort-test.false c.is_none.ensures
+    c.loop-sort.invariant

@@ -30,7 +30,8 @@ loop-sort-preserved c =
         state =
             state_next sorts ws i (get_or sorts i (Key Access)) w c.match-said_by.said.items c.match-said_by.first front step.front
             (subst (IsState (take i sorts ++ get_or sorts i (Key Access) ∷ []) (take i ws ++ w ∷ []) c.match-said_by.said.items) (sym v.first-is)
-            (subst (λ (x : List Said). IsState (take i sorts ++ get_or sorts i (Key Access) ∷ []) (take i ws ++ w ∷ []) x c.loop-sort.first) (sym (ap (λ s. s.items) v.said-is ∙ v.push.ensures.items))
+            (subst (λ (x : List Said). IsState (take i sorts ++ get_or sorts i (Key Access) ∷ [])
+            (take i ws ++ w ∷ []) x c.loop-sort.first) (sym (ap (λ s. s.items) v.said-is ∙ v.push.ensures.items))
             (state_said (take i sorts) (take i ws) c.loop-sort.said.items c.loop-sort.first (get_or sorts i (Key Access)) w v.in-Ok.one
             (same_length sorts ws i (omega (arith, c.loop-sort-test.true)) c.loop-sort.invariant.within) c.loop-sort.invariant.state v.in-Ok.ensures)));
         room = (let e = ap array_vec_len v.said-is in omega (arith, c.loop-sort.invariant.room, v.push.ensures.len, e));
@@ -40,8 +41,12 @@ loop-sort-preserved c =
         rest = step.rest ∙ ap words_in (sym v.rest-is);
         state =
             state_next sorts ws i (get_or sorts i (Key Access)) w c.match-said_by.said.items c.match-said_by.first front step.front
-            (subst (IsState (take i sorts ++ get_or sorts i (Key Access) ∷ []) (take i ws ++ w ∷ []) c.match-said_by.said.items) (sym (v.first-is ∙ ap (λ r. Some r) v.earlier.ensures))
-            (subst (λ (x : List Said). IsState (take i sorts ++ get_or sorts i (Key Access) ∷ []) (take i ws ++ w ∷ []) x (Some (earlier c.loop-sort.first v.in-Err.reason))) (sym (ap (λ s. s.items) v.said-is))
+            (subst (IsState (take i sorts ++ get_or sorts i (Key Access) ∷ [])
+            (take i ws ++ w ∷ []) c.match-said_by.said.items)
+            (sym (v.first-is ∙ ap (λ r. Some r) v.earlier.ensures))
+            (subst (λ (x : List Said). IsState (take i sorts ++ get_or sorts i (Key Access) ∷ [])
+            (take i ws ++ w ∷ []) x (Some (earlier c.loop-sort.first v.in-Err.reason)))
+            (sym (ap (λ s. s.items) v.said-is))
             (state_offends (take i sorts) (take i ws) c.loop-sort.said.items c.loop-sort.first (get_or sorts i (Key Access)) w v.in-Err.reason
             (same_length sorts ws i (omega (arith, c.loop-sort-test.true)) c.loop-sort.invariant.within) c.loop-sort.invariant.state v.in-Err.ensures)));
         room = (let e = ap array_vec_len v.said-is in omega (arith, c.loop-sort.invariant.room, e));
@@ -61,4 +66,6 @@ returns-in-None c =
 pub returns-in-Some-first : goal.returns-in-Some-first
 returns-in-Some-first c =
     let few = left_not_some (words_of c.args.line.now) c.loop-sort.sort-index c.loop-sort.rest c.loop-sort.invariant.rest (sym c.is_some.ensures ∙ c.if-is_some.false) in
-    whole_first c.args.sorts.now (words_of c.args.line.now) c.loop-sort.said.items c.loop-sort.first c.loop-sort.sort-index c.in-Some-first.reason c.loop-sort-test.false few c.loop-sort.invariant.within c.loop-sort.auto.sort-index-end c.loop-sort.invariant.state c.in-Some-first.is
+    whole_first c.args.sorts.now (words_of c.args.line.now) c.loop-sort.said.items c.loop-sort.first
+    c.loop-sort.sort-index c.in-Some-first.reason c.loop-sort-test.false few c.loop-sort.invariant.within
+    c.loop-sort.auto.sort-index-end c.loop-sort.invariant.state c.in-Some-first.is

@@ -8,14 +8,16 @@ use Rattle.script_words.proofs.value.hexadecimal.Goals as goal
 
 pub overflow_mul-word : goal.overflow_mul-word
 overflow_mul-word c =
-    let small : digits_value 16 (take c.loop-digit.digit-index c.args.digits.now) < 2 ^ 60 = fifteen_digits c.args.digits.now c.loop-digit.digit-index c.loop-digit.invariant.digits (omega arith) in
+    let small : digits_value 16 (take c.loop-digit.digit-index c.args.digits.now) < 2 ^ 60 =
+    fifteen_digits c.args.digits.now c.loop-digit.digit-index c.loop-digit.invariant.digits (omega arith) in
     omega (arith, small, c.loop-digit.invariant.word)
 
 pub overflow_add-word : goal.overflow_add-word
 overflow_add-word c =
     let digit = get_or c.args.digits.now c.loop-digit.digit-index 0 in
     let here = cond_some (is_hexadecimal digit) (digit_value digit) c.in-Some.value (sym c.in-Some.ensures) in
-    let small : digits_value 16 (take c.loop-digit.digit-index c.args.digits.now) < 2 ^ 60 = fifteen_digits c.args.digits.now c.loop-digit.digit-index c.loop-digit.invariant.digits (omega arith) in
+    let small : digits_value 16 (take c.loop-digit.digit-index c.args.digits.now) < 2 ^ 60 =
+    fifteen_digits c.args.digits.now c.loop-digit.digit-index c.loop-digit.invariant.digits (omega arith) in
     omega (arith, small, c.loop-digit.invariant.word, digit_small digit here.0, here.1)
 
 pub loop-digit-preserved : goal.loop-digit-preserved

@@ -16,16 +16,22 @@ returns-then-is_empty c = λ wanted held.
 
 pub loop-line-init : goal.loop-line-init
 loop-line-init c = λ wanted held.
-    names_none (filter_map (used_behind wanted c.args.prefix.now)) (filter_map (behind c.args.prefix.now) (whole_lines c.args.near.now)) c.args.far.now c.in_ok-names.names c.in_ok-names.ensures
+    names_none (filter_map (used_behind wanted c.args.prefix.now))
+    (filter_map (behind c.args.prefix.now) (whole_lines c.args.near.now)) c.args.far.now c.in_ok-names.names
+    c.in_ok-names.ensures
 
 pub loop-line-preserved : goal.loop-line-preserved
 loop-line-preserved c = λ wanted held.
     let f = used_behind wanted c.args.prefix.now in
     let line = c.in-Some.line.now in
     let others = c.in-Some.others.now in
-    names_first (filter_map f) (filter_map (behind c.args.prefix.now) (whole_lines c.args.near.now)) c.args.far.now c.loop-line.rest.now line others c.loop-line.names c.add_used_behind.new.names (option_to_list (f line)) c.in-Some.ensures.parts
+    names_first (filter_map f) (filter_map (behind c.args.prefix.now) (whole_lines c.args.near.now)) c.args.far.now
+    c.loop-line.rest.now line others c.loop-line.names c.add_used_behind.new.names
+    (option_to_list (f line)) c.in-Some.ensures.parts
     (filtered_first f line (whole_lines others)) (λ names h. c.in_ok-add_used_behind.ensures names wanted h held) (c.loop-line.invariant wanted held)
 
 pub returns : goal.returns
 returns c = λ wanted held.
-    names_end (filter_map (used_behind wanted c.args.prefix.now)) (filter_map (behind c.args.prefix.now) (whole_lines c.args.near.now)) c.args.far.now c.loop-line.rest.now c.loop-line.names c.in_default.ensures.parts refl (c.loop-line.invariant wanted held)
+    names_end (filter_map (used_behind wanted c.args.prefix.now))
+    (filter_map (behind c.args.prefix.now) (whole_lines c.args.near.now)) c.args.far.now c.loop-line.rest.now
+    c.loop-line.names c.in_default.ensures.parts refl (c.loop-line.invariant wanted held)

@@ -12,7 +12,8 @@ loop-line-init c =
 pub returns-in_err-take-clause-fault : goal.returns-in_err-take-clause-fault
 returns-in_err-take-clause-fault c =
     let s = c.loop-line.invariant in
-    let here = line_here c.args.text.now c.loop-line.rest.now c.in-Some.line.now c.in-Some.others.now c.loop-line.number c.loop-line.reader c.in-Some.ensures.parts c.in-Some.ensures.long s in
+    let here = line_here c.args.text.now c.loop-line.rest.now c.in-Some.line.now c.in-Some.others.now
+    c.loop-line.number c.loop-line.reader c.in-Some.ensures.parts c.in-Some.ensures.long s in
     let blames = c.in_err-take.ensures.fault s.types s.kept in
     let p = err_from_is_err_and c.from_residual-in_err-take.result c.from_residual-in_err-take.ensures.1 in
     rw (p.1, p.2) (blamed c.args.text.now c.loop-line.rest.now c.loop-line.number c.loop-line.reader c.in_err-take.field-0.0 _ s here blames)
@@ -20,16 +21,19 @@ returns-in_err-take-clause-fault c =
 pub loop-line-preserved : goal.loop-line-preserved
 loop-line-preserved c =
     let s = c.loop-line.invariant in
-    lines_step c.args.text.now c.loop-line.rest.now c.in-Some.line.now c.in-Some.others.now c.loop-line.number c.loop-line.reader c.take.new.self c.in-Some.ensures.parts c.in-Some.ensures.long s
+    lines_step c.args.text.now c.loop-line.rest.now c.in-Some.line.now c.in-Some.others.now c.loop-line.number
+    c.loop-line.reader c.take.new.self c.in-Some.ensures.parts c.in-Some.ensures.long s
     (c.in_ok-take.ensures.clean s.types s.kept) (c.in_ok-take.ensures.kept s.types s.kept) (c.in_ok-take.ensures.draft s.types s.kept)
 
 pub returns-clause-table : goal.returns-clause-table
 returns-clause-table c =
-    table_made c.args.text.now c.loop-line.rest.now c.loop-line.number c.loop-line.reader c.finish.result c.in_default.ensures.parts c.loop-line.invariant c.finish.ensures.clean c.finish.ensures.table
+    table_made c.args.text.now c.loop-line.rest.now c.loop-line.number c.loop-line.reader c.finish.result
+    c.in_default.ensures.parts c.loop-line.invariant c.finish.ensures.clean c.finish.ensures.table
 
 pub returns-clause-clean : goal.returns-clause-clean
 returns-clause-clean c =
-    on_ok_weaker c.finish.result (all_clean c.args.text.now c.loop-line.rest.now c.loop-line.number c.loop-line.reader c.in_default.ensures.parts c.loop-line.invariant) c.finish.ensures.clean
+    on_ok_weaker c.finish.result (all_clean c.args.text.now c.loop-line.rest.now c.loop-line.number c.loop-line.reader
+    c.in_default.ensures.parts c.loop-line.invariant) c.finish.ensures.clean
 
 pub returns-clause-fault : goal.returns-clause-fault
 returns-clause-fault c =

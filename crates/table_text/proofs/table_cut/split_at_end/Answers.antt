@@ -10,7 +10,9 @@ returns-then-eq-clause-found c =
     let text = c.args.text.now in
     let rest = c.loop-line.rest.now in
     let same : c.in-Some.line.now ≡ codes "end" = (bytes_eq-Decides c.in-Some.line.now (codes "end")).0 (sym c.if-eq.ensures) in
-    cut_to [] text text (take (length text - length rest) text) c.in-Some.behind.now refl (cut_here text rest c.in-Some.line.now c.in-Some.behind.now c.loop-line.invariant c.in-Some.ensures.parts same)
+    cut_to [] text text (take (length text - length rest) text) c.in-Some.behind.now refl
+    (cut_here text rest c.in-Some.line.now c.in-Some.behind.now c.loop-line.invariant c.in-Some.ensures.parts
+    same)
 
 pub returns-then-eq-clause-only : goal.returns-then-eq-clause-only
 returns-then-eq-clause-only c = λ table more h.

@@ -12,10 +12,13 @@ more : (f : ℕ × Method → List ℕ) (front : List ℕ) (ms : List Method) (i
 more f front ms i m within at =
     let len : 0 + length (take i ms) ≡ i = omega (arith, length-take i ms) in
     let step : enumerate_from 0 (take (i + 1) ms) ≡ enumerate_from 0 (take i ms) ++ (i, m) ∷ [] =
-    ap (enumerate_from 0) (take_more ms i m within ∙ ap (λ e. take i ms ++ e ∷ []) (sym at)) ∙ enumerate-push 0 (take i ms) m ∙ ap (λ (k : ℕ). enumerate_from 0 (take i ms) ++ (k, m) ∷ []) len in
+    ap (enumerate_from 0) (take_more ms i m within ∙ ap (λ e. take i ms ++ e ∷ []) (sym at))
+    ∙ enumerate-push 0 (take i ms) m ∙ ap (λ (k : ℕ). enumerate_from 0 (take i ms) ++ (k, m) ∷ []) len in
     flat_map_more f front (enumerate_from 0 (take i ms)) (i, m) ∙ ap (λ e. front ++ flat_map f e) (sym step)
 
 pub loop-index-preserved : goal.loop-index-preserved
 loop-index-preserved c =
     c.in_ok-put_method.ensures ∙ ap (λ o. o ++ method_line c.args.table.now (c.loop-index.index, c.method-item.result)) c.loop-index.invariant
-    ∙ more (method_line c.args.table.now) (flat_map enum_lines c.args.table.now.enums ++ flat_map (message_lines c.args.table.now) c.args.table.now.messages) c.as_slice-method-items.result.now c.loop-index.index c.method-item.result c.loop-index-test.true c.method-item.is
+    ∙ more (method_line c.args.table.now) (flat_map enum_lines c.args.table.now.enums
+    ++ flat_map (message_lines c.args.table.now) c.args.table.now.messages) c.as_slice-method-items.result.now
+    c.loop-index.index c.method-item.result c.loop-index-test.true c.method-item.is

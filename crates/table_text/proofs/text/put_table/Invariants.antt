@@ -11,4 +11,6 @@ abbrev pub invariant-loop-message : goal.invariant-loop-message
 invariant-loop-message l = l.out ≡ flat_map enum_lines l.fn.table.enums ++ flat_map (message_lines l.fn.table) (take l.message-index l.message-items)
 
 abbrev pub invariant-loop-index : goal.invariant-loop-index
-invariant-loop-index l = l.out ≡ (flat_map enum_lines l.fn.table.enums ++ flat_map (message_lines l.fn.table) l.fn.table.messages) ++ flat_map (method_line l.fn.table) (enumerate_from 0 (take l.index l.method-items))
+invariant-loop-index l =
+    l.out ≡ (flat_map enum_lines l.fn.table.enums ++ flat_map (message_lines l.fn.table) l.fn.table.messages)
+    ++ flat_map (method_line l.fn.table) (enumerate_from 0 (take l.index l.method-items))

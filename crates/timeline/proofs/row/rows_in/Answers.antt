@@ -23,4 +23,7 @@ loop-at-preserved c =
 pub returns-clause-rows : goal.returns-clause-rows
 returns-clause-rows c =
     subst (λ (rs : List Row). AreRows (map happening c.args.events.now) rs) (append-nil (map row c.loop-at.rows.items))
-    (c.loop-at.invariant.rows [] (subst (λ (hs : List Happening). AreRows hs []) (sym (at_drop_all (λ (es : List Event). map happening es) c.args.events.now c.loop-at.at (omega arith))) no_rows))
+    (c.loop-at.invariant.rows []
+    (subst (λ (hs : List Happening). AreRows hs [])
+    (sym (at_drop_all (λ (es : List Event). map happening es) c.args.events.now c.loop-at.at (omega arith)))
+    no_rows))

@@ -23,24 +23,40 @@ returns-in_err-payload-clause-fault c =
 pub returns-in_err-payload-clause-each : goal.returns-in_err-payload-clause-each
 returns-in_err-payload-clause-each c =
     let p = err_from_is_err_and c.from_residual-in_err-payload.result c.from_residual-in_err-payload.ensures.1 in
-    let here : FaultAt c.args.bytes.now c.args.at c.in_err-payload.field-0.0 = no_payload c.in_ok-tag.tag c.in_ok-tag.start c.in_err-payload.ensures.fault.0 c.in_ok-tag.ensures.found c.in_err-payload.ensures.fault.1 in
+    let here : FaultAt c.args.bytes.now c.args.at c.in_err-payload.field-0.0 =
+    no_payload c.in_ok-tag.tag c.in_ok-tag.start c.in_err-payload.ensures.fault.0 c.in_ok-tag.ensures.found
+    c.in_err-payload.ensures.fault.1 in
     rw (p.1, p.2) (record-each c.args.bytes.now c.args.at (Err c.in_err-payload.field-0.0) tt here)
 
 pub returns-in_err-payload-clause-each_fault : goal.returns-in_err-payload-clause-each_fault
 returns-in_err-payload-clause-each_fault c =
     let p = err_from_is_err_and c.from_residual-in_err-payload.result c.from_residual-in_err-payload.ensures.1 in
-    let here : FaultAt c.args.bytes.now c.args.at c.in_err-payload.field-0.0 = no_payload c.in_ok-tag.tag c.in_ok-tag.start c.in_err-payload.ensures.fault.0 c.in_ok-tag.ensures.found c.in_err-payload.ensures.fault.1 in
+    let here : FaultAt c.args.bytes.now c.args.at c.in_err-payload.field-0.0 =
+    no_payload c.in_ok-tag.tag c.in_ok-tag.start c.in_err-payload.ensures.fault.0 c.in_ok-tag.ensures.found
+    c.in_err-payload.ensures.fault.1 in
     rw (p.1, p.2) (record-each_fault c.args.bytes.now c.args.at (Err c.in_err-payload.field-0.0) tt here)
 
 pub returns-clause-each : goal.returns-clause-each
 returns-clause-each c =
     let whole : Record = record { number = c.in_ok-tag.tag / 8; payload = c.in_ok-payload.payload; next = c.in_ok-payload.next } in
-    record-each c.args.bytes.now c.args.at (Ok whole) (record { tag = c.in_ok-tag.tag; start = c.in_ok-tag.start; tagged = c.in_ok-tag.ensures.found; number = refl; payload = c.in_ok-payload.ensures.found }) tt
+    record-each c.args.bytes.now c.args.at (Ok whole) (record {
+      tag = c.in_ok-tag.tag;
+      start = c.in_ok-tag.start;
+      tagged = c.in_ok-tag.ensures.found;
+      number = refl;
+      payload = c.in_ok-payload.ensures.found;
+    }) tt
 
 pub returns-clause-each_fault : goal.returns-clause-each_fault
 returns-clause-each_fault c =
     let whole : Record = record { number = c.in_ok-tag.tag / 8; payload = c.in_ok-payload.payload; next = c.in_ok-payload.next } in
-    record-each_fault c.args.bytes.now c.args.at (Ok whole) (record { tag = c.in_ok-tag.tag; start = c.in_ok-tag.start; tagged = c.in_ok-tag.ensures.found; number = refl; payload = c.in_ok-payload.ensures.found }) tt
+    record-each_fault c.args.bytes.now c.args.at (Ok whole) (record {
+      tag = c.in_ok-tag.tag;
+      start = c.in_ok-tag.start;
+      tagged = c.in_ok-tag.ensures.found;
+      number = refl;
+      payload = c.in_ok-payload.ensures.found;
+    }) tt
 
 pub returns-clause-ahead : goal.returns-clause-ahead
 returns-clause-ahead c =

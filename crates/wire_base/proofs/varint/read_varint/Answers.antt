@@ -7,12 +7,18 @@ use Rattle.wire_base.proofs.varint.read_varint.Goals as goal
 
 pub returns-in-Some-clause-each : goal.returns-in-Some-clause-each
 returns-in-Some-clause-each c =
-    let here : VarintAt c.args.bytes.now c.args.at c.from.result (c.args.at + 1) = VarintAt-byte c.args.bytes.now c.args.at c.in-Some.field-0.now c.from.result (ltb-true _ _ (sym c.in-Some.ensures.lookup.0)) c.in-Some.ensures.lookup.1 c.if-byte-lt128.true c.from.ensures in
+    let here : VarintAt c.args.bytes.now c.args.at c.from.result (c.args.at + 1) =
+    VarintAt-byte c.args.bytes.now c.args.at c.in-Some.field-0.now c.from.result
+    (ltb-true _ _ (sym c.in-Some.ensures.lookup.0)) c.in-Some.ensures.lookup.1 c.if-byte-lt128.true c.from.ensures
+    in
     varint-each c.args.bytes.now c.args.at (Ok (c.from.result, c.args.at + 1)) here tt
 
 pub returns-in-Some-clause-each_fault : goal.returns-in-Some-clause-each_fault
 returns-in-Some-clause-each_fault c =
-    let here : VarintAt c.args.bytes.now c.args.at c.from.result (c.args.at + 1) = VarintAt-byte c.args.bytes.now c.args.at c.in-Some.field-0.now c.from.result (ltb-true _ _ (sym c.in-Some.ensures.lookup.0)) c.in-Some.ensures.lookup.1 c.if-byte-lt128.true c.from.ensures in
+    let here : VarintAt c.args.bytes.now c.args.at c.from.result (c.args.at + 1) =
+    VarintAt-byte c.args.bytes.now c.args.at c.in-Some.field-0.now c.from.result
+    (ltb-true _ _ (sym c.in-Some.ensures.lookup.0)) c.in-Some.ensures.lookup.1 c.if-byte-lt128.true c.from.ensures
+    in
     varint-each_fault c.args.bytes.now c.args.at (Ok (c.from.result, c.args.at + 1)) here tt
 
 pub returns-in_default-clause-each : goal.returns-in_default-clause-each

@@ -22,7 +22,8 @@ merged-returns t c =
     let raw = node_of c.args.raw.items in
     let d = c.args.depth - 1 in
     let more : c.args.depth ≡ suc d = omega (arith, c.if-depth-eq0.false) in
-    finished-merged T d c.args.place c.fields-fields.result.now raw (node_of c.in_ok-counted.field-0.items) (node_of c.in_ok-raw.raw.items) (node_of c.in_ok-held.held.items) (node_of c.in_ok-fields.fields.items)
+    finished-merged T d c.args.place c.fields-fields.result.now raw (node_of c.in_ok-counted.field-0.items)
+    (node_of c.in_ok-raw.raw.items) (node_of c.in_ok-held.held.items) (node_of c.in_ok-fields.fields.items)
     c.fields-fields.ensures.value (c.fields-fields.ensures.ascend c.requires) c.in_ok-counted.ensures c.in_ok-raw.ensures.same c.in_ok-held.ensures c.in_ok-fields.ensures
     ∙ sym (ap (λ x. merged T x c.args.place raw) more)
 
@@ -55,8 +56,12 @@ entry-loop-number-preserved t c =
     let K : List Item → Type 0 = λ is. MeansAll c.args.key is (option_map item_of c.in_ok-some_key.some_key) in
     let V : List Item → Type 0 = λ is. MeansAll c.args.kind is (option_map item_of c.in_ok-some_key.some_value) in
     let seen = node_of-last ys x in (
-      subst K (sym (ap (λ u. singles_in (contents_of 1 u)) seen ∙ singles-more 1 n (content_of c.in-Some.content) now)) (c.in_ok-some_key.ensures.key (singles_in (contents_of 1 now)) c.loop-number.invariant.0),
-      subst V (sym (ap (λ u. singles_in (contents_of 2 u)) seen ∙ singles-more 2 n (content_of c.in-Some.content) now)) (c.in_ok-some_key.ensures.value (singles_in (contents_of 2 now)) c.loop-number.invariant.1),
+      subst K (sym (ap (λ u. singles_in (contents_of 1 u)) seen
+          ∙ singles-more 1 n (content_of c.in-Some.content) now))
+          (c.in_ok-some_key.ensures.key (singles_in (contents_of 1 now)) c.loop-number.invariant.0),
+      subst V (sym (ap (λ u. singles_in (contents_of 2 u)) seen
+          ∙ singles-more 2 n (content_of c.in-Some.content) now))
+          (c.in_ok-some_key.ensures.value (singles_in (contents_of 2 now)) c.loop-number.invariant.1),
     )
 
 pub entry-returns : goal.entry-returns
@@ -66,6 +71,10 @@ entry-returns t c =
     let e = YieldsList-from_vec {s = c.into_iter-number-iterator.result} c.args.raw.items (search rules) (search rules) in
     let fin = YieldsList-end e ys c.loop-number.number-iterator c.loop-number.yielded_by c.next.result c.next.new.self c.in-None.is c.next.ensures.steps in
     let all = sym (map-id ys) ∙ fin.0 in
-    let first = c.in_ok-key.ensures ∙ part-all inner c.args.key (singles_in (contents_of 1 (node_of ys))) (option_map item_of c.loop-number.keys) c.loop-number.invariant.0 ∙ ap (λ zs. part inner 1 c.args.key (node_of zs)) all in
-    let second = c.in_ok-value.ensures ∙ part-all inner c.args.kind (singles_in (contents_of 2 (node_of ys))) (option_map item_of c.loop-number.values) c.loop-number.invariant.1 ∙ ap (λ zs. part inner 2 c.args.kind (node_of zs)) all in
+    let first = c.in_ok-key.ensures ∙ part-all inner c.args.key (singles_in (contents_of 1 (node_of ys)))
+    (option_map item_of c.loop-number.keys) c.loop-number.invariant.0
+    ∙ ap (λ zs. part inner 1 c.args.key (node_of zs)) all in
+    let second = c.in_ok-value.ensures ∙ part-all inner c.args.kind (singles_in (contents_of 2 (node_of ys)))
+    (option_map item_of c.loop-number.values) c.loop-number.invariant.1
+    ∙ ap (λ zs. part inner 2 c.args.kind (node_of zs)) all in
     λ i. (first i, second i)

@@ -21,6 +21,8 @@ loop-number-preserved c =
     let most = fall-most 0 c.args.raw.items (length ys) x c.requires.sorted turn.0 turn.1 in
     let M : List (ℕ × FieldValue) → Type 0 = λ zs. AreAtMost c.in-Some.number (node_of zs) in
     let at_most = subst M (sym (sym (map-id ys) ∙ so_far)) most in
-    let more = gathered-more c.args.fields.now (node_of ys) (node_of c.loop-number.held.items) (node_of c.add.new.held.items) c.in-Some.number (content_of c.in-Some.content) c.form_at-form.result.0 c.loop-number.invariant c.form_at-form.ensures c.in_ok-add.ensures at_most in
+    let more = gathered-more c.args.fields.now (node_of ys) (node_of c.loop-number.held.items)
+    (node_of c.add.new.held.items) c.in-Some.number (content_of c.in-Some.content) c.form_at-form.result.0
+    c.loop-number.invariant c.form_at-form.ensures c.in_ok-add.ensures at_most in
     let P : Node → Type 0 = λ t. IsGathered c.args.fields.now t (node_of c.add.new.held.items) in
     subst P (sym (node_of-last ys x)) more

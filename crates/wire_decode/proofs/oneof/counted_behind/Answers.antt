@@ -12,8 +12,12 @@ use Rattle.wire_decode.proofs.oneof.counted_behind.Goals as goal
 
 pub loop-part-init : goal.loop-part-init
 loop-part-init c =
-    let P : List Behind → Type 0 = λ bs. Tell c.args.fields.now bs no_fields in
-    (no_fields, sym (join-none (node_of c.args.raw.items)), ap (λ xs. node_of (reverse xs)) c.in_ok-kept.ensures.items, subst P (sym c.new-behind.ensures.items) (tell-none c.args.fields.now))
+    let P : List Behind → Type 0 = λ bs. Tell c.args.fields.now bs no_fields in (
+      no_fields,
+      sym (join-none (node_of c.args.raw.items)),
+      ap (λ xs. node_of (reverse xs)) c.in_ok-kept.ensures.items,
+      subst P (sym c.new-behind.ensures.items) (tell-none c.args.fields.now),
+    )
 
 pub loop-part-preserved : goal.loop-part-preserved
 loop-part-preserved c =

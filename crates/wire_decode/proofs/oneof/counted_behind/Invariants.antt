@@ -7,7 +7,8 @@ use Rattle.wire_decode.specs.Behind.{Tell}
 use Rattle.wire_decode.proofs.oneof.counted_behind.Given as goal
 
 abbrev pub invariant-loop-part : goal.invariant-loop-part
-invariant-loop-part l = (done : Node) × (node_of l.fn.raw.items ≡ join_fields (node_of l.left.items) done) × (node_of (reverse l.kept.items) ≡ counted l.fields done) × Tell l.fields l.behind.items done
+invariant-loop-part l = (done : Node) × (node_of l.fn.raw.items ≡ join_fields (node_of l.left.items) done)
+    × (node_of (reverse l.kept.items) ≡ counted l.fields done) × Tell l.fields l.behind.items done
 
 abbrev pub decreases-loop-part : goal.decreases-loop-part
 decreases-loop-part l = vec_len l.left

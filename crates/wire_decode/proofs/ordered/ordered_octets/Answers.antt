@@ -9,4 +9,6 @@ pub returns-clause-found : goal.returns-clause-found
 returns-clause-found c =
     let bytes = c.args.bytes.now in
     let P : List ℕ → Type 0 = λ x. IsValue c.args.table.now c.args.room Octets bytes c.args.start (c.args.tag % 8) (run x) c.in_ok-first.end in
-    subst P (sym c.in_ok-run.ensures) (run-value c.args.table.now c.args.room Octets bytes c.args.start (c.args.tag % 8) c.in_ok-first.first c.in_ok-first.end refl c.if-tag-ne2.false c.in_ok-first.ensures.found (λ e. absurd (cc)))
+    subst P (sym c.in_ok-run.ensures) (run-value c.args.table.now c.args.room Octets bytes c.args.start
+    (c.args.tag % 8) c.in_ok-first.first c.in_ok-first.end refl c.if-tag-ne2.false c.in_ok-first.ensures.found
+    (λ e. absurd (cc)))

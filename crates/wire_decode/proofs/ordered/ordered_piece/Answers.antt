@@ -12,7 +12,8 @@ returns-clause-found c =
     let vs = c.in_ok-values.values.items in
     let h = ok-has c.elements.result c.in_ok-values.values _ c.in_ok-values.ensures.value c.elements.ensures.found in
     let pushed = on-ok-has c.push_content.result _ _ c.in_ok-ok.ensures.value c.push_content.ensures in
-    piece-field c.args.table.now c.args.room c.args.label c.args.kind c.args.bytes.now c.args.tag c.args.start c.in_ok-first.first c.in_ok-first.end h.0 (map item_of vs) old (node_of c.push_content.new.whole.items)
+    piece-field c.args.table.now c.args.room c.args.label c.args.kind c.args.bytes.now c.args.tag c.args.start
+    c.in_ok-first.first c.in_ok-first.end h.0 (map item_of vs) old (node_of c.push_content.new.whole.items)
     c.requires.list c.requires.numeric c.requires.delimited c.in_ok-first.ensures.found h.1
     (sym (items_in-items_of vs) ∙ ap items_in h.2 ∙ items-of-numbers h.0)
     (pushed ∙ ap (λ o. join_fields old (with_content (c.args.tag / 8) o no_fields)) c.many.ensures)

@@ -12,4 +12,6 @@ returns-in_ok-v-clause-found c =
 
 pub returns-else-wire_type-eq5-clause-found : goal.returns-else-wire_type-eq5-clause-found
 returns-else-wire_type-eq5-clause-found c =
-    varint-element c.args.bytes.now c.args.at c.args.wire_type c.varint.result (other-type c.args.wire_type c.requires.fixed c.if-wire_type-eq1.false c.if-wire_type-eq5.false) c.varint.ensures.found
+    varint-element c.args.bytes.now c.args.at c.args.wire_type c.varint.result
+    (other-type c.args.wire_type c.requires.fixed c.if-wire_type-eq1.false c.if-wire_type-eq5.false)
+    c.varint.ensures.found

@@ -24,7 +24,10 @@ loop-checker-preserved c =
     inv.1 ∙ ap (λ (l : List (ℕ × Checker)). inv.0 ++ l) rest ∙ sym (append_assoc inv.0 ((conn, checker) ∷ []) c.next.new.self) in
     let InEntries : List (ℕ × Checker) → Type 0 = λ entries. Contains entries (conn, checker) in
     let member = subst InEntries (sym whole) (Contains-append_left done c.next.new.self (conn, checker) (Contains-push inv.0 (conn, checker))) in
-    let found : get nat_cmp m conn ≡ Some checker = All-contains (λ e. get nat_cmp m e.0 ≡ Some e.1) m.entries (conn, checker) c.into_iter-checker-iterator.ensures.into_iter_gives.6 member in (
+    let found : get nat_cmp m conn ≡ Some checker = All-contains (λ e. get nat_cmp m e.0 ≡ Some e.1) m.entries (
+      conn,
+      checker,
+    ) c.into_iter-checker-iterator.ensures.into_iter_gives.6 member in (
       done,
       whole,
       λ T h known.

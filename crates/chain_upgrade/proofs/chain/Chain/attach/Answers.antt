@@ -18,8 +18,14 @@ made : (c : goal.After-zero_behind) (label : List ℕ)
 made c label = attach-changes c.self.inside.engines.items c.self.inside.attached c.args.at c.args.name label c.args.policy c.new.result
     c.change_is_changed.ensures.unless_refused c.self.invariant.stands.chain
     (λ r against. c.in_ok-name.ensures.free label c.args.policy r
-    (subst (λ (entries : List _). IsAgainst entries (Attach c.args.at c.args.name label c.args.policy) r) (ap (λ (es : List EngineParts). map (λ e. e.entry) es) (sym c.deref.ensures.value)) against))
-    (subst (λ (name : List ℕ). c.new.result.entry ≡ record { name = name; attach = c.self.inside.attached + 1; version = 1; policy = c.args.policy }) c.in_ok-name.ensures.name c.new.ensures.entry)
+    (subst (λ (entries : List _). IsAgainst entries (Attach c.args.at c.args.name label c.args.policy) r)
+    (ap (λ (es : List EngineParts). map (λ e. e.entry) es) (sym c.deref.ensures.value)) against))
+    (subst (λ (name : List ℕ). c.new.result.entry ≡ record {
+      name = name;
+      attach = c.self.inside.attached + 1;
+      version = 1;
+      policy = c.args.policy;
+    }) c.in_ok-name.ensures.name c.new.ensures.entry)
 
 pub invariant_of-self : goal.invariant_of-self
 invariant_of-self c =
@@ -37,8 +43,14 @@ invariant_of-self c =
 
 pub returns-clause-changes : goal.returns-clause-changes
 returns-clause-changes c label =
-    subst (λ (v : ChainParts). Changes (chain_of v) (Attach c.args.at c.args.name label c.args.policy) (record { entries = map (λ e. e.entry) c.put.new.engines.items; attached = c.self.inside.attached + 1 })) c.self.view_is
-    (subst (λ (es : List EngineParts). Changes (record { entries = map (λ e. e.entry) c.self.inside.engines.items; attached = c.self.inside.attached }) (Attach c.args.at c.args.name label c.args.policy) (record { entries = map (λ e. e.entry) es; attached = c.self.inside.attached + 1 }))
+    subst (λ (v : ChainParts). Changes (chain_of v) (Attach c.args.at c.args.name label c.args.policy)
+    (record { entries = map (λ e. e.entry) c.put.new.engines.items; attached = c.self.inside.attached + 1 }))
+    c.self.view_is
+    (subst (λ (es : List EngineParts). Changes (record {
+      entries = map (λ e. e.entry) c.self.inside.engines.items;
+      attached = c.self.inside.attached;
+    }) (Attach c.args.at c.args.name label c.args.policy)
+    (record { entries = map (λ e. e.entry) es; attached = c.self.inside.attached + 1 }))
     (sym c.put.ensures.items) (made c label))
 
 pub returns-clause-past : goal.returns-clause-past

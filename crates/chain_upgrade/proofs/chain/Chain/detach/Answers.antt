@@ -42,7 +42,9 @@ invariant_of-self c =
 
 pub returns-clause-changes : goal.returns-clause-changes
 returns-clause-changes c =
-    subst (λ (v : ChainParts). Changes (chain_of v) (Detach c.args.name) (record { entries = map (λ e. e.entry) c.remove.new.self.items; attached = c.self.inside.attached })) c.self.view_is
+    subst (λ (v : ChainParts). Changes (chain_of v) (Detach c.args.name)
+    (record { entries = map (λ e. e.entry) c.remove.new.self.items; attached = c.self.inside.attached }))
+    c.self.view_is
     (subst (λ (es : List EngineParts). Changes (record { entries = map (λ e. e.entry) c.self.inside.engines.items; attached = c.self.inside.attached }) (Detach c.args.name)
     (record { entries = map (λ e. e.entry) es; attached = c.self.inside.attached })) (sym c.remove.ensures.items) (made c))
 

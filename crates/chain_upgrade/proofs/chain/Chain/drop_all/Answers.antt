@@ -6,6 +6,7 @@ use Rattle.chain_upgrade.proofs.chain.Chain.drop_all.Goals as goal
 
 pub invariant_of-self : goal.invariant_of-self
 invariant_of-self c =
-    subst (λ (calls : List StandingCall). IsKept c.self.inside.engines.items (vec_capacity c.self.inside.engines) c.self.inside.attached calls c.lower_to.new.self.behind) (sym c.clear.ensures)
+    subst (λ (calls : List StandingCall). IsKept c.self.inside.engines.items (vec_capacity c.self.inside.engines)
+    c.self.inside.attached calls c.lower_to.new.self.behind) (sym c.clear.ensures)
     (subst (λ (cuts : List ℕ). IsKept c.self.inside.engines.items (vec_capacity c.self.inside.engines) c.self.inside.attached [] cuts) (sym c.lower_to.ensures)
     (kept-cleared _ _ _ _ _ c.self.invariant))

@@ -10,7 +10,8 @@ invariant_of-self c =
     let few : length c.self.inside.row < 64 = omega (arith, c.len.ensures.count, c.len.ensures.few, c.if-len-eq-MAX_CALLS.false) in
     let less : All (λ s. s.call.seq < c.args.call.call.seq) c.self.inside.row =
     subst (λ (calls : List StandingCall). All (λ s. s.call.seq < c.args.call.call.seq) calls) (sym (ap (λ (v : ChainParts). v.calls) c.self.view_is)) c.requires.greater in
-    subst (λ (calls : List StandingCall). IsKept c.self.inside.engines.items (vec_capacity c.self.inside.engines) c.self.inside.attached calls c.self.inside.cuts.behind) (sym c.push.ensures)
+    subst (λ (calls : List StandingCall). IsKept c.self.inside.engines.items (vec_capacity c.self.inside.engines)
+    c.self.inside.attached calls c.self.inside.cuts.behind) (sym c.push.ensures)
     (kept-push _ _ _ _ _ c.args.call c.unmarked_is_true.ensures c.self.invariant few c.requires.unmarked less)
 
 pub returns-clause-stands : goal.returns-clause-stands

@@ -19,8 +19,10 @@ returns-clause-turn g c =
     let number : w.call.call.seq ≡ c.call.result.now.seq = ap (λ (s : StandingCall). s.call.seq) same ∙ sym (ap (λ (call : Call). call.seq) c.call.ensures) in
     let left = c.settle.ensures.calls ∙ left-after c.work-outcome.result c.in-Some.place c.work-outcome.new.self.calls
     (take c.in-Some.place c.args.self.now.calls) (drop (suc c.in-Some.place) c.args.self.now.calls) w.call'
-    (with-call c.args.self.now c.settle.new.self c.args.at c.in-Some.place c.args.now c.work-outcome.result c.work-outcome.new.self.engines c.work-outcome.new.self.calls c.is_chain.ensures.stands w)
-    (without-it c.args.self.now c.settle.new.self c.args.at c.in-Some.place c.args.now c.work-outcome.result c.work-outcome.new.self.engines c.work-outcome.new.self.calls c.is_chain.ensures.stands w) in
+    (with-call c.args.self.now c.settle.new.self c.args.at c.in-Some.place c.args.now c.work-outcome.result
+    c.work-outcome.new.self.engines c.work-outcome.new.self.calls c.is_chain.ensures.stands w)
+    (without-it c.args.self.now c.settle.new.self c.args.at c.in-Some.place c.args.now c.work-outcome.result
+    c.work-outcome.new.self.engines c.work-outcome.new.self.calls c.is_chain.ensures.stands w) in
     told-holds c.call.result.now.seq c.work-outcome.result c.told.result
     (λ seq outcome. HasTurn c.args.self.now c.args.at c.args.now seq outcome c.settle.new.self) c.told.ensures
     (subst (λ (seq : ℕ). HasTurn c.args.self.now c.args.at c.args.now seq c.work-outcome.result c.settle.new.self) number

@@ -96,8 +96,13 @@ invariant_of-self c =
 
 pub returns-clause-changes : goal.returns-clause-changes
 returns-clause-changes c = λ label.
-    subst (λ (v : ChainParts). Changes (chain_of v) (Upgrade c.args.name label c.args.policy) (record { entries = map (λ e. e.entry) c.put.new.engines.items; attached = c.self.inside.attached })) c.self.view_is
-    (subst (λ (es : List EngineParts). Changes (record { entries = map (λ e. e.entry) c.self.inside.engines.items; attached = c.self.inside.attached }) (Upgrade c.args.name label c.args.policy)
+    subst (λ (v : ChainParts). Changes (chain_of v) (Upgrade c.args.name label c.args.policy)
+    (record { entries = map (λ e. e.entry) c.put.new.engines.items; attached = c.self.inside.attached }))
+    c.self.view_is
+    (subst (λ (es : List EngineParts). Changes (record {
+      entries = map (λ e. e.entry) c.self.inside.engines.items;
+      attached = c.self.inside.attached;
+    }) (Upgrade c.args.name label c.args.policy)
     (record { entries = map (λ e. e.entry) es; attached = c.self.inside.attached })) (sym (replaced c)) (made c label))
 
 -- its place, as callers see it
@@ -131,7 +136,9 @@ returns-clause-past c = λ before after first rate start past is is' rated has.
     ap (λ (p : ℕ). slice_get c.put.new.engines.items p) (seen-place c)
     ∙ (ap (λ (es : List EngineParts). slice_get es c.in-Some.place) (replaced c)
     ∙ set-there c.self.inside.engines.items c.in-Some.place c.decompose-state.result c.restore.result (its-engine c)) in
-    let new : c.restore.result ≡ after = one-some (slice_get c.put.new.engines.items (place_of c.args.name (map (λ e. e.entry) c.args.self.now.engines))) c.restore.result after here is' in
+    let new : c.restore.result ≡ after =
+    one-some (slice_get c.put.new.engines.items
+    (place_of c.args.name (map (λ e. e.entry) c.args.self.now.engines))) c.restore.result after here is' in
     subst (λ (e : EngineParts). HasPast e first start (upgrade rate ∷ past)) new
     (c.restore.ensures.past first rate start past rated (subst (λ (e : EngineParts). HasPast e first start past) (sym (seen-engine c before is)) has))
 

@@ -51,5 +51,6 @@ returns-clause-tickets g c e is =
     let own : slice_get c.args.engines.now c.args.at ≡ Some (slice_index_or c.args.engines.now c.args.at c.index-engines-at.result) =
     slice_get-get_or c.args.engines.now c.args.at c.index-engines-at.result c.requires.engine in
     let same : slice_index_or c.args.engines.now c.args.at c.index-engines-at.result ≡ e = cc (own, is) in
-    subst (λ (e : EngineParts). LeavesTickets {Q = g.row.Q.Denot} g.Q.Tickets.knows g.Q.Tickets.drawn g.Q.Tickets.since e.entry.policy (noted_in c.work.result) c.args.tickets.now c.work.new.tickets)
+    subst (λ (e : EngineParts). LeavesTickets {Q = g.row.Q.Denot} g.Q.Tickets.knows g.Q.Tickets.drawn
+    g.Q.Tickets.since e.entry.policy (noted_in c.work.result) c.args.tickets.now c.work.new.tickets)
     same c.work.ensures.tickets

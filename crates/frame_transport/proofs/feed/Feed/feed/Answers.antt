@@ -10,7 +10,9 @@ use Rattle.frame_transport.proofs.feed.Feed.feed.Goals as goal
 pub returns-in-Some-clause-fault : goal.returns-in-Some-clause-fault
 returns-in-Some-clause-fault c =
     let found : IsFaultAt c.self.inside.end c.self.inside.begun.items c.in-Some.fault =
-    subst (HasFault c.self.inside.end c.self.inside.begun.items) c.in-Some.is (subst (λ (bs : List ℕ). HasFault c.self.inside.end bs c.fault_in.result) c.deref.ensures.value c.fault_in.ensures) in
+    subst (HasFault c.self.inside.end c.self.inside.begun.items) c.in-Some.is
+    (subst (λ (bs : List ℕ). HasFault c.self.inside.end bs c.fault_in.result) c.deref.ensures.value
+    c.fault_in.ensures) in
     inr (subst (λ (s : Fed). Ends s.place (s.bytes ++ c.args.piece.now) (Some c.in-Some.fault)) c.self.view_is
     (ends_stays c.self.inside.taken (joined c.self.inside.waiting.items ++ c.self.inside.begun.items) c.args.piece.now c.in-Some.fault
     (kept_ends c.self.inside.taken c.self.inside.waiting.items c.self.inside.end c.self.inside.begun.items c.self.inside.behind (Some c.in-Some.fault) c.self.invariant found)))
@@ -18,40 +20,56 @@ returns-in-Some-clause-fault c =
 pub returns-in-Some-clause-again : goal.returns-in-Some-clause-again
 returns-in-Some-clause-again c fault e =
     let found : IsFaultAt c.self.inside.end c.self.inside.begun.items c.in-Some.fault =
-    subst (HasFault c.self.inside.end c.self.inside.begun.items) c.in-Some.is (subst (λ (bs : List ℕ). HasFault c.self.inside.end bs c.fault_in.result) c.deref.ensures.value c.fault_in.ensures) in
+    subst (HasFault c.self.inside.end c.self.inside.begun.items) c.in-Some.is
+    (subst (λ (bs : List ℕ). HasFault c.self.inside.end bs c.fault_in.result) c.deref.ensures.value
+    c.fault_in.ensures) in
     let same : Some c.in-Some.fault ≡ Some fault =
-    same_fault c.self.inside.taken c.self.inside.waiting.items c.self.inside.end c.self.inside.begun.items c.self.inside.behind (Some c.in-Some.fault) fault c.self.invariant found (subst (λ (s : Fed). Ends s.place s.bytes (Some fault)) (sym c.self.view_is) e) in
+    same_fault c.self.inside.taken c.self.inside.waiting.items c.self.inside.end c.self.inside.begun.items
+    c.self.inside.behind (Some c.in-Some.fault) fault c.self.invariant found
+    (subst (λ (s : Fed). Ends s.place s.bytes (Some fault)) (sym c.self.view_is) e) in
     cc
 
 pub returns-in-Some-clause-memory : goal.returns-in-Some-clause-memory
 returns-in-Some-clause-memory c e =
     let found : IsFaultAt c.self.inside.end c.self.inside.begun.items c.in-Some.fault =
-    subst (HasFault c.self.inside.end c.self.inside.begun.items) c.in-Some.is (subst (λ (bs : List ℕ). HasFault c.self.inside.end bs c.fault_in.result) c.deref.ensures.value c.fault_in.ensures) in
+    subst (HasFault c.self.inside.end c.self.inside.begun.items) c.in-Some.is
+    (subst (λ (bs : List ℕ). HasFault c.self.inside.end bs c.fault_in.result) c.deref.ensures.value
+    c.fault_in.ensures) in
     let memory : c.in-Some.fault ≡ Memory = cc in
     absurd (not_memory c.self.inside.end c.self.inside.begun.items (subst (IsFaultAt c.self.inside.end c.self.inside.begun.items) memory found))
 
 pub returns-in_err-went-clause-again : goal.returns-in_err-went-clause-again
 returns-in_err-went-clause-again c fault e =
     let none : HasFault c.self.inside.end c.self.inside.begun.items None =
-    subst (HasFault c.self.inside.end c.self.inside.begun.items) c.in_default.is (subst (λ (bs : List ℕ). HasFault c.self.inside.end bs c.fault_in.result) c.deref.ensures.value c.fault_in.ensures) in
-    absurd (no_fault_before c.self.inside.taken c.self.inside.waiting.items c.self.inside.end c.self.inside.begun.items c.self.inside.behind fault c.self.invariant none (subst (λ (s : Fed). Ends s.place s.bytes (Some fault)) (sym c.self.view_is) e))
+    subst (HasFault c.self.inside.end c.self.inside.begun.items) c.in_default.is
+    (subst (λ (bs : List ℕ). HasFault c.self.inside.end bs c.fault_in.result) c.deref.ensures.value
+    c.fault_in.ensures) in
+    absurd (no_fault_before c.self.inside.taken c.self.inside.waiting.items c.self.inside.end
+    c.self.inside.begun.items c.self.inside.behind fault c.self.invariant none
+    (subst (λ (s : Fed). Ends s.place s.bytes (Some fault)) (sym c.self.view_is) e))
 
 pub overflow_add-self-2 : goal.overflow_add-self-2
 overflow_add-self-2 c =
     let room : total (seen c.self.inside.taken c.self.inside.waiting.items c.self.inside.begun.items c.self.inside.behind) + length c.args.piece.now < 2 ^ 63 =
     subst (λ (s : Fed). total s + length c.args.piece.now < 2 ^ 63) (sym c.self.view_is) c.requires in
-    let next = kept_advanced c.self.inside.taken c.self.inside.waiting.items c.self.inside.end c.self.inside.begun.items c.self.inside.behind c.args.piece.now c.go_on.new.waiting.items c.go_on.new.begun.items c.in_ok-went.went c.self.invariant room c.in_ok-went.ensures.ok in
+    let next = kept_advanced c.self.inside.taken c.self.inside.waiting.items c.self.inside.end
+    c.self.inside.begun.items c.self.inside.behind c.args.piece.now c.go_on.new.waiting.items
+    c.go_on.new.begun.items c.in_ok-went.went c.self.invariant room c.in_ok-went.ensures.ok in
     omega (arith, next.room)
 
 pub invariant_of-self-in-Some-fault : goal.invariant_of-self-in-Some-fault
 invariant_of-self-in-Some-fault c =
     let room : total (seen c.self.inside.taken c.self.inside.waiting.items c.self.inside.begun.items c.self.inside.behind) + length c.args.piece.now < 2 ^ 63 =
     subst (λ (s : Fed). total s + length c.args.piece.now < 2 ^ 63) (sym c.self.view_is) c.requires in
-    kept_advanced c.self.inside.taken c.self.inside.waiting.items c.self.inside.end c.self.inside.begun.items c.self.inside.behind c.args.piece.now c.go_on.new.waiting.items c.go_on.new.begun.items c.in_ok-went.went c.self.invariant room c.in_ok-went.ensures.ok
+    kept_advanced c.self.inside.taken c.self.inside.waiting.items c.self.inside.end c.self.inside.begun.items
+    c.self.inside.behind c.args.piece.now c.go_on.new.waiting.items c.go_on.new.begun.items c.in_ok-went.went
+    c.self.invariant room c.in_ok-went.ensures.ok
 
 pub returns-in-Some-fault-clause-fault : goal.returns-in-Some-fault-clause-fault
 returns-in-Some-fault-clause-fault c =
-    let ends = ends_advanced c.self.inside.taken c.self.inside.waiting.items c.self.inside.end c.self.inside.begun.items c.self.inside.behind c.args.piece.now c.go_on.new.waiting.items c.go_on.new.begun.items c.in_ok-went.went c.self.invariant c.in_ok-went.ensures.ok in
+    let ends = ends_advanced c.self.inside.taken c.self.inside.waiting.items c.self.inside.end
+    c.self.inside.begun.items c.self.inside.behind c.args.piece.now c.go_on.new.waiting.items
+    c.go_on.new.begun.items c.in_ok-went.went c.self.invariant c.in_ok-went.ensures.ok in
     inr (subst (λ (s : Fed). Ends s.place (s.bytes ++ c.args.piece.now) (Some c.in-Some-fault.fault)) c.self.view_is
     (subst (Ends c.self.inside.taken ((joined c.self.inside.waiting.items ++ c.self.inside.begun.items) ++ c.args.piece.now)) c.in-Some-fault.is ends))
 
@@ -59,35 +77,55 @@ pub returns-in-Some-fault-clause-stops : goal.returns-in-Some-fault-clause-stops
 returns-in-Some-fault-clause-stops c =
     let room : total (seen c.self.inside.taken c.self.inside.waiting.items c.self.inside.begun.items c.self.inside.behind) + length c.args.piece.now < 2 ^ 63 =
     subst (λ (s : Fed). total s + length c.args.piece.now < 2 ^ 63) (sym c.self.view_is) c.requires in
-    let next = kept_advanced c.self.inside.taken c.self.inside.waiting.items c.self.inside.end c.self.inside.begun.items c.self.inside.behind c.args.piece.now c.go_on.new.waiting.items c.go_on.new.begun.items c.in_ok-went.went c.self.invariant room c.in_ok-went.ensures.ok in
-    inr (subst (λ (s : Fed). StopsAt s c.args.piece.now c.in-Some-fault.fault (seen c.self.inside.taken c.go_on.new.waiting.items c.go_on.new.begun.items (c.self.inside.behind + c.in_ok-went.went.dropped))) c.self.view_is
-    (stops c.self.inside.taken c.self.inside.waiting.items c.self.inside.end c.self.inside.begun.items c.self.inside.behind c.args.piece.now c.go_on.new.waiting.items c.go_on.new.begun.items c.in_ok-went.went c.in-Some-fault.fault next c.in_ok-went.ensures.ok c.in-Some-fault.is))
+    let next = kept_advanced c.self.inside.taken c.self.inside.waiting.items c.self.inside.end
+    c.self.inside.begun.items c.self.inside.behind c.args.piece.now c.go_on.new.waiting.items
+    c.go_on.new.begun.items c.in_ok-went.went c.self.invariant room c.in_ok-went.ensures.ok in
+    inr (subst (λ (s : Fed). StopsAt s c.args.piece.now c.in-Some-fault.fault
+    (seen c.self.inside.taken c.go_on.new.waiting.items c.go_on.new.begun.items
+    (c.self.inside.behind + c.in_ok-went.went.dropped))) c.self.view_is
+    (stops c.self.inside.taken c.self.inside.waiting.items c.self.inside.end c.self.inside.begun.items
+    c.self.inside.behind c.args.piece.now c.go_on.new.waiting.items c.go_on.new.begun.items c.in_ok-went.went
+    c.in-Some-fault.fault next c.in_ok-went.ensures.ok c.in-Some-fault.is))
 
 pub returns-in-Some-fault-clause-again : goal.returns-in-Some-fault-clause-again
 returns-in-Some-fault-clause-again c fault e =
     let none : HasFault c.self.inside.end c.self.inside.begun.items None =
-    subst (HasFault c.self.inside.end c.self.inside.begun.items) c.in_default.is (subst (λ (bs : List ℕ). HasFault c.self.inside.end bs c.fault_in.result) c.deref.ensures.value c.fault_in.ensures) in
-    absurd (no_fault_before c.self.inside.taken c.self.inside.waiting.items c.self.inside.end c.self.inside.begun.items c.self.inside.behind fault c.self.invariant none (subst (λ (s : Fed). Ends s.place s.bytes (Some fault)) (sym c.self.view_is) e))
+    subst (HasFault c.self.inside.end c.self.inside.begun.items) c.in_default.is
+    (subst (λ (bs : List ℕ). HasFault c.self.inside.end bs c.fault_in.result) c.deref.ensures.value
+    c.fault_in.ensures) in
+    absurd (no_fault_before c.self.inside.taken c.self.inside.waiting.items c.self.inside.end
+    c.self.inside.begun.items c.self.inside.behind fault c.self.invariant none
+    (subst (λ (s : Fed). Ends s.place s.bytes (Some fault)) (sym c.self.view_is) e))
 
 pub returns-in-Some-fault-clause-memory : goal.returns-in-Some-fault-clause-memory
 returns-in-Some-fault-clause-memory c e =
     let memory : Some c.in-Some-fault.fault ≡ Some Memory = cc in
-    absurd (not_memory c.in_ok-went.went.end c.go_on.new.begun.items (subst (HasFault c.in_ok-went.went.end c.go_on.new.begun.items) (c.in-Some-fault.is ∙ memory) c.in_ok-went.ensures.ok.first))
+    absurd (not_memory c.in_ok-went.went.end c.go_on.new.begun.items
+    (subst (HasFault c.in_ok-went.went.end c.go_on.new.begun.items) (c.in-Some-fault.is ∙ memory)
+    c.in_ok-went.ensures.ok.first))
 
 pub invariant_of-self-2 : goal.invariant_of-self-2
 invariant_of-self-2 c =
     let room : total (seen c.self.inside.taken c.self.inside.waiting.items c.self.inside.begun.items c.self.inside.behind) + length c.args.piece.now < 2 ^ 63 =
     subst (λ (s : Fed). total s + length c.args.piece.now < 2 ^ 63) (sym c.self.view_is) c.requires in
-    kept_advanced c.self.inside.taken c.self.inside.waiting.items c.self.inside.end c.self.inside.begun.items c.self.inside.behind c.args.piece.now c.go_on.new.waiting.items c.go_on.new.begun.items c.in_ok-went.went c.self.invariant room c.in_ok-went.ensures.ok
+    kept_advanced c.self.inside.taken c.self.inside.waiting.items c.self.inside.end c.self.inside.begun.items
+    c.self.inside.behind c.args.piece.now c.go_on.new.waiting.items c.go_on.new.begun.items c.in_ok-went.went
+    c.self.invariant room c.in_ok-went.ensures.ok
 
 pub returns-clause-clean : goal.returns-clause-clean
 returns-clause-clean c =
-    let ends = ends_advanced c.self.inside.taken c.self.inside.waiting.items c.self.inside.end c.self.inside.begun.items c.self.inside.behind c.args.piece.now c.go_on.new.waiting.items c.go_on.new.begun.items c.in_ok-went.went c.self.invariant c.in_ok-went.ensures.ok in
+    let ends = ends_advanced c.self.inside.taken c.self.inside.waiting.items c.self.inside.end
+    c.self.inside.begun.items c.self.inside.behind c.args.piece.now c.go_on.new.waiting.items
+    c.go_on.new.begun.items c.in_ok-went.went c.self.invariant c.in_ok-went.ensures.ok in
     subst (λ (s : Fed). Ends s.place (s.bytes ++ c.args.piece.now) None) c.self.view_is
     (subst (Ends c.self.inside.taken ((joined c.self.inside.waiting.items ++ c.self.inside.begun.items) ++ c.args.piece.now)) c.in_default-fault.is ends)
 
 pub returns-clause-again : goal.returns-clause-again
 returns-clause-again c fault e =
     let none : HasFault c.self.inside.end c.self.inside.begun.items None =
-    subst (HasFault c.self.inside.end c.self.inside.begun.items) c.in_default.is (subst (λ (bs : List ℕ). HasFault c.self.inside.end bs c.fault_in.result) c.deref.ensures.value c.fault_in.ensures) in
-    absurd (no_fault_before c.self.inside.taken c.self.inside.waiting.items c.self.inside.end c.self.inside.begun.items c.self.inside.behind fault c.self.invariant none (subst (λ (s : Fed). Ends s.place s.bytes (Some fault)) (sym c.self.view_is) e))
+    subst (HasFault c.self.inside.end c.self.inside.begun.items) c.in_default.is
+    (subst (λ (bs : List ℕ). HasFault c.self.inside.end bs c.fault_in.result) c.deref.ensures.value
+    c.fault_in.ensures) in
+    absurd (no_fault_before c.self.inside.taken c.self.inside.waiting.items c.self.inside.end
+    c.self.inside.begun.items c.self.inside.behind fault c.self.invariant none
+    (subst (λ (s : Fed). Ends s.place s.bytes (Some fault)) (sym c.self.view_is) e))

@@ -21,5 +21,8 @@ pub returns-clause-none : goal.returns-clause-none
 returns-clause-none c =
     let took = returns-clause-frame c in (
       λ some. let wrong : true ≡ false = some in absurd cc,
-      λ partial. absurd (partial c.in_ok-frame.frame (seen (c.self.inside.taken + (16 + c.len.result)) c.pop_front.new.self.items c.self.inside.begun.items c.self.inside.behind).bytes took.frame took.first),
+      λ partial. absurd
+          (partial c.in_ok-frame.frame
+          (seen (c.self.inside.taken + (16 + c.len.result)) c.pop_front.new.self.items c.self.inside.begun.items
+          c.self.inside.behind).bytes took.frame took.first),
     )

@@ -16,7 +16,10 @@ pub returns-in-Some-2-clause-word : goal.returns-in-Some-2-clause-word
 returns-in-Some-2-clause-word c =
     let T = c.args.table.now in
     let all = stack_pop T c.loop-frame.self.frames c.pop.new.self c.in-Some-pop.frame (expected T c.args.self.now) c.in-Some-pop.ensures.some c.loop-frame.invariant.words in
-    first_found T c.in-Some-pop.frame c.pop.new.self c.open.new.self.frames c.in_ok-role.field-0 (c.in-Some-2.role, c.in-Some-2.place) (expected T c.args.self.now) c.open.new.self.run c.open.new.self.bytes.items
+    first_found T c.in-Some-pop.frame c.pop.new.self c.open.new.self.frames c.in_ok-role.field-0 (
+      c.in-Some-2.role,
+      c.in-Some-2.place,
+    ) (expected T c.args.self.now) c.open.new.self.run c.open.new.self.bytes.items
     all c.in-Some-2.is (c.in_ok-role.ensures.run ∙ c.loop-frame.invariant.no_run) c.in_ok-role.ensures.found
 
 pub loop-frame-preserved : goal.loop-frame-preserved

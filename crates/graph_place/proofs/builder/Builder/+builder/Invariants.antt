@@ -9,17 +9,25 @@ use Rattle.graph_place.proofs.builder.Builder.+builder.Given as goal
 
 -- the slots of the fields that were passed are put
 abbrev pub invariant-slots-loop-field : goal.invariant-slots-loop-field
-invariant-slots-loop-field l = SlotsOn l.table (fields_of l.table l.message) l.tree l.at l.fn.self.free l.fn.self.words.items (drop l.field-index l.fields) l.place l.self.free l.self.words.items
+invariant-slots-loop-field l =
+    SlotsOn l.table (fields_of l.table l.message) l.tree l.at l.fn.self.free l.fn.self.words.items
+    (drop l.field-index l.fields) l.place l.self.free l.self.words.items
 
 -- the slots of the oneofs that were passed are put
 abbrev pub invariant-cases-loop-oneof : goal.invariant-cases-loop-oneof
-invariant-cases-loop-oneof l = CasesOn l.table (fields_of l.table l.message) l.tree (oneofs_of l.table l.message) l.at l.fn.self.free l.fn.self.words.items l.oneof (oneofs_of l.table l.message - l.oneof) l.place l.self.free l.self.words.items
+invariant-cases-loop-oneof l = CasesOn l.table (fields_of l.table l.message) l.tree (oneofs_of l.table l.message) l.at
+    l.fn.self.free l.fn.self.words.items l.oneof (oneofs_of l.table l.message - l.oneof) l.place l.self.free
+    l.self.words.items
 
 abbrev pub invariant-elements-loop-value : goal.invariant-elements-loop-value
-invariant-elements-loop-value l = ElementsOn l.table l.kind l.values.items l.at l.initial.self.free l.initial.self.words.items (drop l.value-index l.value-items) l.next l.self.free l.self.words.items
+invariant-elements-loop-value l =
+    ElementsOn l.table l.kind l.values.items l.at l.initial.self.free l.initial.self.words.items
+    (drop l.value-index l.value-items) l.next l.self.free l.self.words.items
 
 abbrev pub invariant-entries-loop-entry : goal.invariant-entries-loop-entry
-invariant-entries-loop-entry l = EntriesOn l.table l.key l.kind l.entries.items l.at l.initial.self.free l.initial.self.words.items (drop l.entry-index l.entry-items) l.next l.self.free l.self.words.items
+invariant-entries-loop-entry l =
+    EntriesOn l.table l.key l.kind l.entries.items l.at l.initial.self.free l.initial.self.words.items
+    (drop l.entry-index l.entry-items) l.next l.self.free l.self.words.items
 
 abbrev pub decreases-node : goal.decreases-node
 decreases-node l = 8 * weight l.tree.now + 2

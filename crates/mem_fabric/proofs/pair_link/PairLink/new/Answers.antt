@@ -1,6 +1,6 @@
 use Rattle.std.proofs.Common.{ap, refl, sym, subst, false, ◌∙◌}
-use Rattle.one_way_queue.specs.Pieces.{bytes_of}
-use Rattle.mem_fabric.specs.Pair.{frames_of, IsOutgoing}
+use Rattle.one_way_queue.specs.Pieces.{bytes_of, frames_of}
+use Rattle.mem_fabric.specs.Pair.{IsOutgoing}
 use Rattle.mem_fabric.proofs.pair_link.PairLink.new.Goals as goal
 
 pub invariant_of-result : goal.invariant_of-result

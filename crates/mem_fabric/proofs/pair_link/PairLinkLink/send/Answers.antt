@@ -1,6 +1,7 @@
 use Rattle.std.proofs.Common.{◌∷◌, ◌++◌, [], false, ap, refl, sym, subst, ◌∙◌}
 use Rattle.one_way_queue.specs.Ends.{put_of}
-use Rattle.mem_fabric.specs.Pair.{frames_of, IsOutgoing}
+use Rattle.one_way_queue.specs.Pieces.{frames_of}
+use Rattle.mem_fabric.specs.Pair.{IsOutgoing}
 use Rattle.mem_fabric.proofs.Causes.{failed_cause, no_cause}
 use Rattle.mem_fabric.proofs.Outgoing.{frames_snoc_bytes, outgoing_frame}
 use Rattle.mem_fabric.proofs.pair_link.PairLinkLink.send.Goals as goal

@@ -5,7 +5,11 @@ use Rattle.mrpc_base.proofs.Listing.{listed_more, map-insert_entry}
 use Rattle.mrpc_base.proofs.races.Races.list.Goals as goal
 
 pub invariant_of-self : goal.invariant_of-self
-invariant_of-self c = subst (AreListedBelow (c.self.inside.listed + 1)) (sym c.in-Ok.ensures.entries) (listed_more c.self.inside.waiting.entries c.args.load c.self.inside.listed (c.args.place, c.args.value) c.self.invariant)
+invariant_of-self c = subst (AreListedBelow (c.self.inside.listed + 1)) (sym c.in-Ok.ensures.entries)
+    (listed_more c.self.inside.waiting.entries c.args.load c.self.inside.listed (
+      c.args.place,
+      c.args.value,
+    ) c.self.invariant)
 
 pub returns-in-Ok-clause-made : goal.returns-in-Ok-clause-made
 returns-in-Ok-clause-made c = λ _.

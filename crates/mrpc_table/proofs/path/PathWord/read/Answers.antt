@@ -17,5 +17,11 @@ loop-part-preserved c =
           ∙ ap (option_map (behind_numbers c.loop-part.way.items)) step
           ∙ one_more c.loop-part.way.items c.in-Some-number_of.number rest
           ∙ ap (λ (ns : List Decimal). option_map (behind_numbers ns) rest) (sym c.in_ok-push.ensures.items);
-      count = omega (arith, c.loop-part.invariant.count, ap (length {A = List ℕ}) c.in-Some.ensures.parts, ap (length {A = Decimal}) c.in_ok-push.ensures.items, length-append c.loop-part.way.items (c.in-Some-number_of.number ∷ []));
+      count = omega (
+        arith,
+        c.loop-part.invariant.count,
+        ap (length {A = List ℕ}) c.in-Some.ensures.parts,
+        ap (length {A = Decimal}) c.in_ok-push.ensures.items,
+        length-append c.loop-part.way.items (c.in-Some-number_of.number ∷ []),
+      );
     }

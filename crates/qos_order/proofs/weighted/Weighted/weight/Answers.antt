@@ -6,7 +6,8 @@ use Rattle.qos_order.proofs.weighted.Weighted.weight.Goals as goal
 pub returns-in-Ok-clause-value : goal.returns-in-Ok-clause-value
 returns-in-Ok-clause-value c =
     let by_number = c.in-Ok.ensures.position (λ w. w.conn) (answers_always _ _ _ (λ f a r g called. search rules)) in
-    let found = find-searched (λ w. w.conn) c.self.inside.weights.items c.args.conn c.in-Ok.place c.index.result.now c.self.invariant.sound.once (search rules) (rw c.deref.ensures.value at by_number) c.index.ensures in
+    let found = find-searched (λ w. w.conn) c.self.inside.weights.items c.args.conn c.in-Ok.place c.index.result.now
+    c.self.invariant.sound.once (search rules) (rw c.deref.ensures.value at by_number) c.index.ensures in
     rw (← c.self.view_is) (sym (ap (λ o. unwrap_or (option_map (λ w. w.weight) o) 1) found))
 
 pub returns-in-Err-clause-value : goal.returns-in-Err-clause-value

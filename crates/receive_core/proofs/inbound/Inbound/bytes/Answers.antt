@@ -10,7 +10,8 @@ pub returns-clause-ready : goal.returns-clause-ready
 returns-clause-ready c T ready =
     let before = subst (λ (r : Receiving). IsReady T r) (sym c.self.view_is) ready in
     stays_ready T c.self.inside.conn c.self.inside.feed c.feed.new.self c.self.inside.opened
-    (fed_first c.one_split.ensures.stays c.one_frame.ensures.once c.self.inside.feed c.args.piece.now c.feed.new.self c.feed.result c.feed.ensures.ok c.feed.ensures.stops c.feed.ensures.memory)
+    (fed_first c.one_split.ensures.stays c.one_frame.ensures.once c.self.inside.feed c.args.piece.now c.feed.new.self
+    c.feed.result c.feed.ensures.ok c.feed.ensures.stops c.feed.ensures.memory)
     before
 
 pub returns-clause-total : goal.returns-clause-total
@@ -30,7 +31,9 @@ returns-clause-life c T life lives =
       sizes = c.frames_join.ensures.size;
       splits = c.frames_join.ensures.splits;
     } in
-    piece_life laws T life c.args.self.now _ c.args.piece.now c.feed.result lives (λ i. omega (arith, c.type_inv.piece i)) (search rules) (search rules) (search rules) (search rules) (returns-clause-ready c T lives.ready)
+    piece_life laws T life c.args.self.now _ c.args.piece.now c.feed.result lives
+    (λ i. omega (arith, c.type_inv.piece i)) (search rules) (search rules) (search rules) (search rules)
+    (returns-clause-ready c T lives.ready)
 
 pub returns-clause-life_at_fault : goal.returns-clause-life_at_fault
 returns-clause-life_at_fault c T life lives =
@@ -43,7 +46,9 @@ returns-clause-life_at_fault c T life lives =
       sizes = c.frames_join.ensures.size;
       splits = c.frames_join.ensures.splits;
     } in
-    fault_life laws T life c.args.self.now _ c.args.piece.now c.feed.result lives (λ i. omega (arith, c.type_inv.piece i)) (search rules) (search rules) (search rules) (returns-clause-ready c T lives.ready)
+    fault_life laws T life c.args.self.now _ c.args.piece.now c.feed.result lives
+    (λ i. omega (arith, c.type_inv.piece i)) (search rules) (search rules) (search rules)
+    (returns-clause-ready c T lives.ready)
 
 pub returns-clause-again : goal.returns-clause-again
 returns-clause-again c fault ends = c.feed.ensures.again fault (subst (λ (r : Receiving). Ends r.fed.place r.fed.bytes (Some fault)) (sym c.self.view_is) ends)

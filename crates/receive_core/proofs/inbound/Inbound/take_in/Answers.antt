@@ -21,7 +21,9 @@ returns-clause-takes g c f first is =
     let front : IsFirstFit c.args.self.now.heap.holes c.args.opened.words c.in-Ok.block.at =
     subst (λ (l : Layout). IsFirstFit l.holes c.args.opened.words c.in-Ok.block.at) heap c.in-Ok.ensures.front in
     let same = c.requires.fits c.in-Ok.block.at front in
-    let stands = subst (λ (msg : ℕ). (H : ℕ) → c.args.at + tree_words T msg tree ≤ H → StandsIn T H msg tree c.args.at (tree_words T msg tree) c.in_ok-placed.placed) message c.in_ok-placed.ensures.stands in (
+    let stands = subst (λ (msg : ℕ). (H : ℕ) → c.args.at + tree_words T msg tree ≤ H
+    → StandsIn T H msg tree c.args.at (tree_words T msg tree) c.in_ok-placed.placed) message
+    c.in_ok-placed.ensures.stands in (
       subst (λ (fed : Fed). Gives fed f c.take_first-frame.new.self.fed) fed taken.1,
       (ap (λ (h : Frame). h.kind) (sym taken.0), ap (λ (h : Frame). h.method) (sym taken.0), ap (λ (h : Frame). h.number) (sym taken.0)),
       refl,
@@ -37,7 +39,9 @@ store-requires-clause-in_heap g c =
     let f = c.requires.opened.0 in
     let is = c.requires.opened.2 in
     let message : c.message_at-message.result ≡ message_of T f = c.message_at-message.ensures.place ∙ message_is T c.args.self.now.conn f c.args.opened is in
-    let stands = subst (λ (msg : ℕ). (H : ℕ) → c.args.at + tree_words T msg tree ≤ H → StandsIn T H msg tree c.args.at (tree_words T msg tree) c.in_ok-placed.placed) message c.in_ok-placed.ensures.stands in
+    let stands = subst (λ (msg : ℕ). (H : ℕ) → c.args.at + tree_words T msg tree ≤ H
+    → StandsIn T H msg tree c.args.at (tree_words T msg tree) c.in_ok-placed.placed) message
+    c.in_ok-placed.ensures.stands in
     let small : c.args.self.now.heap.words ≤ 65536 = search rules in
     let fits = fits_in T c.args.self.now.conn f c.args.opened c.args.at c.args.self.now.heap.words is c.requires.inside.1 small in
     let size : g.H.Stores.words c.room_stores.new.self ≡ c.args.self.now.heap.words = c.room_stores.ensures.words ∙ c.requires.size in
@@ -51,7 +55,9 @@ store-requires-clause-few g c =
     let f = c.requires.opened.0 in
     let is = c.requires.opened.2 in
     let message : c.message_at-message.result ≡ message_of T f = c.message_at-message.ensures.place ∙ message_is T c.args.self.now.conn f c.args.opened is in
-    let stands = subst (λ (msg : ℕ). (H : ℕ) → c.args.at + tree_words T msg tree ≤ H → StandsIn T H msg tree c.args.at (tree_words T msg tree) c.in_ok-placed.placed) message c.in_ok-placed.ensures.stands in
+    let stands = subst (λ (msg : ℕ). (H : ℕ) → c.args.at + tree_words T msg tree ≤ H
+    → StandsIn T H msg tree c.args.at (tree_words T msg tree) c.in_ok-placed.placed) message
+    c.in_ok-placed.ensures.stands in
     let small : c.args.self.now.heap.words ≤ 65536 = search rules in
     let fits = fits_in T c.args.self.now.conn f c.args.opened c.args.at c.args.self.now.heap.words is c.requires.inside.1 small in
     let few = (stands c.args.self.now.heap.words fits).few in

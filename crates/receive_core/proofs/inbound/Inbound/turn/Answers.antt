@@ -18,7 +18,8 @@ returns-clause-life g c life lives =
 
 pub returns-clause-few_stores : goal.returns-clause-few_stores
 returns-clause-few_stores g c =
-    few_stores c.args.table.now (option_copied c.args.policy) c.args.self.now c.answer-arrival.new.self _ _ c.answer-arrival.result c.answer-arrival.ensures.turns c.answer-arrival.ensures.no_store
+    few_stores c.args.table.now (option_copied c.args.policy) c.args.self.now c.answer-arrival.new.self _ _
+    c.answer-arrival.result c.answer-arrival.ensures.turns c.answer-arrival.ensures.no_store
 
 pub returns-clause-life_stays : goal.returns-clause-life_stays
 returns-clause-life_stays g c life lives =

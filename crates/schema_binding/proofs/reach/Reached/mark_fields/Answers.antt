@@ -28,7 +28,8 @@ loop-field-preserved c =
       gains = gains_on T U c.args.self.now c.loop-field.self c.mark_field.new.self (LeadsTo T U i j) (IsShared T U f n) (LeadsTo T U i j) (λ type h. h)
           (leads_at T U c.requires.ours i j m n at_m at_n c.as_slice-field-items.result.now c.as_slice-field-items.ensures c.loop-field.field-index f c.loop-field-test.true c.field-item.is)
           c.loop-field.invariant.gains c.in_ok-mark_field.ensures.gains;
-      next = next_more T U c.requires.ours i j m n at_m at_n c.as_slice-field-items.result.now c.as_slice-field-items.ensures c.loop-field.field-index f c.loop-field-test.true c.field-item.is
+      next = next_more T U c.requires.ours i j m n at_m at_n c.as_slice-field-items.result.now
+          c.as_slice-field-items.ensures c.loop-field.field-index f c.loop-field-test.true c.field-item.is
           c.loop-field.self c.mark_field.new.self c.in_ok-mark_field.ensures.gains.grows c.loop-field.invariant.next (λ type h. c.in_ok-mark_field.ensures.marked type h);
     }
 

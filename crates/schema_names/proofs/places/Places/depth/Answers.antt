@@ -14,4 +14,10 @@ pub returns-clause-few : goal.returns-clause-few
 returns-clause-few c =
     let k = kept_places c.self.inside c.self.view_is c.self.invariant in
     let p = package_known k.its_packages c.args.file c.index.result.now c.requires c.index.ensures in
-    omega (arith, c.len.ensures, c.index.result.now.parts.ok.0, parts_length c.index.result.now.parts.items (package_at c.args.self.now c.args.file) p.its_parts, package_small c.args.self.now c.args.file c.requires k.few)
+    omega (
+      arith,
+      c.len.ensures,
+      c.index.result.now.parts.ok.0,
+      parts_length c.index.result.now.parts.items (package_at c.args.self.now c.args.file) p.its_parts,
+      package_small c.args.self.now c.args.file c.requires k.few,
+    )

@@ -11,7 +11,9 @@ returns-clause-last c =
     let p = package_known k.its_packages c.args.file c.index.result.now c.requires c.index.ensures in
     let e : c.copied.result ≡ last_in c.index.result.now.last_places c.args.part.now = c.copied.ensures ∙ c.get.ensures.value in
     subst
-    (λ (o : Option ℕ). MatchOption o ((i : ℕ) → slice_get (package_at c.args.self.now c.args.file) i ≢ Some c.args.part.now) (IsLast (package_at c.args.self.now c.args.file) c.args.part.now))
+    (λ (o : Option ℕ). MatchOption o ((i : ℕ)
+    → slice_get (package_at c.args.self.now c.args.file) i ≢ Some c.args.part.now)
+    (IsLast (package_at c.args.self.now c.args.file) c.args.part.now))
     (sym e) (p.last c.args.part.now)
 
 pub returns-clause-few : goal.returns-clause-few
@@ -21,5 +23,7 @@ returns-clause-few c =
     let e : c.copied.result ≡ last_in c.index.result.now.last_places c.args.part.now = c.copied.ensures ∙ c.get.ensures.value in
     last_few c.args.self.now c.args.file c.args.part.now c.copied.result c.requires k.few
     (subst
-    (λ (o : Option ℕ). MatchOption o ((i : ℕ) → slice_get (package_at c.args.self.now c.args.file) i ≢ Some c.args.part.now) (IsLast (package_at c.args.self.now c.args.file) c.args.part.now))
+    (λ (o : Option ℕ). MatchOption o ((i : ℕ)
+    → slice_get (package_at c.args.self.now c.args.file) i ≢ Some c.args.part.now)
+    (IsLast (package_at c.args.self.now c.args.file) c.args.part.now))
     (sym e) (p.last c.args.part.now))

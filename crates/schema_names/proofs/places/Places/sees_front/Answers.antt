@@ -42,12 +42,16 @@ returns-then-has_front c full some n =
     let same : c.as_slice-other-items.result.now ≡ c.index-heads-file.result.sees = c.as_slice-other-items.ensures ∙ ap (λ (h : Head). h.sees) (sym c.index-heads-file.is) in
     yes_iff (record {
       other = get_or c.as_slice-other-items.result.now c.loop-other.other-index 0;
-      seen = seen_at c.heads.result.now c.as_slice-other-items.result.now c.args.file c.loop-other.other-index c.index-heads-file.result (c.heads.ensures ∙ ap (λ (F : Joined). F.heads) c.self.view_is) c.requires c.index-heads-file.is same c.loop-other-test.true;
+      seen = seen_at c.heads.result.now c.as_slice-other-items.result.now c.args.file c.loop-other.other-index
+          c.index-heads-file.result (c.heads.ensures ∙ ap (λ (F : Joined). F.heads) c.self.view_is) c.requires
+          c.index-heads-file.is same c.loop-other-test.true;
       its_front = begins;
     })
 
 pub returns : goal.returns
 returns c full some n =
     let same : c.as_slice-other-items.result.now ≡ c.index-heads-file.result.sees = c.as_slice-other-items.ensures ∙ ap (λ (h : Head). h.sees) (sym c.index-heads-file.is) in
-    no_iff (none_seen c.heads.result.now c.as_slice-other-items.result.now c.args.file c.loop-other.other-index c.index-heads-file.result (c.heads.ensures ∙ ap (λ (F : Joined). F.heads) c.self.view_is) c.requires c.index-heads-file.is same c.loop-other-test.false
+    no_iff (none_seen c.heads.result.now c.as_slice-other-items.result.now c.args.file c.loop-other.other-index
+    c.index-heads-file.result (c.heads.ensures ∙ ap (λ (F : Joined). F.heads) c.self.view_is) c.requires
+    c.index-heads-file.is same c.loop-other-test.false
     (λ j less. c.loop-other.invariant full j some n less))

@@ -25,22 +25,30 @@ returns-then-is_there c =
     let busy : IsBusy c.args.self.now c.args.its_file c.as_slice-n-items.result.now = subst (IsBusy c.args.self.now c.args.its_file) (sym c.as_slice-n-items.ensures.value) b in
     let n : ℕ = get_or c.as_slice-n-items.result.now c.loop-n.n-index 0 in
     let number : IsNumber c.args.self.now (take (get_or c.as_slice-n-items.result.now c.loop-n.n-index 0) (package_at c.args.self.now c.args.its_file)) c.front-scope.result =
-    subst (λ (F : Joined). IsNumber F (take (get_or c.as_slice-n-items.result.now c.loop-n.n-index 0) (package_at F c.args.its_file)) c.front-scope.result) c.self.view_is c.front-scope.ensures.number in
+    subst (λ (F : Joined).
+    IsNumber F (take (get_or c.as_slice-n-items.result.now c.loop-n.n-index 0) (package_at F c.args.its_file))
+    c.front-scope.result) c.self.view_is c.front-scope.ensures.number in
     let there : IsThere c.args.self.now c.args.file (take (get_or c.as_slice-n-items.result.now c.loop-n.n-index 0) (package_at c.args.self.now c.args.its_file) ++ c.args.name.now ∷ []) =
     (c.if-is_there.ensures (take (get_or c.as_slice-n-items.result.now c.loop-n.n-index 0) (package_at c.args.self.now c.args.its_file)) number).0 refl in
-    some_busy c.args.self.now c.args.file c.args.its_file c.args.name.now c.as_slice-n-items.result.now busy c.loop-n.n-index (get_or c.as_slice-n-items.result.now c.loop-n.n-index 0) c.loop-n-test.true refl c.loop-n.invariant there
+    some_busy c.args.self.now c.args.file c.args.its_file c.args.name.now c.as_slice-n-items.result.now busy
+    c.loop-n.n-index (get_or c.as_slice-n-items.result.now c.loop-n.n-index 0) c.loop-n-test.true refl
+    c.loop-n.invariant there
 
 pub loop-n-preserved : goal.loop-n-preserved
 loop-n-preserved c j less h =
     let number : IsNumber c.args.self.now (take (get_or c.as_slice-n-items.result.now c.loop-n.n-index 0) (package_at c.args.self.now c.args.its_file)) c.front-scope.result =
-    subst (λ (F : Joined). IsNumber F (take (get_or c.as_slice-n-items.result.now c.loop-n.n-index 0) (package_at F c.args.its_file)) c.front-scope.result) c.self.view_is c.front-scope.ensures.number in
+    subst (λ (F : Joined).
+    IsNumber F (take (get_or c.as_slice-n-items.result.now c.loop-n.n-index 0) (package_at F c.args.its_file))
+    c.front-scope.result) c.self.view_is c.front-scope.ensures.number in
     ⊎_elim
     (λ (old : j < c.loop-n.n-index). c.loop-n.invariant j old h)
     (λ (new : c.loop-n.n-index ≤ j).
     let e : j ≡ c.loop-n.n-index = omega (arith, less) in
     let g : IsThereAt c.args.self.now c.args.file c.args.its_file c.args.name.now (get_or c.as_slice-n-items.result.now c.loop-n.n-index 0) =
     subst (λ (q : ℕ). IsThereAt c.args.self.now c.args.file c.args.its_file c.args.name.now (get_or c.as_slice-n-items.result.now q 0)) e h in
-    let t : c.is_there.result ≡ true = (c.is_there.ensures (take (get_or c.as_slice-n-items.result.now c.loop-n.n-index 0) (package_at c.args.self.now c.args.its_file)) number).1 g.there in
+    let t : c.is_there.result ≡ true =
+    (c.is_there.ensures (take (get_or c.as_slice-n-items.result.now c.loop-n.n-index 0)
+    (package_at c.args.self.now c.args.its_file)) number).1 g.there in
     let z : true ≡ false = sym t ∙ c.if-is_there.false in
     cc)
     (cases_lt j c.loop-n.n-index)

@@ -42,7 +42,8 @@ outward-smaller c =
     let k = kept c.self.inside c.self.view_is c.self.invariant in
     let l : c.in-Message.i < length c.args.self.now.messages = subst (IsPlace c.args.self.now) c.in-Message.is c.outward.invariant.0 in
     let at : slice_get c.args.self.now.messages c.in-Message.i ≡ Some c.index-messages-i.result =
-    item_at c.messages.result.now c.args.self.now.messages c.in-Message.i c.index-messages-i.result (c.messages.ensures ∙ ap (λ (F : Joined). F.messages) c.self.view_is) l c.index-messages-i.is in
+    item_at c.messages.result.now c.args.self.now.messages c.in-Message.i c.index-messages-i.result
+    (c.messages.ensures ∙ ap (λ (F : Joined). F.messages) c.self.view_is) l c.index-messages-i.is in
     let less : rank_of c.home-place.result < c.in-Message.i + 1 =
     subst (λ (p : Home). rank_of p < c.in-Message.i + 1) (sym c.home-place.ensures) (home_below k.behind c.in-Message.i c.index-messages-i.result at) in
     subst (λ (p : Home). rank_of c.home-place.result < rank_of p) (sym c.in-Message.is) less
@@ -52,7 +53,8 @@ outward-preserved c =
     let k = kept c.self.inside c.self.view_is c.self.invariant in
     let l : c.in-Message.i < length c.args.self.now.messages = subst (IsPlace c.args.self.now) c.in-Message.is c.outward.invariant.0 in
     let at : slice_get c.args.self.now.messages c.in-Message.i ≡ Some c.index-messages-i.result =
-    item_at c.messages.result.now c.args.self.now.messages c.in-Message.i c.index-messages-i.result (c.messages.ensures ∙ ap (λ (F : Joined). F.messages) c.self.view_is) l c.index-messages-i.is in (
+    item_at c.messages.result.now c.args.self.now.messages c.in-Message.i c.index-messages-i.result
+    (c.messages.ensures ∙ ap (λ (F : Joined). F.messages) c.self.view_is) l c.index-messages-i.is in (
       subst (IsPlace c.args.self.now) (sym c.home-place.ensures) (message_place k.behind c.in-Message.i c.index-messages-i.result at),
       λ s h.
           let r : Reaches c.args.self.now c.args.file c.args.name.now s (home.Message c.in-Message.i) =

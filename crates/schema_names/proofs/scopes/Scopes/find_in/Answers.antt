@@ -38,4 +38,5 @@ returns c scope n =
     let cuts : parts_of c.loop-part.rest.now ≡ c.loop-part.rest.now ∷ [] = c.in_default.ensures.parts in
     let whole : inv.0 ++ c.loop-part.rest.now ∷ [] ≡ scope ++ parts_of c.args.name.now =
     ap (λ (x : List (List ℕ)). inv.0 ++ x) (sym cuts) ∙ inv.2 in
-    subst (λ (q : List (List ℕ)). MatchOption c.first_type.result (NoType c.args.self.now c.args.file q) (λ named. IsFirstAt c.args.self.now c.args.file named q)) whole (c.first_type.ensures inv.0 inv.1)
+    subst (λ (q : List (List ℕ)). MatchOption c.first_type.result (NoType c.args.self.now c.args.file q)
+    (λ named. IsFirstAt c.args.self.now c.args.file named q)) whole (c.first_type.ensures inv.0 inv.1)

@@ -11,24 +11,85 @@ use Rattle.schema_names.proofs.scopes.Scopes.first_type.Goals.{then-sees, else-s
 
 pub loop-declared-preserved : goal.loop-declared-preserved
 loop-declared-preserved c =
-    let more : take (c.loop-declared.declared-index + 1) c.get-declared-items.result.now ≡ take c.loop-declared.declared-index c.get-declared-items.result.now ++ get_or c.get-declared-items.result.now c.loop-declared.declared-index (record { file = 0; start = 0; named = Message 0 }) ∷ [] =
+    let more : take (c.loop-declared.declared-index + 1) c.get-declared-items.result.now
+    ≡ take c.loop-declared.declared-index c.get-declared-items.result.now
+    ++ get_or c.get-declared-items.result.now c.loop-declared.declared-index (record {
+      file = 0;
+      start = 0;
+      named = Message 0;
+    }) ∷ [] =
     take_more c.get-declared-items.result.now c.loop-declared.declared-index (record { file = 0; start = 0; named = Message 0 }) c.loop-declared-test.true in
     elim c.if-sees.branch [
       | then-sees w ↦
           let sees : Sees c.args.self.now c.args.file (get_or c.get-declared-items.result.now c.loop-declared.declared-index (record { file = 0; start = 0; named = Message 0 })).file =
-          subst (λ (F : Joined). Sees F c.args.file (get_or c.get-declared-items.result.now c.loop-declared.declared-index (record { file = 0; start = 0; named = Message 0 })).file) c.self.view_is (c.sees.ensures.0 w.if-sees.true) in
-          let taken : IsFirstOf c.args.self.now c.args.file (take c.loop-declared.declared-index c.get-declared-items.result.now ++ get_or c.get-declared-items.result.now c.loop-declared.declared-index (record { file = 0; start = 0; named = Message 0 }) ∷ []) (Some (earlier_of c.loop-declared.first (get_or c.get-declared-items.result.now c.loop-declared.declared-index (record { file = 0; start = 0; named = Message 0 })))) =
-          first_take (take c.loop-declared.declared-index c.get-declared-items.result.now) (get_or c.get-declared-items.result.now c.loop-declared.declared-index (record { file = 0; start = 0; named = Message 0 })) c.loop-declared.first sees c.loop-declared.invariant in
-          let is : c.if-sees.first ≡ Some (earlier_of c.loop-declared.first (get_or c.get-declared-items.result.now c.loop-declared.declared-index (record { file = 0; start = 0; named = Message 0 }))) = w.first-is ∙ ap Some w.first_of.ensures in
+          subst (λ (F : Joined).
+          Sees F c.args.file (get_or c.get-declared-items.result.now c.loop-declared.declared-index
+          (record { file = 0; start = 0; named = Message 0 })).file) c.self.view_is
+          (c.sees.ensures.0 w.if-sees.true) in
+          let taken : IsFirstOf c.args.self.now c.args.file
+          (take c.loop-declared.declared-index c.get-declared-items.result.now
+          ++ get_or c.get-declared-items.result.now c.loop-declared.declared-index (record {
+            file = 0;
+            start = 0;
+            named = Message 0;
+          }) ∷ [])
+          (Some (earlier_of c.loop-declared.first
+          (get_or c.get-declared-items.result.now c.loop-declared.declared-index (record {
+            file = 0;
+            start = 0;
+            named = Message 0;
+          })))) =
+          first_take (take c.loop-declared.declared-index c.get-declared-items.result.now)
+          (get_or c.get-declared-items.result.now c.loop-declared.declared-index (record {
+            file = 0;
+            start = 0;
+            named = Message 0;
+          })) c.loop-declared.first sees c.loop-declared.invariant in
+          let is : c.if-sees.first
+          ≡ Some (earlier_of c.loop-declared.first
+          (get_or c.get-declared-items.result.now c.loop-declared.declared-index (record {
+            file = 0;
+            start = 0;
+            named = Message 0;
+          }))) = w.first-is ∙ ap Some w.first_of.ensures in
           subst (IsFirstOf c.args.self.now c.args.file (take (c.loop-declared.declared-index + 1) c.get-declared-items.result.now)) (sym is)
-          (subst (λ (xs : List Declared). IsFirstOf c.args.self.now c.args.file xs (Some (earlier_of c.loop-declared.first (get_or c.get-declared-items.result.now c.loop-declared.declared-index (record { file = 0; start = 0; named = Message 0 }))))) (sym more) taken)
+          (subst (λ (xs : List Declared). IsFirstOf c.args.self.now c.args.file xs
+          (Some (earlier_of c.loop-declared.first
+          (get_or c.get-declared-items.result.now c.loop-declared.declared-index (record {
+            file = 0;
+            start = 0;
+            named = Message 0;
+          }))))) (sym more) taken)
       | else-sees w ↦
-          let not : Sees c.args.self.now c.args.file (get_or c.get-declared-items.result.now c.loop-declared.declared-index (record { file = 0; start = 0; named = Message 0 })).file → ⊥ = λ s.
-          let t : c.sees.result ≡ true = c.sees.ensures.1 (subst (λ (F : Joined). Sees F c.args.file (get_or c.get-declared-items.result.now c.loop-declared.declared-index (record { file = 0; start = 0; named = Message 0 })).file) (sym c.self.view_is) s) in
+          let not : Sees c.args.self.now c.args.file
+          (get_or c.get-declared-items.result.now c.loop-declared.declared-index (record {
+            file = 0;
+            start = 0;
+            named = Message 0;
+          })).file → ⊥ = λ s.
+          let t : c.sees.result ≡ true =
+          c.sees.ensures.1 (subst
+          (λ (F : Joined). Sees F c.args.file
+          (get_or c.get-declared-items.result.now c.loop-declared.declared-index (record {
+            file = 0;
+            start = 0;
+            named = Message 0;
+          })).file) (sym c.self.view_is) s) in
           let z : true ≡ false = sym t ∙ w.if-sees.false in
           cc in
-          let skipped : IsFirstOf c.args.self.now c.args.file (take c.loop-declared.declared-index c.get-declared-items.result.now ++ get_or c.get-declared-items.result.now c.loop-declared.declared-index (record { file = 0; start = 0; named = Message 0 }) ∷ []) c.loop-declared.first =
-          first_skip (take c.loop-declared.declared-index c.get-declared-items.result.now) (get_or c.get-declared-items.result.now c.loop-declared.declared-index (record { file = 0; start = 0; named = Message 0 })) c.loop-declared.first not c.loop-declared.invariant in
+          let skipped : IsFirstOf c.args.self.now c.args.file
+          (take c.loop-declared.declared-index c.get-declared-items.result.now
+          ++ get_or c.get-declared-items.result.now c.loop-declared.declared-index (record {
+            file = 0;
+            start = 0;
+            named = Message 0;
+          }) ∷ []) c.loop-declared.first =
+          first_skip (take c.loop-declared.declared-index c.get-declared-items.result.now)
+          (get_or c.get-declared-items.result.now c.loop-declared.declared-index (record {
+            file = 0;
+            start = 0;
+            named = Message 0;
+          })) c.loop-declared.first not c.loop-declared.invariant in
           subst (IsFirstOf c.args.self.now c.args.file (take (c.loop-declared.declared-index + 1) c.get-declared-items.result.now)) (sym w.first-is)
           (subst (λ (xs : List Declared). IsFirstOf c.args.self.now c.args.file xs c.loop-declared.first) (sym more) skipped)
     ]

@@ -10,12 +10,16 @@ use Rattle.schema_names.proofs.scopes.Scopes.is_there.Goals as goal
 
 pub returns-then-is_some : goal.returns-then-is_some
 returns-then-is_some c outer n =
-    let f = some_first c.first_type.result (NoType c.args.self.now c.args.file (outer ++ c.args.name.now ∷ [])) (λ named. IsFirstAt c.args.self.now c.args.file named (outer ++ c.args.name.now ∷ [])) c.if-is_some.ensures (c.first_type.ensures outer n) in
+    let f = some_first c.first_type.result (NoType c.args.self.now c.args.file (outer ++ c.args.name.now ∷ []))
+    (λ named. IsFirstAt c.args.self.now c.args.file named (outer ++ c.args.name.now ∷ [])) c.if-is_some.ensures
+    (c.first_type.ensures outer n) in
     yes_iff (first_there f.1)
 
 pub returns-in-Some : goal.returns-in-Some
 returns-in-Some c outer n =
-    let none = none_first c.first_type.result (NoType c.args.self.now c.args.file (outer ++ c.args.name.now ∷ [])) (λ named. IsFirstAt c.args.self.now c.args.file named (outer ++ c.args.name.now ∷ [])) c.if-is_some.ensures (c.first_type.ensures outer n) in
+    let none = none_first c.first_type.result (NoType c.args.self.now c.args.file (outer ++ c.args.name.now ∷ []))
+    (λ named. IsFirstAt c.args.self.now c.args.file named (outer ++ c.args.name.now ∷ [])) c.if-is_some.ensures
+    (c.first_type.ensures outer n) in
     let m : IsNumber c.self.inside.places outer c.args.scope = subst (λ (F : Joined). IsNumber F outer c.args.scope) (sym c.self.view_is) n in
     let inner : IsNumber c.self.inside.places (outer ++ c.args.name.now ∷ []) c.in-Some.inner = c.in-Some.ensures outer m in
     let sees : IsTrue c.sees_front.result ↔ SeesFront c.args.self.now c.args.file (outer ++ c.args.name.now ∷ []) =
@@ -25,7 +29,9 @@ returns-in-Some c outer n =
 
 pub returns-in-None : goal.returns-in-None
 returns-in-None c outer n =
-    let none = none_first c.first_type.result (NoType c.args.self.now c.args.file (outer ++ c.args.name.now ∷ [])) (λ named. IsFirstAt c.args.self.now c.args.file named (outer ++ c.args.name.now ∷ [])) c.if-is_some.ensures (c.first_type.ensures outer n) in
+    let none = none_first c.first_type.result (NoType c.args.self.now c.args.file (outer ++ c.args.name.now ∷ []))
+    (λ named. IsFirstAt c.args.self.now c.args.file named (outer ++ c.args.name.now ∷ [])) c.if-is_some.ensures
+    (c.first_type.ensures outer n) in
     let m : IsNumber c.self.inside.places outer c.args.scope = subst (λ (F : Joined). IsNumber F outer c.args.scope) (sym c.self.view_is) n in
     let unlisted : (place : ℕ) → IsListed c.args.self.now place (outer ++ c.args.name.now ∷ []) → ⊥ =
     λ place listed. c.in-None.ensures outer m place (subst (λ (F : Joined). IsListed F place (outer ++ c.args.name.now ∷ [])) (sym c.self.view_is) listed) in

@@ -55,7 +55,18 @@ returns-then-sees_front c =
     let its : slice_get (package_at c.args.self.now c.args.its_file) (c.loop-n.n - 1) ≡ Some c.args.name.now =
     own ∙ ap Some (eq_same c.part.result.now c.args.name.now c.if-ne.ensures) in
     let long : 0 < length (take (c.loop-n.n - 1 + 1) (package_at c.self.inside.places c.args.its_file)) =
-    omega (arith, length-take-le (c.loop-n.n - 1 + 1) (package_at c.self.inside.places c.args.its_file) (let l : c.loop-n.n - 1 + 1 ≤ length (package_at c.self.inside.places c.args.its_file) = omega (arith, c.loop-n-test.true, c.loop-n.auto.n, slice_get_within (package_at c.self.inside.places c.args.its_file) c.in-Some.last c.args.name.now c.in-Some.ensures.last.0) in l)) in
+    omega (
+      arith,
+      length-take-le (c.loop-n.n - 1 + 1) (package_at c.self.inside.places c.args.its_file)
+          (let l : c.loop-n.n - 1 + 1 ≤ length (package_at c.self.inside.places c.args.its_file) =
+          omega (
+            arith,
+            c.loop-n-test.true,
+            c.loop-n.auto.n,
+            slice_get_within (package_at c.self.inside.places c.args.its_file) c.in-Some.last c.args.name.now
+                c.in-Some.ensures.last.0,
+          ) in l),
+    ) in
     let seen : SeesFront c.args.self.now c.args.file (take (c.loop-n.n - 1 + 1) (package_at c.args.self.now c.args.its_file)) =
     subst (λ (F : Joined). SeesFront F c.args.file (take (c.loop-n.n - 1 + 1) (package_at F c.args.its_file))) c.self.view_is
     ((c.if-sees_front.ensures (take (c.loop-n.n - 1 + 1) (package_at c.self.inside.places c.args.its_file)) long c.front-front.ensures.number).0 refl) in
@@ -68,7 +79,18 @@ loop-n-preserved c m above h =
     (λ (new : m < c.loop-n.n).
     let e : m ≡ c.loop-n.n - 1 = omega (arith, above) in
     let long : 0 < length (take (c.loop-n.n - 1 + 1) (package_at c.self.inside.places c.args.its_file)) =
-    omega (arith, length-take-le (c.loop-n.n - 1 + 1) (package_at c.self.inside.places c.args.its_file) (let l : c.loop-n.n - 1 + 1 ≤ length (package_at c.self.inside.places c.args.its_file) = omega (arith, c.loop-n-test.true, c.loop-n.auto.n, slice_get_within (package_at c.self.inside.places c.args.its_file) c.in-Some.last c.args.name.now c.in-Some.ensures.last.0) in l)) in
+    omega (
+      arith,
+      length-take-le (c.loop-n.n - 1 + 1) (package_at c.self.inside.places c.args.its_file)
+          (let l : c.loop-n.n - 1 + 1 ≤ length (package_at c.self.inside.places c.args.its_file) =
+          omega (
+            arith,
+            c.loop-n-test.true,
+            c.loop-n.auto.n,
+            slice_get_within (package_at c.self.inside.places c.args.its_file) c.in-Some.last c.args.name.now
+                c.in-Some.ensures.last.0,
+          ) in l),
+    ) in
     let seen : SeesFront c.args.self.now c.args.file (take (c.loop-n.n - 1 + 1) (package_at c.args.self.now c.args.its_file)) =
     subst (λ (q : ℕ). SeesFront c.args.self.now c.args.file (take (q + 1) (package_at c.args.self.now c.args.its_file))) e (own_seen h) in
     let back : SeesFront c.self.inside.places c.args.file (take (c.loop-n.n - 1 + 1) (package_at c.self.inside.places c.args.its_file)) =

@@ -13,5 +13,7 @@ returns c =
     let keeps : KeepsFirst (items_of (child c.args.self.now.by c.args.scope c.args.name.now)) c.keep_first.new.all.items c.args.declared =
     subst (λ (q : List Declared). KeepsFirst q c.keep_first.new.all.items c.args.declared) (sym same) c.in_ok-keep_first.ensures in
     on_ok_weaker c.insert.result
-    (λ inserted. adds_first (child c.args.self.now.by) (child c.remove.new.self) (child c.insert.new.self) c.keep_first.new.all c.args.scope c.args.name.now c.args.declared keeps c.remove.ensures.others inserted)
+    (λ inserted. adds_first (child c.args.self.now.by) (child c.remove.new.self)
+    (child c.insert.new.self) c.keep_first.new.all c.args.scope c.args.name.now c.args.declared keeps
+    c.remove.ensures.others inserted)
     c.insert.ensures

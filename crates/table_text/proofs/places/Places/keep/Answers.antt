@@ -10,4 +10,6 @@ returns-clause-places c q =
     let entered = found_inserted q c.args.self.now.places.entries c.in_ok-from_slice.field-0 c.args.self.now.count in
     kept (place_in c.args.self.now q) _ (bytes_eq q c.args.name.now) c.args.self.now.count (place_in c.args.self.now c.args.name.now) absent
     (λ same. ap (place_in c.args.self.now) (same_bytes q c.args.name.now same))
-    (ap (found_in q) c.in_ok-insert.ensures.entries ∙ entered ∙ ap (λ (bs : List ℕ). cond (bytes_eq q bs) (Some c.args.self.now.count) (place_in c.args.self.now q)) c.in_ok-from_slice.ensures.items)
+    (ap (found_in q) c.in_ok-insert.ensures.entries ∙ entered
+    ∙ ap (λ (bs : List ℕ). cond (bytes_eq q bs) (Some c.args.self.now.count) (place_in c.args.self.now q))
+    c.in_ok-from_slice.ensures.items)

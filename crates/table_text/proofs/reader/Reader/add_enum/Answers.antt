@@ -6,5 +6,6 @@ use Rattle.table_text.proofs.reader.Reader.add_enum.Goals as goal
 
 pub returns-clause-kept : goal.returns-clause-kept
 returns-clause-kept c t h =
-    let added = subst (λ (n : List ℕ). Holds c.add.new.self (enum_names c.args.self.now.draft ++ n ∷ [])) c.as_slice.ensures (c.in_ok-add.ensures (enum_names c.args.self.now.draft) h.enum_names) in
+    let added = subst (λ (n : List ℕ). Holds c.add.new.self (enum_names c.args.self.now.draft ++ n ∷ []))
+    c.as_slice.ensures (c.in_ok-add.ensures (enum_names c.args.self.now.draft) h.enum_names) in
     rw c.new-3.ensures (kept_enum t c.args.self.now c.close.new.self c.args.name c.add.new.self c.new.result c.new-2.result c.in_ok-close.ensures h added c.new.ensures c.new-2.ensures)

@@ -10,8 +10,12 @@ use Rattle.table_text.proofs.reader.Reader.add_field.Goals as goal
 pub returns-clause-draft : goal.returns-clause-draft
 returns-clause-draft c t h =
     let d = c.args.self.now.draft in
-    let same = parts_made t d.open_part c.in-Message.field-0 c.args.line.number c.in-Some.number c.args.line c.field_of-field.result c.in_ok-oneof.oneof c.in-Message.is c.in-Some.is (c.field_of-field.ensures t h) (c.in_ok-oneof.ensures t h) in
-    on_ok_weaker c.add_field.result (λ (made : c.add_field.new.self ≡ with_parts c.args.self.now.draft.open_part c.field_of-field.result c.in_ok-oneof.oneof). ap (with_part c.args.self.now.draft) (made ∙ same)) c.add_field.ensures
+    let same = parts_made t d.open_part c.in-Message.field-0 c.args.line.number c.in-Some.number c.args.line
+    c.field_of-field.result c.in_ok-oneof.oneof c.in-Message.is c.in-Some.is (c.field_of-field.ensures t h)
+    (c.in_ok-oneof.ensures t h) in
+    on_ok_weaker c.add_field.result
+    (λ (made : c.add_field.new.self ≡ with_parts c.args.self.now.draft.open_part c.field_of-field.result
+    c.in_ok-oneof.oneof). ap (with_part c.args.self.now.draft) (made ∙ same)) c.add_field.ensures
 
 pub returns-clause-kept : goal.returns-clause-kept
 returns-clause-kept c t h =
@@ -20,4 +24,6 @@ returns-clause-kept c t h =
     let names = names_in (open_part (open_parts.Message c.in-Message.field-0)) in
     let added = subst (λ (n : List ℕ). Holds c.add.new.self (names ++ n ∷ [])) c.as_slice.ensures (c.in_ok-add.ensures names inner) in
     let placed = c.in_ok-add_oneof.ensures (oneofs_of (open_parts.Message c.in-Message.field-0)) (subst (λ (o : Open). Holds c.args.self.now.oneofs (oneofs_of o)) is h.oneofs) in
-    on_ok_weaker c.add_field.result (kept_field t c.args.self.now c.in-Message.field-0 c.field_of-field.result c.in_ok-oneof.oneof c.add_field.new.self c.add.new.self c.add_oneof.new.oneofs is h added placed) c.add_field.ensures
+    on_ok_weaker c.add_field.result
+    (kept_field t c.args.self.now c.in-Message.field-0 c.field_of-field.result c.in_ok-oneof.oneof
+    c.add_field.new.self c.add.new.self c.add_oneof.new.oneofs is h added placed) c.add_field.ensures

@@ -6,5 +6,8 @@ use Rattle.table_text.proofs.reader.Reader.add_message.Goals as goal
 
 pub returns-clause-kept : goal.returns-clause-kept
 returns-clause-kept c t h =
-    let added = subst (λ (n : List ℕ). Holds c.add.new.self (message_names c.args.self.now.draft ++ n ∷ [])) c.as_slice.ensures (c.in_ok-add.ensures (message_names c.args.self.now.draft) h.message_names) in
-    rw (c.new-3.ensures, c.new-4.ensures) (kept_message t c.args.self.now c.close.new.self c.args.name c.add.new.self c.new.result c.new-2.result c.in_ok-close.ensures h added c.new.ensures c.new-2.ensures)
+    let added = subst (λ (n : List ℕ). Holds c.add.new.self (message_names c.args.self.now.draft ++ n ∷ []))
+    c.as_slice.ensures (c.in_ok-add.ensures (message_names c.args.self.now.draft) h.message_names) in
+    rw (c.new-3.ensures, c.new-4.ensures)
+    (kept_message t c.args.self.now c.close.new.self c.args.name c.add.new.self c.new.result c.new-2.result
+    c.in_ok-close.ensures h added c.new.ensures c.new-2.ensures)

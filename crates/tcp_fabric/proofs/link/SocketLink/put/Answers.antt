@@ -16,7 +16,8 @@ invariant_of-self g c =
     (sent-whole (g.S.Socket.taken c.self.inside.wire.socket) now c.self.inside.handed.pieces c.args.frame.now was e.whole) in (
       sent-front now c.with-self-inside.result.pieces whole,
       λ _. whole,
-      came-waits (g.S.Socket.given c.self.inside.wire.socket) (g.S.Socket.given c.write_all.new.self.socket) (concat c.self.inside.given.pieces) c.self.inside.wire.ahead c.write_all.new.self.ahead inv.2 e.came,
+      came-waits (g.S.Socket.given c.self.inside.wire.socket) (g.S.Socket.given c.write_all.new.self.socket)
+          (concat c.self.inside.given.pieces) c.self.inside.wire.ahead c.write_all.new.self.ahead inv.2 e.came,
     )
 
 pub invariant_of-self-else-eq : goal.invariant_of-self-else-eq
@@ -28,5 +29,6 @@ invariant_of-self-else-eq g c =
     let same : old ≡ g.S.Socket.taken c.write_all.new.self.socket = sym (e.part.1 ∙ ap (λ n. append_known old (take n c.args.frame.now)) none ∙ append_known-nil old) in (
       subst (λ (sent : Option (List ℕ)). IfSome sent (λ bytes. IsPrefix (concat c.self.inside.handed.pieces) bytes)) same inv.0,
       λ whole. subst (λ (sent : Option (List ℕ)). IfSome sent (λ bytes. bytes ≡ concat c.self.inside.handed.pieces)) same (inv.1 whole),
-      came-waits (g.S.Socket.given c.self.inside.wire.socket) (g.S.Socket.given c.write_all.new.self.socket) (concat c.self.inside.given.pieces) c.self.inside.wire.ahead c.write_all.new.self.ahead inv.2 e.came,
+      came-waits (g.S.Socket.given c.self.inside.wire.socket) (g.S.Socket.given c.write_all.new.self.socket)
+          (concat c.self.inside.given.pieces) c.self.inside.wire.ahead c.write_all.new.self.ahead inv.2 e.came,
     )

@@ -14,6 +14,8 @@ returns-in-Bytes-clause-came g c =
     let after = put_mid b.end (b.end + 65536 - b.end) all got in (
       take n got,
       e.appended,
-      window-grown c.args.self.now b.room.items all got _ b.start b.end n (c.self.view_is ∙ c.make_room.ensures) c.deref_mut.ensures.value c.self.invariant.0 c.self.invariant.1 (omega (arith, e.count, c.read-came.auto.buf))
+      window-grown c.args.self.now b.room.items all got _ b.start b.end n (c.self.view_is ∙ c.make_room.ensures)
+          c.deref_mut.ensures.value c.self.invariant.0 c.self.invariant.1
+          (omega (arith, e.count, c.read-came.auto.buf))
           ∙ ap (λ items. drop b.start (take (b.end + n) items)) (sym (with_items_is b.room after (search (rules, places)))),
     )

@@ -17,7 +17,9 @@ loop-preserved-in-Took g c =
       tt,
       tt,
       omega (arith, e.count, length-drop done piece),
-      grew ∙ ap (λ known. append_known known (take count (drop done piece))) inv.3 ∙ append_known-more before (take done piece) (take count (drop done piece)) ∙ ap (append_known before) (sym (take-add done count piece)),
+      grew ∙ ap (λ known. append_known known (take count (drop done piece))) inv.3
+          ∙ append_known-more before (take done piece) (take count (drop done piece))
+          ∙ ap (append_known before) (sym (take-add done count piece)),
       (inv.4.0, e.same_given ∙ inv.4.1, inv.4.2),
       inv.5,
     )

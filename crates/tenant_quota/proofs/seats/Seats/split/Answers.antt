@@ -20,7 +20,8 @@ invariant_of-halves-in-Err c = rw c.split_each-split.ensures.split.given (halves
 pub take_in-requires : goal.take_in-requires
 take_in-requires c =
     let split = c.split_each-split.ensures.split in
-    subst (λ (x : List Drawing × List Drawing). AreOfQuotas x.0 x.1) (λ i. (sym split.kept i, sym split.given i)) (quotas_fit (length c.split_each-split.new.halves.items) c.self.inside.seats.items)
+    subst (λ (x : List Drawing × List Drawing). AreOfQuotas x.0 x.1) (λ i. (sym split.kept i, sym split.given i))
+    (quotas_fit (length c.split_each-split.new.halves.items) c.self.inside.seats.items)
 
 pub returns-in-Ok-clause-halves : goal.returns-in-Ok-clause-halves
 returns-in-Ok-clause-halves c = rw (← c.self.view_is) (c.split_each-split.ensures.split.given ∙ all_halves _ c.self.inside.seats.items c.in-Ok.ensures.all)

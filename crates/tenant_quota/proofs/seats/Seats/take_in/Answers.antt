@@ -45,7 +45,9 @@ loop-seat-preserved c =
     rw len (record {
       joined = one_joined last d new is.quota is.draws is.share seats rest left at ∙ first;
       left = rest_are_of last d new is.quota is.draws is.share seats rest left at;
-      windows = all_stay last d new is.quota is.draws is.share (λ seat. seat.quota.words ≡ WINDOWS) (λ words. ap (λ (q : QuotaId). q.words) is.quota ∙ words) seats (length rest) inside at c.loop-seat.invariant.windows;
+      windows = all_stay last d new is.quota is.draws is.share (λ seat. seat.quota.words ≡ WINDOWS)
+          (λ words. ap (λ (q : QuotaId). q.words) is.quota ∙ words) seats
+          (length rest) inside at c.loop-seat.invariant.windows;
     })
 
 pub returns : goal.returns

@@ -10,10 +10,12 @@ loop-place-preserved c =
     record {
       sized = length-set c.loop-place.bytes i (c.loop-place.rest % 128 + 128) ∙ was.sized;
       small = rest-small i c.loop-place.rest c.args.v was.small;
-      spelled = groups-written c.loop-place.bytes i _ c.loop-place.rest _ c.args.v c.loop-place-test.true (let s = was.sized in omega (arith, s, c.loop-place-test.true)) c.if-rest-lt128.false refl refl was.spelled;
+      spelled = groups-written c.loop-place.bytes i _ c.loop-place.rest _ c.args.v c.loop-place-test.true (let s =
+          was.sized in omega (arith, s, c.loop-place-test.true)) c.if-rest-lt128.false refl refl was.spelled;
     }
 
-written-short : (bytes : List ℕ) (i n v : ℕ) → i < 10 → length bytes ≡ 10 → n < 128 → take i bytes ++ groups (9 - i) n ≡ groups 9 v → take (i + 1) (set bytes i n) ≡ varint v
+written-short : (bytes : List ℕ) (i n v : ℕ) → i < 10 → length bytes ≡ 10 → n < 128
+    → take i bytes ++ groups (9 - i) n ≡ groups 9 v → take (i + 1) (set bytes i n) ≡ varint v
 unfolding varint
 written-short bytes i n v near long small was = groups-done bytes i n v near (omega (arith, near, long)) (groups-small (9 - i) n small) was
 

@@ -14,7 +14,9 @@ put_items-requires-clause-room g c =
 
 pub returns-clause-each : goal.returns-clause-each
 returns-clause-each g c =
-    let place = in_place g.T.Visited.since (view c.args.self.pass).firsts c.args.self.kept.items c.by_number.result.items c.requires.once c.by_number.ensures.same c.by_number.ensures.order c.requires.worker.ones in
+    let place = in_place g.T.Visited.since (view c.args.self.pass).firsts c.args.self.kept.items
+    c.by_number.result.items c.requires.once c.by_number.ensures.same c.by_number.ensures.order
+    c.requires.worker.ones in
     subst (λ items. AllZip (IsLater g.T.Visited.since) (view c.args.self.pass).firsts items) (sym c.put_items.ensures) place
 
 pub returns-clause-over : goal.returns-clause-over
