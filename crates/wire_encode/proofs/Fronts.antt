@@ -17,7 +17,8 @@ front_delimited body old middle new first second =
 
 module _ {X : Type 0} (f : X → List ℕ) where
   -- one part more
-  pub front_more : (xs : List X) (i : ℕ) (x : X) (old middle new : List ℕ) → i < length xs → x ≡ get_or xs i x → middle ≡ flat_map f (drop (i + 1) xs) ++ old → new ≡ f x ++ middle → new ≡ flat_map f (drop i xs) ++ old
+  pub front_more : (xs : List X) (i : ℕ) (x : X) (old middle new : List ℕ) → i < length xs → x ≡ get_or xs i x
+      → middle ≡ flat_map f (drop (i + 1) xs) ++ old → new ≡ f x ++ middle → new ≡ flat_map f (drop i xs) ++ old
   front_more xs i x old middle new within is first second =
       front_both (f x) (flat_map f (drop (i + 1) xs)) old middle new first second
       ∙ ap (λ y. (f y ++ flat_map f (drop (i + 1) xs)) ++ old) is

@@ -11,7 +11,7 @@ use Rattle.mrpc_table.specs.declared.table.Field.{Field}
 use Rattle.mrpc_table.specs.declared.table.Table.{Table}
 use Rattle.wire_base.specs.Encoding.{tag, delimited, item_bytes, joined_bytes, records_bytes, entries_bytes, content_bytes, fields_bytes}
 use Rattle.mrpc_table.specs.WireTypes.{wire_len, wire_type_of}
-use Rattle.wire_encode.specs.Written.{capped}
+use Rattle.mrpc_table.specs.Capped.{capped}
 
 -- what is written for a field, an element, a record of an element, an entry
 abbrev pub field_part : Table → List Field → ℕ × FieldValue → List ℕ
@@ -43,11 +43,15 @@ entries_bytes-parts T n key k [] = refl
 entries_bytes-parts T n key k (p ∷ ps) = ap (λ bs. entry_part T n key k p ++ bs) (entries_bytes-parts T n key k ps)
 
 -- the length of one part more
-pub capped-more : {X : Type 0} (f : X → List ℕ) (xs : List X) (i : ℕ) (d : X) (total : ℕ) → i < length xs → total ≡ capped (length (flat_map f (take i xs))) → min (total + capped (length (f (get_or xs i d)))) (2 ^ 64 - 1) ≡ capped (length (flat_map f (take (i + 1) xs)))
+pub capped-more : {X : Type 0} (f : X → List ℕ) (xs : List X) (i : ℕ) (d : X) (total : ℕ) → i < length xs
+    → total ≡ capped (length (flat_map f (take i xs)))
+    → min (total + capped (length (f (get_or xs i d)))) (2 ^ 64 - 1) ≡ capped (length (flat_map f (take (i + 1) xs)))
 capped-more f xs i d total within was =
-    let joined : flat_map f (take (i + 1) xs) ≡ flat_map f (take i xs) ++ (f (get_or xs i d) ++ []) = ap (flat_map f) (take_more xs i d within) ∙ flat_map-append f (take i xs) (get_or xs i d ∷ []) in
+    let joined : flat_map f (take (i + 1) xs) ≡ flat_map f (take i xs) ++ (f (get_or xs i d) ++ []) =
+    ap (flat_map f) (take_more xs i d within) ∙ flat_map-append f (take i xs) (get_or xs i d ∷ []) in
     omega (arith, was, ap length joined, length-append (flat_map f (take i xs)) (f (get_or xs i d) ++ []), length-append (f (get_or xs i d)) [])
 
 -- the length of all parts
-pub capped-all : {X : Type 0} (f : X → List ℕ) (xs : List X) (i : ℕ) (bytes : List ℕ) → length xs ≤ i → flat_map f xs ≡ bytes → capped (length (flat_map f (take i xs))) ≡ capped (length bytes)
+pub capped-all : {X : Type 0} (f : X → List ℕ) (xs : List X) (i : ℕ) (bytes : List ℕ) → length xs ≤ i
+    → flat_map f xs ≡ bytes → capped (length (flat_map f (take i xs))) ≡ capped (length bytes)
 capped-all f xs i bytes end is = ap (λ ys. capped (length (flat_map f ys))) (take_all i xs end) ∙ ap (λ bs. capped (length bs)) is

@@ -21,10 +21,14 @@ element_weight-at (x ∷ xs) (suc i) d h = let rest = element_weight-at xs i d (
 pub element_weight : (xs : List Value) (i : ℕ) (x : Value) → i < length xs → x ≡ get_or xs i x → item_weight (item_of x) ≤ items_weight (items_of xs)
 element_weight xs i x h is = let below = element_weight-at xs i x h in let same = ap (λ (y : Value). item_weight (item_of y)) is in omega (arith, below, same)
 
-entry_weight-at : (xs : List (Value × Value)) (i : ℕ) (d : Value × Value) → i < length xs → item_weight (item_of (get_or xs i d).0) + item_weight (item_of (get_or xs i d).1) ≤ pairs_weight (pairs_of xs)
+entry_weight-at : (xs : List (Value × Value)) (i : ℕ) (d : Value × Value) → i < length xs
+    → item_weight (item_of (get_or xs i d).0) + item_weight (item_of (get_or xs i d).1) ≤ pairs_weight (pairs_of xs)
 entry_weight-at [] i d h = absurd (omega (arith, h))
 entry_weight-at (x ∷ xs) zero d h = omega arith
 entry_weight-at (x ∷ xs) (suc i) d h = let rest = entry_weight-at xs i d (omega (arith, h)) in omega (arith, rest)
 
-pub entry_weight : (xs : List (Value × Value)) (i : ℕ) (x : Value × Value) → i < length xs → x ≡ get_or xs i x → item_weight (item_of x.0) + item_weight (item_of x.1) ≤ pairs_weight (pairs_of xs)
-entry_weight xs i x h is = let below = entry_weight-at xs i x h in let same = ap (λ (y : Value × Value). item_weight (item_of y.0) + item_weight (item_of y.1)) is in omega (arith, below, same)
+pub entry_weight : (xs : List (Value × Value)) (i : ℕ) (x : Value × Value) → i < length xs → x ≡ get_or xs i x
+    → item_weight (item_of x.0) + item_weight (item_of x.1) ≤ pairs_weight (pairs_of xs)
+entry_weight xs i x h is = let below = entry_weight-at xs i x h in
+    let same = ap (λ (y : Value × Value). item_weight (item_of y.0) + item_weight (item_of y.1)) is in
+    omega (arith, below, same)

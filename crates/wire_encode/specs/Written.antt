@@ -1,5 +1,5 @@
--- Bytes that are written from the end of a buffer to its front, and lengths that fit 64 bits.
-use Rattle.std.specs.Prelude.{◌≡◌, ℕ, ◌+◌, ◌-◌, ◌^◌, min, List, ◌++◌, length, drop}
+-- Bytes that are written from the end of a buffer to its front.
+use Rattle.std.specs.Prelude.{◌≡◌, ℕ, ◌+◌, List, ◌++◌, length, drop}
 use Rattle.mrpc_table.specs.Node.{Item}
 use Rattle.mrpc_table.specs.declared.table.Kind.{Kind}
 use Rattle.mrpc_table.specs.declared.table.Table.{Table}
@@ -18,7 +18,3 @@ record_bytes T n k i = tag n (wire_type_of k) ++ item_bytes T k i
 -- the record of one entry
 abbrev pub entry_bytes : Table → ℕ → Kind → Kind → Item → Item → List ℕ
 entry_bytes T n key k i j = tag n wire_len ++ delimited (record_bytes T 1 key i ++ record_bytes T 2 k j)
-
--- a length, or the largest number of 64 bits where it is larger
-abbrev pub capped : ℕ → ℕ
-capped n = min n (2 ^ 64 - 1)

@@ -13,7 +13,7 @@ ghost use Rattle.mrpc_table.specs.Valid.{IsValid};
 ghost use Rattle.mrpc_table.specs.Normal.{IsNormal};
 ghost use Rattle.wire_base.specs.Encoding.{encoding, fields_bytes};
 ghost use Rattle.mrpc_table.specs.Ascending.{AllAscend, FieldsAscend};
-ghost use Rattle.wire_encode.specs.Written.{capped};
+ghost use Rattle.mrpc_table.specs.Capped.{capped};
 
 mod look_up;
 mod output;
@@ -62,7 +62,7 @@ pub fn encoded_len(tree: &Tree, table: &Table, msg: u32) -> u64
     message_len(tree, table, table.fields(msg))
 }
 
-/// The encoding of any tree as a message with these fields.
+// The encoding of any tree as a message with these fields.
 fn encoded(alloc: Global, tree: &Tree, table: &Table, fields: &[Field]) -> Result<Bytes, Memory>
     requires all { AllAscend table.now }
     requires ascend { FieldsAscend fields.now }
@@ -73,7 +73,7 @@ fn encoded(alloc: Global, tree: &Tree, table: &Table, fields: &[Field]) -> Resul
     Ok(out.into_bytes())
 }
 
-/// The same, in place of what `out` has.
+// The same, in place of what `out` has.
 fn encoded_into(
     out: &mut Output,
     tree: &Tree,

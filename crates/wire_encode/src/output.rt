@@ -9,8 +9,8 @@ use std::alloc::Global;
 use std::marker::Model;
 use wire_base::{MAX_VARINT, fill_varint, varint_is_read_back, varint_len};
 
-/// How many bytes there is room for at first.
-const FIRST_ROOM: usize = 256;
+// How many bytes there is room for at first.
+const FIRST_ROOM: usize = 32;
 
 /// What was written so far. Each call writes its bytes in front of that, so that the length of a message is known when
 /// it is to be written. Where there is too little room it doubles, so that the time goes with the bytes.
@@ -99,7 +99,7 @@ impl Output {
         self.put_long_varint(v)
     }
 
-    /// The same, for any number.
+    // The same, for any number.
     #[inline(never)]
     fn put_long_varint(&mut self, v: u64) -> Result<(), Memory>
         ensures { OnOk result (self.new ≡ varint v ++ self.old) }
@@ -113,8 +113,8 @@ impl Output {
     }
 }
 
-/// Moves the bytes from `start` on to the end of a longer buffer, where they begin behind so many bytes at the least.
-/// The buffer doubles at the least.
+// Moves the bytes from `start` on to the end of a longer buffer, where they begin behind so many bytes at the least.
+// The buffer doubles at the least.
 #[inline(never)]
 fn make_room(
     alloc: Global,
@@ -139,7 +139,7 @@ fn make_room(
     Ok(())
 }
 
-/// Writes the varint of a number below 128, so that it ends before the place `end`, and says where it begins.
+// Writes the varint of a number below 128, so that it ends before the place `end`, and says where it begins.
 #[inline(always)]
 fn write_byte(out: &mut [u8], end: usize, v: u64) -> usize
     requires small { v < 128 }
@@ -151,7 +151,7 @@ fn write_byte(out: &mut [u8], end: usize, v: u64) -> usize
     end - 1
 }
 
-/// The same for the shortest varint of any number.
+// The same for the shortest varint of any number.
 fn write_varint(out: &mut [u8], end: usize, v: u64) -> usize
     requires room { length (varint v) ≤ end }
     requires within { end ≤ length out.old }
@@ -165,7 +165,7 @@ fn write_varint(out: &mut [u8], end: usize, v: u64) -> usize
     start
 }
 
-/// The same for bytes.
+// The same for bytes.
 fn put_before(out: &mut [u8], end: usize, bytes: &[u8]) -> usize
     requires room { length bytes.now ≤ end }
     requires within { end ≤ length out.old }

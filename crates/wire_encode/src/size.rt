@@ -4,7 +4,7 @@ ghost use Rattle.std.specs.Prelude.{◌≡◌, ℕ, ◌+◌, ◌<◌, length};
 ghost use Rattle.mrpc_table.specs.View.{item_of, items_of, pairs_of, content_of};
 ghost use Rattle.wire_base.specs.Encoding.{varint, tag, number_bytes, item_bytes, joined_bytes, records_bytes, entries_bytes, content_bytes, fields_bytes};
 ghost use Rattle.mrpc_table.specs.Ascending.{AllAscend, FieldsAscend};
-ghost use Rattle.wire_encode.specs.Written.{capped};
+ghost use Rattle.mrpc_table.specs.Capped.{capped};
 
 use crate::look_up::type_of;
 use mrpc_table::{Entries, Field, FieldValue, Kind, Label, Table, Tree, Value, Values};
@@ -24,7 +24,7 @@ pub fn message_len(tree: &Tree, table: &Table, fields: &[Field]) -> u64
     total
 }
 
-/// The length of what a field has.
+// The length of what a field has.
 #[cycle(size)]
 fn field_len(content: &FieldValue, table: &Table, fields: &[Field], number: u32) -> u64
     requires all { AllAscend table.now }
@@ -48,7 +48,7 @@ fn field_len(content: &FieldValue, table: &Table, fields: &[Field], number: u32)
     }
 }
 
-/// The length of the elements of a packed field.
+// The length of the elements of a packed field.
 #[cycle(size)]
 fn joined_len(values: &Values, table: &Table, kind: Kind) -> u64
     requires { AllAscend table.now }
@@ -61,7 +61,7 @@ fn joined_len(values: &Values, table: &Table, kind: Kind) -> u64
     total
 }
 
-/// The length of a record for each element.
+// The length of a record for each element.
 #[cycle(size)]
 fn records_len(values: &Values, table: &Table, number: u32, kind: Kind) -> u64
     requires { AllAscend table.now }
@@ -76,7 +76,7 @@ fn records_len(values: &Values, table: &Table, number: u32, kind: Kind) -> u64
     total
 }
 
-/// The length of a record for each entry.
+// The length of a record for each entry.
 #[cycle(size)]
 fn entries_len(entries: &Entries, table: &Table, number: u32, key: Kind, kind: Kind) -> u64
     requires { AllAscend table.now }
@@ -96,7 +96,7 @@ fn entries_len(entries: &Entries, table: &Table, number: u32, key: Kind, kind: K
     total
 }
 
-/// The length of a value without its tag.
+// The length of a value without its tag.
 #[cycle(size)]
 fn value_len(value: &Value, table: &Table, kind: Kind) -> u64
     requires { AllAscend table.now }
@@ -112,7 +112,7 @@ fn value_len(value: &Value, table: &Table, kind: Kind) -> u64
     }
 }
 
-/// The length of a number of the kind.
+// The length of a number of the kind.
 fn number_len(kind: Kind, n: u64) -> u64
     ensures { result ≡ capped (length (number_bytes kind n)) }
 {
@@ -132,7 +132,7 @@ fn number_len(kind: Kind, n: u64) -> u64
     }
 }
 
-/// The length of a tag.
+// The length of a tag.
 fn tag_len(number: u32, wire_type: u64) -> u64
     requires { wire_type < 8 }
     ensures { result ≡ capped (length (tag number wire_type)) }
@@ -140,7 +140,7 @@ fn tag_len(number: u32, wire_type: u64) -> u64
     varint_len(8 * u64::from(number) + wire_type) as u64
 }
 
-/// The length of `len` bytes behind their length.
+// The length of `len` bytes behind their length.
 fn delimited_len(len: u64) -> u64
     ensures { (n : ℕ) → len ≡ capped n → result ≡ capped (length (varint n) + n) }
 {

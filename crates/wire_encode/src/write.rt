@@ -36,7 +36,7 @@ pub fn write_message(
     Ok(())
 }
 
-/// Writes what a field of this kind and label has.
+// Writes what a field of this kind and label has.
 #[cycle(write)]
 #[inline(always)]
 fn write_field(
@@ -64,7 +64,7 @@ fn write_field(
     }
 }
 
-/// Writes the record of a packed field.
+// Writes the record of a packed field.
 #[cycle(write)]
 #[inline(never)]
 fn write_packed(
@@ -84,7 +84,7 @@ fn write_packed(
     write_tag(out, number, 2)
 }
 
-/// Writes the elements of a packed field.
+// Writes the elements of a packed field.
 #[cycle(write)]
 fn write_joined(out: &mut Output, values: &Values, table: &Table, kind: Kind) -> Result<(), Memory>
     requires { AllAscend table.now }
@@ -97,7 +97,7 @@ fn write_joined(out: &mut Output, values: &Values, table: &Table, kind: Kind) ->
     Ok(())
 }
 
-/// Writes a record for each element.
+// Writes a record for each element.
 #[cycle(write)]
 #[inline(never)]
 fn write_records(
@@ -117,7 +117,7 @@ fn write_records(
     Ok(())
 }
 
-/// Writes the record of a value.
+// Writes the record of a value.
 #[cycle(write)]
 #[inline(always)]
 fn write_record(
@@ -134,7 +134,7 @@ fn write_record(
     write_tag(out, number, kind.wire_type())
 }
 
-/// Writes a record for each entry.
+// Writes a record for each entry.
 #[cycle(write)]
 #[inline(never)]
 fn write_entries(
@@ -155,7 +155,7 @@ fn write_entries(
     Ok(())
 }
 
-/// Writes the record of an entry.
+// Writes the record of an entry.
 #[cycle(write)]
 fn write_entry(
     out: &mut Output,
@@ -176,7 +176,7 @@ fn write_entry(
     write_tag(out, number, 2)
 }
 
-/// Writes a value without its tag.
+// Writes a value without its tag.
 #[cycle(write)]
 #[inline(always)]
 fn write_value(out: &mut Output, value: &Value, table: &Table, kind: Kind) -> Result<(), Memory>
@@ -197,7 +197,7 @@ fn write_value(out: &mut Output, value: &Value, table: &Table, kind: Kind) -> Re
     }
 }
 
-/// Writes how many bytes were written since there were so many.
+// Writes how many bytes were written since there were so many.
 fn write_length(out: &mut Output, behind: usize) -> Result<(), Memory>
     requires { behind ≤ length out.old }
     ensures { OnOk result (out.new ≡ varint (length out.old - behind) ++ out.old) }
@@ -206,7 +206,7 @@ fn write_length(out: &mut Output, behind: usize) -> Result<(), Memory>
     out.put_varint(len as u64)
 }
 
-/// Writes a number of the kind.
+// Writes a number of the kind.
 #[inline(always)]
 fn write_number(out: &mut Output, kind: Kind, n: u64) -> Result<(), Memory>
     ensures { OnOk result (out.new ≡ number_bytes kind n ++ out.old) }
@@ -227,7 +227,7 @@ fn write_number(out: &mut Output, kind: Kind, n: u64) -> Result<(), Memory>
     }
 }
 
-/// Writes a tag.
+// Writes a tag.
 fn write_tag(out: &mut Output, number: u32, wire_type: u64) -> Result<(), Memory>
     requires { wire_type < 8 }
     ensures { OnOk result (out.new ≡ tag number wire_type ++ out.old) }

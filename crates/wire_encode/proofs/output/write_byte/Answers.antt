@@ -12,5 +12,7 @@ returns c =
     let one : varint c.args.v ≡ c.args.v ∷ [] = varint-small c.args.v c.requires.small in
     record {
       place = omega (arith, ap length one, c.requires.room);
-      written = drop-set old (end - 1) c.args.v (omega (arith, c.requires.room, c.requires.within)) ∙ ap (λ n. c.args.v ∷ drop n old) (let e : end - 1 + 1 ≡ end = omega (arith, c.requires.room) in e) ∙ ap (λ bs. bs ++ drop end old) (sym one);
+      written = drop-set old (end - 1) c.args.v (omega (arith, c.requires.room, c.requires.within))
+          ∙ ap (λ n. c.args.v ∷ drop n old) (let e : end - 1 + 1 ≡ end = omega (arith, c.requires.room) in e)
+          ∙ ap (λ bs. bs ++ drop end old) (sym one);
     }

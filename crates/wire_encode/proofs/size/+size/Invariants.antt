@@ -2,7 +2,7 @@ use Rattle.std.proofs.Common.{◌≡◌, ◌+◌, ◌*◌, length, take}
 use Rattle.mrpc_table.specs.View.{item_of, items_of, pairs_of, content_of}
 use Rattle.mrpc_table.specs.Weight.{weight, content_weight, item_weight, items_weight, pairs_weight}
 use Rattle.std.specs.List.{flat_map}
-use Rattle.wire_encode.specs.Written.{capped}
+use Rattle.mrpc_table.specs.Capped.{capped}
 use Rattle.wire_encode.proofs.Parts.{field_part, element_part, record_part, entry_part}
 use Rattle.wire_encode.proofs.size.+size.Given as goal
 

@@ -30,7 +30,8 @@ write_records-write_record-requires t c =
 pub write_records-returns : goal.write_records-returns
 write_records-returns t c =
     let xs = c.args.values.now.items in
-    front_all (record_part c.args.table.now c.args.number c.args.kind) xs c.loop-place.place _ _ _ (omega arith) (sym (records_bytes-parts c.args.table.now c.args.number c.args.kind xs)) c.loop-place.invariant
+    front_all (record_part c.args.table.now c.args.number c.args.kind) xs c.loop-place.place _ _ _ (omega arith)
+    (sym (records_bytes-parts c.args.table.now c.args.number c.args.kind xs)) c.loop-place.invariant
 
 pub write_entries-write_entry-requires : goal.write_entries-write_entry-requires
 write_entries-write_entry-requires t c =
@@ -43,7 +44,9 @@ write_entries-write_entry-requires t c =
 pub write_entries-returns : goal.write_entries-returns
 write_entries-returns t c =
     let xs = c.args.entries.now.items in
-    front_all (entry_part c.args.table.now c.args.number c.args.key c.args.kind) xs c.loop-place.place _ _ _ (omega arith) (sym (entries_bytes-parts c.args.table.now c.args.number c.args.key c.args.kind xs)) c.loop-place.invariant
+    front_all (entry_part c.args.table.now c.args.number c.args.key c.args.kind) xs c.loop-place.place _ _ _
+    (omega arith) (sym (entries_bytes-parts c.args.table.now c.args.number c.args.key c.args.kind xs))
+    c.loop-place.invariant
 
 pub write_message-write_field-requires : goal.write_message-write_field-requires
 write_message-write_field-requires t c =
@@ -59,4 +62,5 @@ write_message-returns t c =
     let xs = c.tree.inside.fields.items in
     let T = c.args.table.now in
     let fs = c.args.fields.now in
-    front_all (field_part T fs) xs c.loop-place.place (fields_bytes T fs c.args.tree.now) _ _ (omega arith) (sym (fields_bytes-parts T fs xs) ∙ ap (fields_bytes T fs) c.tree.view_is) c.loop-place.invariant
+    front_all (field_part T fs) xs c.loop-place.place (fields_bytes T fs c.args.tree.now) _ _ (omega arith)
+    (sym (fields_bytes-parts T fs xs) ∙ ap (fields_bytes T fs) c.tree.view_is) c.loop-place.invariant
