@@ -15,7 +15,9 @@ use Rattle.audit_text.specs.Lines.{Words, cause_words, step_words}
 use Rattle.audit_text.specs.Writable.{HasNameForm, IsCause, IsDeclared, IsStep}
 use Rattle.audit_text.specs.LineWords.{tail_words}
 use Rattle.audit_text.specs.Reading.{end_said, first_said, last_said, name_said, number_said}
-use Rattle.audit_text.specs.Said.{access_said, alone_said, attach_said, by_entry_said, cause_from, cause_said, detach_said, label_said, quota_said, rate_said, refused_said, step_from, step_said, upgrade_said}
+use Rattle.audit_text.specs.Said.{access_said, alone_said, attach_said, by_entry_said, cause_from, cause_said}
+use Rattle.audit_text.specs.Said.{detach_said, label_said, quota_said, rate_said, refused_said, step_from, step_said}
+use Rattle.audit_text.specs.Said.{upgrade_said}
 use Rattle.audit_text.specs.declared.what.Kind.TheVariants as kinds
 use Rattle.audit_text.proofs.KindLines.{IsTold, Tells, along}
 use Rattle.audit_text.proofs.WordsOfLines.{not-some}
@@ -49,9 +51,15 @@ access-is ws why e =
     let k = number-said (2 ^ 32) a.0.1 b.0 (omega arith) b.1 in
     let l = name-said b.0.1 c.0 c.1 in
     let P : Cause → Type 0 = λ x. SaysCause (codes "access" ∷ ws) x in
-    subst P (unsome (cause.Access a.0.0 b.0.0 c.0.0) why d.2) ((h.0, k.0, l.0), ap (λ r. codes "access" ∷ r) (h.1 ∙ ap (λ r. a.0.0 ∷ r) (k.1 ∙ ap (λ r. decimal b.0.0 ∷ r) (l.1 ∙ ap (λ r. c.0.0 ∷ r) (end-said c.0.1 d.0 d.1)))))
+    subst P (unsome (cause.Access a.0.0 b.0.0 c.0.0) why d.2) (
+      (h.0, k.0, l.0),
+      ap (λ r. codes "access" ∷ r)
+          (h.1 ∙ ap (λ r. a.0.0 ∷ r)
+          (k.1 ∙ ap (λ r. decimal b.0.0 ∷ r) (l.1 ∙ ap (λ r. c.0.0 ∷ r) (end-said c.0.1 d.0 d.1)))),
+    )
 
-by-entry-is : (ws : Words) (p : List ℕ × ℕ × ℕ) → by_entry_said ws ≡ Some p → HasNameForm p.0 × (p.1 < 2 ^ 64) × (p.2 < 2 ^ 64) × (ws ≡ p.0 ∷ decimal p.1 ∷ decimal p.2 ∷ [])
+by-entry-is : (ws : Words) (p : List ℕ × ℕ × ℕ) → by_entry_said ws ≡ Some p
+    → HasNameForm p.0 × (p.1 < 2 ^ 64) × (p.2 < 2 ^ 64) × (ws ≡ p.0 ∷ decimal p.1 ∷ decimal p.2 ∷ [])
 unfolding by_entry_said
 by-entry-is ws p e =
     let a = chained _ (name_said ws) p e in
@@ -65,7 +73,12 @@ by-entry-is ws p e =
 
 by-entry-read : (name : List ℕ) (m n : ℕ) → HasNameForm name → m < 2 ^ 64 → n < 2 ^ 64 → by_entry_said (name ∷ decimal m ∷ decimal n ∷ []) ≡ Some (name, m, n)
 unfolding by_entry_said
-by-entry-read name m n form h k = rw (name-read name (decimal m ∷ decimal n ∷ []) form, number-read (2 ^ 64) m (decimal n ∷ []) (omega arith) h, last-read (2 ^ 64) n (omega arith) k) refl
+by-entry-read name m n form h k =
+    rw (
+      name-read name (decimal m ∷ decimal n ∷ []) form,
+      number-read (2 ^ 64) m (decimal n ∷ []) (omega arith) h,
+      last-read (2 ^ 64) n (omega arith) k,
+    ) refl
 
 rate-is : (ws : Words) (why : Cause) → rate_said ws ≡ Some why → SaysCause (codes "rate" ∷ ws) why
 unfolding rate_said
@@ -119,7 +132,12 @@ cause-said ws why e =
 pub cause-read : (why : Cause) → IsCause why → cause_said (cause_words why) ≡ Some why
 unfolding cause_said access_said rate_said quota_said
 cause-read cause.Malformed h = refl
-cause-read (cause.Access name version rule) h = rw (name-read name (decimal version ∷ rule ∷ []) h.0, number-read (2 ^ 32) version (rule ∷ []) (omega arith) h.1, name-read rule [] h.2) refl
+cause-read (cause.Access name version rule) h =
+    rw (
+      name-read name (decimal version ∷ rule ∷ []) h.0,
+      number-read (2 ^ 32) version (rule ∷ []) (omega arith) h.1,
+      name-read rule [] h.2,
+    ) refl
 cause-read (cause.Rate name left cost) h = rw (by-entry-read name left cost h.0 h.1 h.2) refl
 cause-read (cause.Quota name ticket cap) h = rw (by-entry-read name ticket cap h.0 h.1 h.2) refl
 cause-read cause.Transport h = refl
@@ -171,7 +189,10 @@ attach-is declared ws step e =
     let k = name-said a.0.1 b.0 b.1 in
     let l = label-is declared b.0.1 c.0 c.1 in
     let P : Step → Type 0 = λ x. SaysStep declared (codes "attach" ∷ ws) x in
-    subst P (unsome (Attach a.0.0 b.0.0 c.0.0 c.0.1) step c.2) ((h.0, k.0, l.0), ap (λ r. codes "attach" ∷ r) (h.1 ∙ ap (λ r. decimal a.0.0 ∷ r) (k.1 ∙ ap (λ r. b.0.0 ∷ r) l.1)))
+    subst P (unsome (Attach a.0.0 b.0.0 c.0.0 c.0.1) step c.2) (
+      (h.0, k.0, l.0),
+      ap (λ r. codes "attach" ∷ r) (h.1 ∙ ap (λ r. decimal a.0.0 ∷ r) (k.1 ∙ ap (λ r. b.0.0 ∷ r) l.1)),
+    )
 
 detach-is : (declared : Declared) (ws : Words) (step : Step) → detach_said ws ≡ Some step → SaysStep declared (codes "detach" ∷ ws) step
 unfolding detach_said

@@ -54,7 +54,10 @@ head-said ws p e =
       addr = hd.0;
       after = hf.0;
       count = hg.0;
-      words = ha.1 ∙ ap (λ r. decimal a.0.0 ∷ r) (hb.1 ∙ ap (λ r. decimal b.0.0 ∷ r) (hc.1 ∙ ap (λ r. decimal c.0.0 ∷ r) (hd.1 ∙ ap (λ r. decimal d.0.0 ∷ r) (hf.1 ∙ ap (λ r. decimal f.0.0 ∷ r) hg.1))));
+      words = ha.1 ∙ ap (λ r. decimal a.0.0 ∷ r)
+          (hb.1 ∙ ap (λ r. decimal b.0.0 ∷ r)
+          (hc.1 ∙ ap (λ r. decimal c.0.0 ∷ r)
+          (hd.1 ∙ ap (λ r. decimal d.0.0 ∷ r) (hf.1 ∙ ap (λ r. decimal f.0.0 ∷ r) hg.1))));
     })
 
 pub head-read : (h : Head) (rest : Words) → h.seq < 2 ^ 32 → h.method < 2 ^ 16 → h.number < 2 ^ 32 → h.addr < 2 ^ 64 → h.after < 2 ^ 64 → h.count < 2 ^ 64
@@ -114,7 +117,8 @@ reason-is w r e =
       ]
     ]
 
-pub malformed-said : (T : Table) (call : Taken) (msg : ℕ) (ws : Words) (copy : TookCopy) → malformed_said ws ≡ Some copy → IsTaken T call copy × (codes "malformed" ∷ ws ≡ copy_words T msg copy)
+pub malformed-said : (T : Table) (call : Taken) (msg : ℕ) (ws : Words) (copy : TookCopy)
+    → malformed_said ws ≡ Some copy → IsTaken T call copy × (codes "malformed" ∷ ws ≡ copy_words T msg copy)
 unfolding malformed_said
 malformed-said T call msg ws copy e =
     let a = chained _ (first_said ws) copy e in
@@ -124,9 +128,14 @@ malformed-said T call msg ws copy e =
     let h = number-said (2 ^ 64) a.0.1 c.0 (omega arith) c.1 in
     let k = last-said (2 ^ 64) c.0.1 d.0 (omega arith) d.1 in
     let P : TookCopy → Type 0 = λ x. IsTaken T call x × (codes "malformed" ∷ ws ≡ copy_words T msg x) in
-    subst P (unsome (Malformed b.0 c.0.0 d.0) copy d.2) ((h.0, k.0), ap (λ r. codes "malformed" ∷ r) (first-said ws a.0 a.1 ∙ ap (λ w. w ∷ a.0.1) (reason-is a.0.0 b.0 b.1) ∙ ap (λ r. reason_word b.0 ∷ r) (h.1 ∙ ap (λ r. decimal c.0.0 ∷ r) k.1)))
+    subst P (unsome (Malformed b.0 c.0.0 d.0) copy d.2) (
+      (h.0, k.0),
+      ap (λ r. codes "malformed" ∷ r) (first-said ws a.0 a.1 ∙ ap (λ w. w ∷ a.0.1) (reason-is a.0.0 b.0 b.1)
+          ∙ ap (λ r. reason_word b.0 ∷ r) (h.1 ∙ ap (λ r. decimal c.0.0 ∷ r) k.1)),
+    )
 
-pub malformed-read : (reason : Reason) (place value : ℕ) → place < 2 ^ 64 → value < 2 ^ 64 → malformed_said (reason_word reason ∷ decimal place ∷ decimal value ∷ []) ≡ Some (Malformed reason place value)
+pub malformed-read : (reason : Reason) (place value : ℕ) → place < 2 ^ 64 → value < 2 ^ 64
+    → malformed_said (reason_word reason ∷ decimal place ∷ decimal value ∷ []) ≡ Some (Malformed reason place value)
 unfolding malformed_said
 malformed-read reason place value h k = rw (reason-read reason, number-read (2 ^ 64) place (decimal value ∷ []) (omega arith) h, last-read (2 ^ 64) value (omega arith) k) refl
 
@@ -142,13 +151,15 @@ abbrev first_of : Words → List ℕ
 first_of [] = []
 first_of (w ∷ ws) = w
 
-malformed-lost : (T : Table) (call : Taken) (msg : ℕ) (ws : Words) → malformed_said ws ≡ None → (x : TookCopy) → IsTaken T call x → codes "malformed" ∷ ws ≡ copy_words T msg x → ⊥
+malformed-lost : (T : Table) (call : Taken) (msg : ℕ) (ws : Words) → malformed_said ws ≡ None → (x : TookCopy)
+    → IsTaken T call x → codes "malformed" ∷ ws ≡ copy_words T msg x → ⊥
 malformed-lost T call msg ws none (Copy tree) h e = omega (arith, ap (λ (l : Words). get_or (first_of l) 0 0) e)
 malformed-lost T call msg ws none (Malformed reason place value) h e =
     let same = first-same (codes "malformed") (codes "malformed") ws (reason_word reason ∷ decimal place ∷ decimal value ∷ []) e in
     not-some (Malformed reason place value) (sym (malformed-read reason place value h.0 h.1) ∙ ap malformed_said (sym same.1) ∙ none)
 
-pub malformed-reads : (T : Table) (call : Taken) (msg : ℕ) (all ws : Words) (found : Option TookCopy) → all ≡ codes "malformed" ∷ ws → found ≡ malformed_said ws → ReadsCopy T call msg all (Ok found)
+pub malformed-reads : (T : Table) (call : Taken) (msg : ℕ) (all ws : Words) (found : Option TookCopy)
+    → all ≡ codes "malformed" ∷ ws → found ≡ malformed_said ws → ReadsCopy T call msg all (Ok found)
 malformed-reads T call msg all ws None is h = λ x holds e. malformed-lost T call msg ws (sym h) x holds (sym is ∙ e)
 malformed-reads T call msg all ws (Some copy) is h = let said = malformed-said T call msg ws copy (sym h) in (said.0, is ∙ said.1)
 
@@ -167,7 +178,9 @@ no-head T ws none x h e = not-some (head_of x, copy_words T (message_at T x.meth
 abbrev pub ReadsFor : Table → Head → Words → Result (Option TookCopy) Memory → Type 0
 ReadsFor T h rest r = (call : Taken) → call.method ≡ h.method → call.number ≡ h.number → Reads (IsTaken T call) (copy_words T (message_at T h.method h.number)) rest r
 
-pub no-copy : (T : Table) (ws rest : Words) (h : Head) (r : Result (Option TookCopy) Memory) → head_said ws ≡ Some (h, rest) → ReadsFor T h rest r → r ≡ Ok None → (x : Taken) → IsAcceptance T x → ws ≡ taken_words T x → ⊥
+pub no-copy : (T : Table) (ws rest : Words) (h : Head) (r : Result (Option TookCopy) Memory)
+    → head_said ws ≡ Some (h, rest) → ReadsFor T h rest r → r ≡ Ok None → (x : Taken) → IsAcceptance T x
+    → ws ≡ taken_words T x → ⊥
 no-copy T ws rest h r head reads is x holds e =
     let both : Some (h, rest) ≡ Some (head_of x, copy_words T (message_at T x.method x.number) x.copy) = sym head ∙ ap head_said e ∙ head-told x T holds in
     let same = some-pair h (head_of x) rest (copy_words T (message_at T x.method x.number) x.copy) both in
@@ -177,8 +190,17 @@ no-copy T ws rest h r head reads is x holds e =
     let none : (copy : TookCopy) → IsTaken T x copy → rest ≡ copy_words T (message_at T h.method h.number) copy → ⊥ = subst P is (reads x method number) in
     none x.copy holds.copy (same.1 ∙ ap (λ k. copy_words T (message_at T k.method k.number) x.copy) (sym same.0))
 
-pub some-copy : (T : Table) (ws rest : Words) (h : Head) (copy : TookCopy) (r : Result (Option TookCopy) Memory) → head_said ws ≡ Some (h, rest) → ReadsFor T h rest r → r ≡ Ok (Some copy)
-    → (let call : Taken = record { seq = h.seq; method = h.method; number = h.number; addr = h.addr; after = h.after; count = h.count; copy = copy } in IsAcceptance T call × (ws ≡ taken_words T call))
+pub some-copy : (T : Table) (ws rest : Words) (h : Head) (copy : TookCopy) (r : Result (Option TookCopy) Memory)
+    → head_said ws ≡ Some (h, rest) → ReadsFor T h rest r → r ≡ Ok (Some copy)
+    → (let call : Taken = record {
+      seq = h.seq;
+      method = h.method;
+      number = h.number;
+      addr = h.addr;
+      after = h.after;
+      count = h.count;
+      copy = copy;
+    } in IsAcceptance T call × (ws ≡ taken_words T call))
 some-copy T ws rest h copy r head reads is =
     let call : Taken = record { seq = h.seq; method = h.method; number = h.number; addr = h.addr; after = h.after; count = h.count; copy = copy } in
     let parts = head-said ws (h, rest) head in

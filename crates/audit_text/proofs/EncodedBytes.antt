@@ -1,5 +1,7 @@
 -- The encoding of a normal tree has bytes alone.
-use Rattle.std.proofs.Common.{◌≡◌, ℕ, zero, suc, ◌+◌, ◌*◌, ◌/◌, ◌%◌, ◌^◌, ◌<◌, ◌≤◌, List, [], ◌∷◌, ◌++◌, length, All, Some, Bool, true, false, cond, ◌&&◌, refl, ap, sym, subst, ◌∙◌, arith, inl, inr, slice_get, option_map, unwrap_or, length-append, nat_lt}
+use Rattle.std.proofs.Common.{◌≡◌, ℕ, zero, suc, ◌+◌, ◌*◌, ◌/◌, ◌%◌, ◌^◌, ◌<◌, ◌≤◌, List, [], ◌∷◌, ◌++◌, length, All}
+use Rattle.std.proofs.Common.{Some, Bool, true, false, cond, ◌&&◌, refl, ap, sym, subst, ◌∙◌, arith, inl, inr}
+use Rattle.std.proofs.Common.{slice_get, option_map, unwrap_or, length-append, nat_lt}
 use Rattle.std.specs.Int.{bytes_low_first}
 use Rattle.std.specs.Str.{encode_utf8_all, all_scalars as scalars}
 use Rattle.std.proofs.Math.Utf8.{scalar, scalar_cases}
@@ -12,12 +14,17 @@ use Rattle.mrpc_table.specs.Valid.{IsValid, IsMessage, IsField}
 use Rattle.mrpc_table.specs.WireTypes.{wire_len, wire_type_of}
 use Rattle.mrpc_table.specs.Words.{IsWordForm, IsSigned32, key_kind, message_of}
 use Rattle.mrpc_table.specs.declared.table.Kind.{Kind}
-use Rattle.mrpc_table.specs.declared.table.Kind.TheVariants.{Int32, Int64, Uint32, Uint64, Sint32, Sint64, Bool as TheBool, Fixed32, Fixed64, Sfixed32, Sfixed64, Float, Double, Text, Octets, Message as OfMessage, Choice}
+use Rattle.mrpc_table.specs.declared.table.Kind.TheVariants.{Int32, Int64, Uint32, Uint64, Sint32, Sint64}
+use Rattle.mrpc_table.specs.declared.table.Kind.TheVariants.{Bool as TheBool, Fixed32, Fixed64, Sfixed32, Sfixed64}
+use Rattle.mrpc_table.specs.declared.table.Kind.TheVariants.{Float, Double, Text, Octets, Message as OfMessage}
+use Rattle.mrpc_table.specs.declared.table.Kind.TheVariants.{Choice}
 use Rattle.mrpc_table.specs.declared.table.Label.TheVariants.{Plain}
 use Rattle.mrpc_table.specs.declared.table.Field.{Field}
 use Rattle.mrpc_table.specs.declared.table.Message.{Message}
 use Rattle.mrpc_table.specs.declared.table.Table.{Table}
-use Rattle.wire_base.specs.Encoding.{encoding, groups, varint, tag, delimited, zigzag_of, number_bytes, label_at, is_packed, fields_bytes, content_bytes, item_bytes, joined_bytes, records_bytes, entries_bytes}
+use Rattle.wire_base.specs.Encoding.{encoding, groups, varint, tag, delimited, zigzag_of, number_bytes, label_at}
+use Rattle.wire_base.specs.Encoding.{is_packed, fields_bytes, content_bytes, item_bytes, joined_bytes, records_bytes}
+use Rattle.wire_base.specs.Encoding.{entries_bytes}
 use Rattle.audit_text.proofs.Bytes.{AreBytes, bytes-append, bytes-all}
 
 -- ---- varints
@@ -106,7 +113,8 @@ small-fields T valid i = small-at T T.messages i valid.messages
 abbrev chosen : Bool → Bool → Bool → List ℕ → List ℕ → List ℕ → List ℕ → List ℕ
 chosen x y z a b c d = cond x a (cond y b (cond z c d))
 
-chosen-bytes : (x y z : Bool) (a b c d : List ℕ) → (x ≡ true → AreBytes a) → (y ≡ true → AreBytes b) → (z ≡ true → AreBytes c) → AreBytes d → AreBytes (chosen x y z a b c d)
+chosen-bytes : (x y z : Bool) (a b c d : List ℕ) → (x ≡ true → AreBytes a) → (y ≡ true → AreBytes b)
+    → (z ≡ true → AreBytes c) → AreBytes d → AreBytes (chosen x y z a b c d)
 chosen-bytes true y z a b c d f g h k = f refl
 chosen-bytes false true z a b c d f g h k = g refl
 chosen-bytes false false true a b c d f g h k = h refl
@@ -184,14 +192,17 @@ few-inside : (bytes : List ℕ) → length (delimited bytes) < 2 ^ 64 → length
 few-inside bytes few = few-right (varint (length bytes)) bytes few
 
 mutual
-  fields-bytes : (T : Table) → ((i : ℕ) → AreSmall (fields_of T i)) → (fs : List Field) (last : ℕ) (t : Node) → AreSmall fs → HasFields T fs last t → length (fields_bytes T fs t) < 2 ^ 64 → AreBytes (fields_bytes T fs t)
+  fields-bytes : (T : Table) → ((i : ℕ) → AreSmall (fields_of T i)) → (fs : List Field) (last : ℕ) (t : Node)
+      → AreSmall fs → HasFields T fs last t → length (fields_bytes T fs t) < 2 ^ 64 → AreBytes (fields_bytes T fs t)
   fields-bytes T all fs last no_fields small h few = tt
   fields-bytes T all fs last (field n c t) small h few =
       bytes-append (content_bytes T fs n c) (fields_bytes T fs t)
       (content-bytes T all fs n c small h.1 (few-left (content_bytes T fs n c) (fields_bytes T fs t) few))
       (fields-bytes T all fs n t small h.2 (few-right (content_bytes T fs n c) (fields_bytes T fs t) few))
 
-  content-bytes : (T : Table) → ((i : ℕ) → AreSmall (fields_of T i)) → (fs : List Field) (n : ℕ) (c : Content) → AreSmall fs → HasContent T fs n c → length (content_bytes T fs n c) < 2 ^ 64 → AreBytes (content_bytes T fs n c)
+  content-bytes : (T : Table) → ((i : ℕ) → AreSmall (fields_of T i)) → (fs : List Field) (n : ℕ) (c : Content)
+      → AreSmall fs → HasContent T fs n c → length (content_bytes T fs n c) < 2 ^ 64
+      → AreBytes (content_bytes T fs n c)
   content-bytes T all fs n (one i) small h few =
       let k = kind_at fs n in
       let is : IsItem T k i = subst (λ k. IsItem T k i) (sym (kind-found fs n h.0 h.1)) h.3 in
@@ -202,11 +213,14 @@ mutual
       let k = kind_at fs n in
       let are : AreItems T k is = subst (λ k. AreItems T k is) (sym (kind-found fs n h.0 h.1)) h.4 in
       let low = small.each n h.0 h.1 in
-      elim (is_packed (label_at fs n)) as (λ (b : Bool). length (cond b (tag n wire_len ++ delimited (joined_bytes T k is)) (records_bytes T n k is)) < 2 ^ 64 → AreBytes (cond b (tag n wire_len ++ delimited (joined_bytes T k is)) (records_bytes T n k is))) [
+      elim (is_packed (label_at fs n)) as
+      (λ (b : Bool). length (cond b (tag n wire_len ++ delimited (joined_bytes T k is)) (records_bytes T n k is))
+      < 2 ^ 64 → AreBytes (cond b (tag n wire_len ++ delimited (joined_bytes T k is)) (records_bytes T n k is))) [
         | true ↦ λ few.
             let within = few-right (tag n wire_len) (delimited (joined_bytes T k is)) few in
             let inside = few-inside (joined_bytes T k is) within in
-            bytes-append (tag n wire_len) (delimited (joined_bytes T k is)) (tag-bytes n wire_len low (omega arith)) (delimited-bytes (joined_bytes T k is) inside (joined-bytes T all k is are inside))
+            bytes-append (tag n wire_len) (delimited (joined_bytes T k is)) (tag-bytes n wire_len low (omega arith))
+            (delimited-bytes (joined_bytes T k is) inside (joined-bytes T all k is are inside))
         | false ↦ λ few. records-bytes T all n k is low are few
       ] few
   content-bytes T all fs n (pairs ps) small h few =
@@ -226,23 +240,28 @@ mutual
       let has : HasFields T fs 0 t = subst (λ i. HasFields T (fields_of T i) 0 t) (sym same) h.2 in
       delimited-bytes (fields_bytes T fs t) inside (fields-bytes T all fs 0 t (all (message_of k)) has inside)
 
-  joined-bytes : (T : Table) → ((i : ℕ) → AreSmall (fields_of T i)) → (k : Kind) (is : Items) → AreItems T k is → length (joined_bytes T k is) < 2 ^ 64 → AreBytes (joined_bytes T k is)
+  joined-bytes : (T : Table) → ((i : ℕ) → AreSmall (fields_of T i)) → (k : Kind) (is : Items) → AreItems T k is
+      → length (joined_bytes T k is) < 2 ^ 64 → AreBytes (joined_bytes T k is)
   joined-bytes T all k no_items h few = tt
   joined-bytes T all k (item i is) h few =
       bytes-append (item_bytes T k i) (joined_bytes T k is)
       (item-bytes T all k i h.0 (few-left (item_bytes T k i) (joined_bytes T k is) few))
       (joined-bytes T all k is h.1 (few-right (item_bytes T k i) (joined_bytes T k is) few))
 
-  records-bytes : (T : Table) → ((i : ℕ) → AreSmall (fields_of T i)) → (n : ℕ) (k : Kind) (is : Items) → n < 2 ^ 29 → AreItems T k is → length (records_bytes T n k is) < 2 ^ 64 → AreBytes (records_bytes T n k is)
+  records-bytes : (T : Table) → ((i : ℕ) → AreSmall (fields_of T i)) → (n : ℕ) (k : Kind) (is : Items) → n < 2 ^ 29
+      → AreItems T k is → length (records_bytes T n k is) < 2 ^ 64 → AreBytes (records_bytes T n k is)
   records-bytes T all n k no_items low h few = tt
   records-bytes T all n k (item i is) low h few =
       let front = tag n (wire_type_of k) ++ item_bytes T k i in
       let first = few-left front (records_bytes T n k is) few in
       bytes-append front (records_bytes T n k is)
-      (bytes-append (tag n (wire_type_of k)) (item_bytes T k i) (tag-bytes n (wire_type_of k) low (type-small k)) (item-bytes T all k i h.0 (few-right (tag n (wire_type_of k)) (item_bytes T k i) first)))
+      (bytes-append (tag n (wire_type_of k)) (item_bytes T k i) (tag-bytes n (wire_type_of k) low (type-small k))
+      (item-bytes T all k i h.0 (few-right (tag n (wire_type_of k)) (item_bytes T k i) first)))
       (records-bytes T all n k is low h.1 (few-right front (records_bytes T n k is) few))
 
-  entries-bytes : (T : Table) → ((i : ℕ) → AreSmall (fields_of T i)) → (n : ℕ) (key k : Kind) (ps : Pairs) → n < 2 ^ 29 → ArePairs T key k ps → length (entries_bytes T n key k ps) < 2 ^ 64 → AreBytes (entries_bytes T n key k ps)
+  entries-bytes : (T : Table) → ((i : ℕ) → AreSmall (fields_of T i)) → (n : ℕ) (key k : Kind) (ps : Pairs)
+      → n < 2 ^ 29 → ArePairs T key k ps → length (entries_bytes T n key k ps) < 2 ^ 64
+      → AreBytes (entries_bytes T n key k ps)
   entries-bytes T all n key k no_pairs low h few = tt
   entries-bytes T all n key k (pair i j ps) low h few =
       let left = tag 1 (wire_type_of key) ++ item_bytes T key i in

@@ -1,5 +1,7 @@
 -- Texts line by line.
-use Rattle.std.proofs.Common.{◌≡◌, ◌≢◌, ℕ, suc, ◌+◌, ◌<◌, ◌==◌, false, List, [], ◌∷◌, ◌++◌, length, take, drop, refl, ap, sym, ◌∙◌, arith, All, Some, None, Option, subst, append_assoc, append-nil, length-append}
+use Rattle.std.proofs.Common.{◌≡◌, ◌≢◌, ℕ, suc, ◌+◌, ◌<◌, ◌==◌, false, List, [], ◌∷◌, ◌++◌, length, take, drop, refl}
+use Rattle.std.proofs.Common.{ap, sym, ◌∙◌, arith, All, Some, None, Option, subst, append_assoc, append-nil}
+use Rattle.std.proofs.Common.{length-append}
 use Rattle.std.specs.Prelude.{IfSome}
 use Rattle.std.specs.List.{slice_split}
 use Rattle.std.proofs.lemmas.Bool.{ne_eqb}
@@ -42,7 +44,9 @@ drop-front (c ∷ front) behind = let e : length (c ∷ front) + 1 ≡ suc (leng
 first-same : {X : Type 0} (x y : X) (xs ys : List X) → x ∷ xs ≡ y ∷ ys → (x ≡ y) × (xs ≡ ys)
 first-same x y xs ys e = (cc, cc)
 
-pub cut-end : (text front behind line : List ℕ) (lines : List (List ℕ)) → slice_split (λ c. c == 10) text ≡ line ∷ lines → text ≡ front ++ 10 ∷ behind → All (λ c. c ≢ 10) front → length line + 1 ≡ length front + 1
+pub cut-end : (text front behind line : List ℕ) (lines : List (List ℕ))
+    → slice_split (λ c. c == 10) text ≡ line ∷ lines → text ≡ front ++ 10 ∷ behind → All (λ c. c ≢ 10) front
+    → length line + 1 ≡ length front + 1
 cut-end text front behind line lines cut is none =
     let same = first-same line front lines (slice_split (λ c. c == 10) behind) (sym cut ∙ ap (slice_split (λ c. c == 10)) is ∙ feed-cut front behind none) in
     ap (λ l. length l + 1) same.0
@@ -61,16 +65,21 @@ line-some : (T : Table) (x : Happened) (rest : List ℕ) → audit_line T x ++ r
 line-some T x rest e = omega (arith, ap length e, length-append (audit_line T x) rest, line-long T x)
 
 -- a text that breaks off behind some happenings isn't that of a history
-pub no-history : OneHappening → (T : Table) → IsValid T → (declared : Declared) (before h : History) (rest : List ℕ) → All (IsWritable T declared) before → All (IsWritable T declared) h → rest ≢ [] → HasNoLine T declared rest → audit T before ++ rest ≢ audit T h
+pub no-history : OneHappening → (T : Table) → IsValid T → (declared : Declared) (before h : History) (rest : List ℕ)
+    → All (IsWritable T declared) before → All (IsWritable T declared) h → rest ≢ [] → HasNoLine T declared rest
+    → audit T before ++ rest ≢ audit T h
 no-history one T valid declared [] [] rest told all some none e = some e
 no-history one T valid declared [] (x ∷ h) rest told all some none e = none x (audit T h) (All-head (IsWritable T declared) x h all) e
 no-history one T valid declared (b ∷ before) [] rest told all some none e = line-some T b (audit T before ++ rest) (sym (append_assoc (audit_line T b) (audit T before) rest) ∙ e)
 no-history one T valid declared (b ∷ before) (x ∷ h) rest told all some none e =
-    let same = one T declared b x (audit T before ++ rest) (audit T h) valid (All-head (IsWritable T declared) b before told) (All-head (IsWritable T declared) x h all) (sym (append_assoc (audit_line T b) (audit T before) rest) ∙ e) in
+    let same = one T declared b x (audit T before ++ rest) (audit T h) valid
+    (All-head (IsWritable T declared) b before told) (All-head (IsWritable T declared) x h all)
+    (sym (append_assoc (audit_line T b) (audit T before) rest) ∙ e) in
     no-history one T valid declared before h rest (All-tail (IsWritable T declared) b before told) (All-tail (IsWritable T declared) x h all) some none same.1
 
 -- one more happening
-pub audit-more : (T : Table) (h : History) (x : Happened) (text rest behind : List ℕ) → text ≡ audit T h ++ rest → rest ≡ audit_line T x ++ behind → text ≡ audit T (h ++ x ∷ []) ++ behind
+pub audit-more : (T : Table) (h : History) (x : Happened) (text rest behind : List ℕ) → text ≡ audit T h ++ rest
+    → rest ≡ audit_line T x ++ behind → text ≡ audit T (h ++ x ∷ []) ++ behind
 audit-more T h x text rest behind is front =
     is ∙ ap (λ l. audit T h ++ l) front ∙ sym (append_assoc (audit T h) (audit_line T x) behind)
     ∙ ap (λ l. l ++ behind) (ap (λ l. audit T h ++ l) (sym (append-nil (audit_line T x))) ∙ sym (flat_map-append (audit_line T) h (x ∷ [])))
@@ -85,7 +94,9 @@ front-none cut T valid declared text line ends r only none x behind holds e =
     let first : line ≡ audit_line T x = ends (spaced words) behind (e ∙ append_assoc (spaced words) (10 ∷ []) behind) (cut T declared x valid holds).one_line in
     not-some x (sym (ap happening_in (only (lines.Happened x) holds first)) ∙ none)
 
-pub front-some : (T : Table) (declared : Declared) (line : List ℕ) (r : Option AuditLine) (x : Happened) → IfSome r (λ y. line ≡ bytes_of T y) → IfSome r (λ y. IsLine T declared y) → happening_in r ≡ Some x → (line ≡ audit_line T x) × IsWritable T declared x
+pub front-some : (T : Table) (declared : Declared) (line : List ℕ) (r : Option AuditLine) (x : Happened)
+    → IfSome r (λ y. line ≡ bytes_of T y) → IfSome r (λ y. IsLine T declared y) → happening_in r ≡ Some x
+    → (line ≡ audit_line T x) × IsWritable T declared x
 front-some T declared line None x told holds e = absurd cc
 front-some T declared line (Some (lines.Happened y)) x told holds e =
     let same : y ≡ x = cc in let P : Happened → Type 0 = λ z. (line ≡ audit_line T z) × IsWritable T declared z in subst P same (told, holds)

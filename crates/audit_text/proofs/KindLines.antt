@@ -39,7 +39,11 @@ away-said T declared ws x e =
 pub away-read : (T : Table) (declared : Declared) (x : Happening) → IsTold T declared kinds.Away x → away_said (tail_words T x) ≡ Some x
 unfolding away_said
 away-read T declared (Away method number addr) h =
-    rw (number-read (2 ^ 16) method (decimal number ∷ decimal addr ∷ []) (omega arith) h.0.0, number-read (2 ^ 32) number (decimal addr ∷ []) (omega arith) h.0.1, last-read (2 ^ 64) addr (omega arith) h.0.2) refl
+    rw (
+      number-read (2 ^ 16) method (decimal number ∷ decimal addr ∷ []) (omega arith) h.0.0,
+      number-read (2 ^ 32) number (decimal addr ∷ []) (omega arith) h.0.1,
+      last-read (2 ^ 64) addr (omega arith) h.0.2,
+    ) refl
 away-read T declared _ h = absurd (let wrong = h.1 in cc)
 
 pub moment-said : (T : Table) (declared : Declared) (ws : Words) (x : Happening) → moment_said ws ≡ Some x → Tells T declared kinds.Moment ws x
@@ -114,7 +118,11 @@ drawn-said T declared ws x e =
 pub drawn-read : (T : Table) (declared : Declared) (x : Happening) → IsTold T declared kinds.Drawn x → drawn_said (tail_words T x) ≡ Some x
 unfolding drawn_said
 drawn-read T declared (Drawn seq name window ticket) h =
-    rw (noted-read seq name (decimal window ∷ decimal ticket ∷ []) h.0.0 h.0.1, number-read (2 ^ 64) window (decimal ticket ∷ []) (omega arith) h.0.2, last-read (2 ^ 64) ticket (omega arith) h.0.3) refl
+    rw (
+      noted-read seq name (decimal window ∷ decimal ticket ∷ []) h.0.0 h.0.1,
+      number-read (2 ^ 64) window (decimal ticket ∷ []) (omega arith) h.0.2,
+      last-read (2 ^ 64) ticket (omega arith) h.0.3,
+    ) refl
 drawn-read T declared _ h = absurd (let wrong = h.1 in cc)
 
 pub counted-said : (T : Table) (declared : Declared) (ws : Words) (x : Happening) → counted_said ws ≡ Some x → Tells T declared kinds.Counted ws x

@@ -23,6 +23,8 @@ found-at : {X : Type 0} (p : X → Bool) (xs : List X) → option_and_then (slic
 found-at p xs = by_test (nat_lt (position_or_len p xs) (length xs)) (position_or_len p xs) xs (past_all (position_or_len p xs) (length xs)) ∙ sym (find_at p xs)
 
 -- the policy under a label is that at the place of its name
-pub under-place : (label : List ℕ) (d : Declared) (place : Option ℕ) (there : Option NamedPolicy) → policy_place d label ≡ place → option_and_then (slice_get d.policies) place ≡ there → policy_under label d ≡ option_map (λ p. p.policy) there
+pub under-place : (label : List ℕ) (d : Declared) (place : Option ℕ) (there : Option NamedPolicy)
+    → policy_place d label ≡ place → option_and_then (slice_get d.policies) place ≡ there
+    → policy_under label d ≡ option_map (λ p. p.policy) there
 under-place label d place there is at =
     ap (option_map (λ p. p.policy)) (sym (found-at (λ p. bytes_eq p.name label) d.policies) ∙ ap (option_and_then (slice_get d.policies)) is ∙ at)

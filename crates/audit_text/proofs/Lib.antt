@@ -19,3 +19,4 @@ mod Texts
 mod WholeLines
 mod Words
 mod WordsOfLines
+mod Written

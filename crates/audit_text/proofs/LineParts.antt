@@ -96,7 +96,8 @@ stands-kind : kind_said (codes "stands") ≡ None
 stands-kind = refl
 
 -- another kind for the same
-pub reads-kind : (T : Table) (declared : Declared) (k l : Kind) (ws : Words) (r : Result (Option Happening) Memory) → l ≡ k → Reads (IsTold T declared k) (tail_words T) ws r → Reads (IsTold T declared l) (tail_words T) ws r
+pub reads-kind : (T : Table) (declared : Declared) (k l : Kind) (ws : Words) (r : Result (Option Happening) Memory)
+    → l ≡ k → Reads (IsTold T declared k) (tail_words T) ws r → Reads (IsTold T declared l) (tail_words T) ws r
 reads-kind T declared k l ws r e h = let P : Kind → Type 0 = λ k. Reads (IsTold T declared k) (tail_words T) ws r in subst P (sym e) h
 
 -- ---- lines
@@ -111,14 +112,17 @@ some-parts T declared (lines.Happened x) h = (kind_word (kind_of x.what), x.conn
 some-parts T declared (lines.Stands conn seq position name holding) h =
     (codes "stands", conn, decimal seq ∷ decimal position ∷ name ∷ held_words holding, record { words = refl; small = h.conn })
 
-pub no-number : (T : Table) (declared : Declared) (ws : Words) (word : List ℕ) (rest : Words) → first_said ws ≡ Some (word, rest) → number_said (2 ^ 32) rest ≡ None → (x : AuditLine) → IsLine T declared x → ws ≡ line_words T x → ⊥
+pub no-number : (T : Table) (declared : Declared) (ws : Words) (word : List ℕ) (rest : Words)
+    → first_said ws ≡ Some (word, rest) → number_said (2 ^ 32) rest ≡ None → (x : AuditLine) → IsLine T declared x
+    → ws ≡ line_words T x → ⊥
 no-number T declared ws word rest first none x h e =
     let parts = some-parts T declared x h in
     let same = cons-same word parts.0 rest (decimal parts.1 ∷ parts.2) (sym (first-said ws (word, rest) first) ∙ e ∙ parts.3.words) in
     not-some (parts.1, parts.2) (sym (number-read (2 ^ 32) parts.1 parts.2 (omega arith) parts.3.small) ∙ ap (number_said (2 ^ 32)) (sym same.1) ∙ none)
 
 -- the words by their first, the connection and the others
-pub words-are : (ws : Words) (word : List ℕ) (rest tail : Words) (conn : ℕ) → first_said ws ≡ Some (word, rest) → number_said (2 ^ 32) rest ≡ Some (conn, tail) → (ws ≡ word ∷ decimal conn ∷ tail) × (conn < 2 ^ 32)
+pub words-are : (ws : Words) (word : List ℕ) (rest tail : Words) (conn : ℕ) → first_said ws ≡ Some (word, rest)
+    → number_said (2 ^ 32) rest ≡ Some (conn, tail) → (ws ≡ word ∷ decimal conn ∷ tail) × (conn < 2 ^ 32)
 words-are ws word rest tail conn first number =
     let h = number-said (2 ^ 32) rest (conn, tail) (omega arith) number in (first-said ws (word, rest) first ∙ ap (λ r. word ∷ r) h.1, h.0)
 
@@ -127,21 +131,28 @@ parts-same a b c d x y h k e =
     let first = cons-same a b (decimal c ∷ x) (decimal d ∷ y) e in
     let second = cons-same (decimal c) (decimal d) x y first.1 in (first.0, decimals-same c d h k second.0, second.1)
 
-stands-lost : (T : Table) (declared : Declared) (conn : ℕ) (tail : Words) → conn < 2 ^ 32 → stands_said conn tail ≡ None → (x : AuditLine) → IsLine T declared x → codes "stands" ∷ decimal conn ∷ tail ≡ line_words T x → ⊥
+stands-lost : (T : Table) (declared : Declared) (conn : ℕ) (tail : Words) → conn < 2 ^ 32
+    → stands_said conn tail ≡ None → (x : AuditLine) → IsLine T declared x
+    → codes "stands" ∷ decimal conn ∷ tail ≡ line_words T x → ⊥
 stands-lost T declared conn tail small none (lines.Happened x) h e =
     let same = parts-same (codes "stands") (kind_word (kind_of x.what)) conn x.conn tail (tail_words T x.what) small h.conn (e ∙ told-words T x.conn x.what) in
     not-some (kind_of x.what) (sym (kind-read (kind_of x.what)) ∙ ap kind_said (sym same.0) ∙ stands-kind)
 stands-lost T declared conn tail small none (lines.Stands other seq position name holding) h e =
     let same = parts-same (codes "stands") (codes "stands") conn other tail (decimal seq ∷ decimal position ∷ name ∷ held_words holding) small h.conn e in
-    not-some (lines.Stands other seq position name holding) (sym (stands-read other seq position name holding h) ∙ ap (stands_said other) (sym same.2) ∙ ap (λ c. stands_said c tail) (sym same.1) ∙ none)
+    not-some (lines.Stands other seq position name holding) (sym (stands-read other seq position name holding h)
+    ∙ ap (stands_said other) (sym same.2) ∙ ap (λ c. stands_said c tail) (sym same.1) ∙ none)
 
-pub stands-reads : (T : Table) (declared : Declared) (conn : ℕ) (ws tail : Words) (r : Result (Option AuditLine) Memory) → conn < 2 ^ 32 → ws ≡ codes "stands" ∷ decimal conn ∷ tail → IfOk r (λ x. x ≡ stands_said conn tail) → Reads (IsLine T declared) (line_words T) ws r
+pub stands-reads : (T : Table) (declared : Declared) (conn : ℕ) (ws tail : Words)
+    (r : Result (Option AuditLine) Memory) → conn < 2 ^ 32 → ws ≡ codes "stands" ∷ decimal conn ∷ tail
+    → IfOk r (λ x. x ≡ stands_said conn tail) → Reads (IsLine T declared) (line_words T) ws r
 stands-reads T declared conn ws tail (Ok (Some x)) small is h = let said = stands-said T declared conn tail x small (sym h) in (said.0, is ∙ said.1)
 stands-reads T declared conn ws tail (Ok None) small is h = λ x holds e. stands-lost T declared conn tail small (sym h) x holds (sym is ∙ e)
 stands-reads T declared conn ws tail (Err e) small is h = tt
 
 -- the first word is that of no kind
-pub no-kind : (T : Table) (declared : Declared) (ws tail : Words) (word : List ℕ) (conn : ℕ) → conn < 2 ^ 32 → ws ≡ word ∷ decimal conn ∷ tail → bytes_eq word (codes "stands") ≡ false → kind_said word ≡ None → (x : AuditLine) → IsLine T declared x → ws ≡ line_words T x → ⊥
+pub no-kind : (T : Table) (declared : Declared) (ws tail : Words) (word : List ℕ) (conn : ℕ) → conn < 2 ^ 32
+    → ws ≡ word ∷ decimal conn ∷ tail → bytes_eq word (codes "stands") ≡ false → kind_said word ≡ None
+    → (x : AuditLine) → IsLine T declared x → ws ≡ line_words T x → ⊥
 no-kind T declared ws tail word conn small is other none (lines.Happened x) h e =
     let same = parts-same word (kind_word (kind_of x.what)) conn x.conn tail (tail_words T x.what) small h.conn (sym is ∙ e ∙ told-words T x.conn x.what) in
     not-some (kind_of x.what) (sym (kind-read (kind_of x.what)) ∙ ap kind_said (sym same.0) ∙ none)
@@ -151,7 +162,9 @@ no-kind T declared ws tail word conn small is other none (lines.Stands c seq pos
     let wrong : true ≡ false = sym yes ∙ other in cc
 
 -- what stands behind the connection says no happening of the kind
-pub no-what : (T : Table) (declared : Declared) (ws tail : Words) (word : List ℕ) (conn : ℕ) (kind : Kind) → conn < 2 ^ 32 → ws ≡ word ∷ decimal conn ∷ tail → bytes_eq word (codes "stands") ≡ false → kind_said word ≡ Some kind
+pub no-what : (T : Table) (declared : Declared) (ws tail : Words) (word : List ℕ) (conn : ℕ) (kind : Kind)
+    → conn < 2 ^ 32 → ws ≡ word ∷ decimal conn ∷ tail → bytes_eq word (codes "stands") ≡ false
+    → kind_said word ≡ Some kind
     → ((x : Happening) → IsTold T declared kind x → tail ≡ tail_words T x → ⊥) → (x : AuditLine) → IsLine T declared x → ws ≡ line_words T x → ⊥
 no-what T declared ws tail word conn kind small is other said none (lines.Happened x) h e =
     let same = parts-same word (kind_word (kind_of x.what)) conn x.conn tail (tail_words T x.what) small h.conn (sym is ∙ e ∙ told-words T x.conn x.what) in
@@ -162,18 +175,25 @@ no-what T declared ws tail word conn kind small is other said none (lines.Stands
     let yes : bytes_eq word (codes "stands") ≡ true = (bytes_eq-Decides word (codes "stands")).1 same.0 in
     let wrong : true ≡ false = sym yes ∙ other in cc
 
-pub some-what : (T : Table) (declared : Declared) (ws tail : Words) (word : List ℕ) (conn : ℕ) (kind : Kind) (x : Happening) → conn < 2 ^ 32 → ws ≡ word ∷ decimal conn ∷ tail → kind_said word ≡ Some kind → IsTold T declared kind x → tail ≡ tail_words T x
+pub some-what : (T : Table) (declared : Declared) (ws tail : Words) (word : List ℕ) (conn : ℕ) (kind : Kind)
+    (x : Happening) → conn < 2 ^ 32 → ws ≡ word ∷ decimal conn ∷ tail → kind_said word ≡ Some kind
+    → IsTold T declared kind x → tail ≡ tail_words T x
     → SaysLine T declared ws (lines.Happened (record { conn = conn; what = x }))
 some-what T declared ws tail word conn kind x small is said told e = (
   record { conn = small; told = told.0 },
-  is ∙ ap (λ w. w ∷ decimal conn ∷ tail) (kind-is word kind said ∙ ap kind_word (sym told.1)) ∙ ap (λ r. kind_word (kind_of x) ∷ decimal conn ∷ r) e ∙ sym (told-words T conn x),
+  is ∙ ap (λ w. w ∷ decimal conn ∷ tail) (kind-is word kind said ∙ ap kind_word (sym told.1))
+      ∙ ap (λ r. kind_word (kind_of x) ∷ decimal conn ∷ r) e ∙ sym (told-words T conn x),
 )
 
 -- what was read, by the value that came
-pub reads-none : (T : Table) (declared : Declared) (kind : Kind) (ws : Words) (r : Result (Option Happening) Memory) → Reads (IsTold T declared kind) (tail_words T) ws r → r ≡ Ok None → (x : Happening) → IsTold T declared kind x → ws ≡ tail_words T x → ⊥
+pub reads-none : (T : Table) (declared : Declared) (kind : Kind) (ws : Words) (r : Result (Option Happening) Memory)
+    → Reads (IsTold T declared kind) (tail_words T) ws r → r ≡ Ok None → (x : Happening) → IsTold T declared kind x
+    → ws ≡ tail_words T x → ⊥
 reads-none T declared kind ws r h is = let P : Result (Option Happening) Memory → Type 0 = λ r. Reads (IsTold T declared kind) (tail_words T) ws r in subst P is h
 
-pub reads-some : (T : Table) (declared : Declared) (kind : Kind) (ws : Words) (r : Result (Option Happening) Memory) (x : Happening) → Reads (IsTold T declared kind) (tail_words T) ws r → r ≡ Ok (Some x) → IsTold T declared kind x × (ws ≡ tail_words T x)
+pub reads-some : (T : Table) (declared : Declared) (kind : Kind) (ws : Words) (r : Result (Option Happening) Memory)
+    (x : Happening) → Reads (IsTold T declared kind) (tail_words T) ws r → r ≡ Ok (Some x)
+    → IsTold T declared kind x × (ws ≡ tail_words T x)
 reads-some T declared kind ws r x h is = let P : Result (Option Happening) Memory → Type 0 = λ r. Reads (IsTold T declared kind) (tail_words T) ws r in subst P is h
 
 pub head-word : (a b : List ℕ) → bytes_eq a b ≡ true → a ≡ b

@@ -30,11 +30,13 @@ spaced-append [] ws = refl
 spaced-append (v ∷ vs) ws = ap (λ l. 32 ∷ v ++ l) (spaced-append vs ws) ∙ sym (append_assoc (32 ∷ v) (behind_spaces vs) (behind_spaces ws))
 
 -- a copy is told by its encoding
-copy-told : (T : Table) (call : Taken) (copy : TookCopy) (encoding : List ℕ) → encoding ≡ encoding_of T call copy → copy_words T (message_at T call.method call.number) copy ≡ told_copy encoding copy
+copy-told : (T : Table) (call : Taken) (copy : TookCopy) (encoding : List ℕ) → encoding ≡ encoding_of T call copy
+    → copy_words T (message_at T call.method call.number) copy ≡ told_copy encoding copy
 copy-told T call (Copy tree) encoding is = ap (λ l. codes "copy" ∷ hex_word l ∷ []) (sym is)
 copy-told T call (Malformed reason place value) encoding is = refl
 
-pub told-copy : (T : Table) (call : Taken) (encoding : List ℕ) → encoding ≡ encoding_of T call call.copy → copy_words T (message_at T call.method call.number) call.copy ≡ told_copy encoding call.copy
+pub told-copy : (T : Table) (call : Taken) (encoding : List ℕ) → encoding ≡ encoding_of T call call.copy
+    → copy_words T (message_at T call.method call.number) call.copy ≡ told_copy encoding call.copy
 told-copy T call encoding is = copy-told T call call.copy encoding is
 
 -- what holds where a step was made, holds by it

@@ -89,7 +89,8 @@ audit-answered : audit table answered ≡ codes "took 1 1 0 0 2 0 1 copy -\ntook
 unfolding varint groups digits encode_with
 audit-answered = refl
 
-frames-answered : joined (frames table answered) ≡ 0 ∷ 0 ∷ 0 ∷ 0 ∷ 1 ∷ 1 ∷ 0 ∷ 0 ∷ 0 ∷ 0 ∷ 0 ∷ 1 ∷ 0 ∷ 0 ∷ 0 ∷ 1 ∷ 0 ∷ 0 ∷ 0 ∷ 2 ∷ 2 ∷ 1 ∷ 0 ∷ 0 ∷ 0 ∷ 0 ∷ 0 ∷ 1 ∷ 0 ∷ 0 ∷ 0 ∷ 1 ∷ 8 ∷ 5 ∷ []
+frames-answered : joined (frames table answered) ≡ 0 ∷ 0 ∷ 0 ∷ 0 ∷ 1 ∷ 1 ∷ 0 ∷ 0 ∷ 0 ∷ 0 ∷ 0 ∷ 1 ∷ 0 ∷ 0 ∷ 0 ∷ 1 ∷ 0
+    ∷ 0 ∷ 0 ∷ 2 ∷ 2 ∷ 1 ∷ 0 ∷ 0 ∷ 0 ∷ 0 ∷ 0 ∷ 1 ∷ 0 ∷ 0 ∷ 0 ∷ 1 ∷ 8 ∷ 5 ∷ []
 unfolding varint groups header_bytes
 frames-answered = refl
 
@@ -111,7 +112,9 @@ abbrev malformed : History
 malformed = call 1 0 0 14 1 1 (Copy (with_number 5)) ∷ call 2 0 0 15 1 0 (Malformed Address 0 15) ∷ happens (Refused 2 cause.Malformed)
     ∷ call 3 9 0 2 1 0 (Malformed NoMethod 0 9) ∷ happens (Refused 3 cause.Malformed) ∷ happens (Sent 1 18) ∷ []
 
-audit-malformed : audit table malformed ≡ codes "took 1 1 0 0 14 1 1 copy 0805\ntook 1 2 0 0 15 1 0 malformed Address 0 15\nrefused 1 2 malformed\ntook 1 3 9 0 2 1 0 malformed NoMethod 0 9\nrefused 1 3 malformed\nsent 1 1 18\n"
+audit-malformed : audit table malformed ≡ codes "took 1 1 0 0 14 1 1 copy 0805\ntook 1 2 0 0 15 1 0 malformed Address 0 15\n"
+    ++ codes "refused 1 2 malformed\ntook 1 3 9 0 2 1 0 malformed NoMethod 0 9\nrefused 1 3 malformed\n"
+    ++ codes "sent 1 1 18\n"
 unfolding varint groups digits encode_with
 audit-malformed = refl
 
@@ -125,7 +128,9 @@ abbrev held : History
 held = happens (Op (Attach 0 (codes "rl") (codes "rl") (holding 2))) ∷ seven 1 ∷ seven 2 ∷ seven 3 ∷ happens (Charged 1 (codes "rl") 1000)
     ∷ happens (Charged 2 (codes "rl") 0) ∷ happens (Sent 1 18) ∷ happens (Sent 2 18) ∷ happens (Moment 999) ∷ []
 
-audit-held : audit table held ≡ codes "op 1 attach 0 rl rl\ntook 1 1 0 0 2 1 1 copy 0807\ntook 1 2 0 0 2 1 1 copy 0807\ntook 1 3 0 0 2 1 1 copy 0807\ncharged 1 1 rl 1000\ncharged 1 2 rl 0\nsent 1 1 18\nsent 1 2 18\nmoment 1 999\n"
+audit-held : audit table held ≡ codes "op 1 attach 0 rl rl\ntook 1 1 0 0 2 1 1 copy 0807\ntook 1 2 0 0 2 1 1 copy 0807\n"
+    ++ codes "took 1 3 0 0 2 1 1 copy 0807\ncharged 1 1 rl 1000\ncharged 1 2 rl 0\nsent 1 1 18\n"
+    ++ codes "sent 1 2 18\nmoment 1 999\n"
 unfolding varint groups digits encode_with
 audit-held = refl
 
@@ -144,7 +149,9 @@ upgraded = happens (Op (Attach 0 (codes "acl") (codes "p1") opening)) ∷ happen
     ∷ request 1 1 (with_number 150) ∷ request 2 2 (with_number 7) ∷ happens (Charged 1 (codes "rl") 1000) ∷ happens (Charged 2 (codes "rl") 0)
     ∷ happens (Op (Upgrade (codes "acl") (codes "p2") opening)) ∷ happens (Refused 1 (cause.Access (codes "acl") 2 (codes "no150"))) ∷ happens (Sent 2 18) ∷ []
 
-audit-upgraded : audit table upgraded ≡ codes "op 1 attach 0 acl p1\nop 1 attach 1 rl rl\ntook 1 1 0 0 2 1 1 copy 089601\ntook 1 2 0 0 2 2 1 copy 0807\ncharged 1 1 rl 1000\ncharged 1 2 rl 0\nop 1 upgrade acl p2\nrefused 1 1 access acl 2 no150\nsent 1 2 18\n"
+audit-upgraded : audit table upgraded ≡ codes "op 1 attach 0 acl p1\nop 1 attach 1 rl rl\ntook 1 1 0 0 2 1 1 copy 089601\n"
+    ++ codes "took 1 2 0 0 2 2 1 copy 0807\ncharged 1 1 rl 1000\ncharged 1 2 rl 0\nop 1 upgrade acl p2\n"
+    ++ codes "refused 1 1 access acl 2 no150\nsent 1 2 18\n"
 unfolding varint groups digits encode_with
 audit-upgraded = refl
 
@@ -179,7 +186,8 @@ abbrev drawn_over : History
 drawn_over = happens (Op (Attach 0 (codes "q") (codes "q") (Quota 0 1000 1))) ∷ seven 1 ∷ seven 2 ∷ happens (Drawn 1 (codes "q") 0 0) ∷ happens (Drawn 2 (codes "q") 0 1)
     ∷ happens (Refused 2 (cause.Quota (codes "q") 1 1)) ∷ happens (Sent 1 18) ∷ []
 
-audit-drawn_over : audit table drawn_over ≡ codes "op 1 attach 0 q q\ntook 1 1 0 0 2 1 1 copy 0807\ntook 1 2 0 0 2 1 1 copy 0807\ndrawn 1 1 q 0 0\ndrawn 1 2 q 0 1\nrefused 1 2 quota q 1 1\nsent 1 1 18\n"
+audit-drawn_over : audit table drawn_over ≡ codes "op 1 attach 0 q q\ntook 1 1 0 0 2 1 1 copy 0807\ntook 1 2 0 0 2 1 1 copy 0807\n"
+    ++ codes "drawn 1 1 q 0 0\ndrawn 1 2 q 0 1\nrefused 1 2 quota q 1 1\nsent 1 1 18\n"
 unfolding varint groups digits encode_with
 audit-drawn_over = refl
 

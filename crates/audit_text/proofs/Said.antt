@@ -1,5 +1,7 @@
 -- What words say is what they spell, and the other way round.
-use Rattle.std.proofs.Common.{◌≡◌, ℕ, ◌≤◌, ◌<◌, ◌^◌, ◌==◌, ◌&&◌, ◌||◌, not, Bool, true, false, List, [], ◌∷◌, length, get_or, cond, refl, ap, sym, ◌∙◌, arith, rules, Some, None, Option, subst, inl, inr, ◌⊎◌}
+use Rattle.std.proofs.Common.{◌≡◌, ℕ, ◌≤◌, ◌<◌, ◌^◌, ◌==◌, ◌&&◌, ◌||◌, not, Bool, true, false, List, [], ◌∷◌, length}
+use Rattle.std.proofs.Common.{get_or, cond, refl, ap, sym, ◌∙◌, arith, rules, Some, None, Option, subst, inl, inr}
+use Rattle.std.proofs.Common.{◌⊎◌}
 use Rattle.std.specs.Prelude.{IfOk, Result, Ok, Err}
 use Rattle.std.specs.Char.{is_ascii_digit}
 use Rattle.std.specs.Fmt.{decimal}
@@ -97,7 +99,13 @@ number_of-decimal n small =
     rw (form, value) refl
   where
     first_zero : (n : ℕ) → n < 2 ^ 64 → get_or (decimal n) 0 0 ≡ 48 → length (decimal n) ≡ 1
-    first_zero n small first = elim (cases_lt 0 n) [ inl above ↦ absurd (omega (arith, first_decimal n above small)) | inr none ↦ let zero_n : n ≡ 0 = omega arith in subst (λ (m : ℕ). length (decimal m) ≡ 1) (sym zero_n) (ap length (decimal_digit 0 (omega arith))) ]
+    first_zero n small first =
+        elim (cases_lt 0 n) [
+          | inl above ↦ absurd (omega (arith, first_decimal n above small))
+          | inr none ↦ let zero_n
+              : n ≡ 0 = omega arith in
+              subst (λ (m : ℕ). length (decimal m) ≡ 1) (sym zero_n) (ap length (decimal_digit 0 (omega arith)))
+        ]
 
 from-is : (bound : ℕ) (found : Option ℕ) (words : Words) (p : ℕ × Words) → number_from bound found words ≡ Some p → (p.0 < bound) × (found ≡ Some p.0) × (words ≡ p.1)
 from-is bound None words p e = absurd cc

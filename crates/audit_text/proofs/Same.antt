@@ -1,5 +1,6 @@
 -- Happenings of the same words are the same, of those that can be told.
-use Rattle.std.proofs.Common.{◌≡◌, ℕ, zero, suc, ◌+◌, ◌*◌, ◌<◌, ◌^◌, nat_eq, true, false, List, [], ◌∷◌, length, get_or, codes, refl, ap, sym, subst, ◌∙◌, arith, Some, All, if◌then◌else◌, Ok}
+use Rattle.std.proofs.Common.{◌≡◌, ℕ, zero, suc, ◌+◌, ◌*◌, ◌<◌, ◌^◌, nat_eq, true, false, List, [], ◌∷◌, length}
+use Rattle.std.proofs.Common.{get_or, codes, refl, ap, sym, subst, ◌∙◌, arith, Some, All, if◌then◌else◌, Ok}
 use Rattle.std.specs.Fmt.{decimal}
 use Rattle.std.specs.Prelude.{slice_get, option_map, unwrap_or}
 use Rattle.std.specs.Str.{bytes_eq}
@@ -73,9 +74,12 @@ hex-same [] [] h k e = refl
 hex-same [] (y ∷ b) h k e = absurd (omega (arith, ap length e, length-encode_with lower_digits (y ∷ b)))
 hex-same (x ∷ a) [] h k e = absurd (omega (arith, ap length e, length-encode_with lower_digits (x ∷ a)))
 hex-same (x ∷ a) (y ∷ b) h k e =
-    let both : Ok (x ∷ a) ≡ Ok (y ∷ b) = sym (decode_of-encode_lower (x ∷ a) (bytes-each (x ∷ a) h)) ∙ ap decode_of e ∙ decode_of-encode_lower (y ∷ b) (bytes-each (y ∷ b) k) in cc
+    let both : Ok (x ∷ a) ≡ Ok (y ∷ b) = sym (decode_of-encode_lower (x ∷ a) (bytes-each (x ∷ a) h)) ∙ ap decode_of e
+    ∙ decode_of-encode_lower (y ∷ b) (bytes-each (y ∷ b) k) in cc
 
-tree-same : OneMeaning → EncodingMeans → (T : Table) → IsValid T → (msg : ℕ) → msg < length T.messages → (t u : Node) → IsNormal T msg t → IsNormal T msg u → length (encoding T msg t) < 2 ^ 64 → length (encoding T msg u) < 2 ^ 64 → hex_word (encoding T msg t) ≡ hex_word (encoding T msg u) → t ≡ u
+tree-same : OneMeaning → EncodingMeans → (T : Table) → IsValid T → (msg : ℕ) → msg < length T.messages → (t u : Node)
+    → IsNormal T msg t → IsNormal T msg u → length (encoding T msg t) < 2 ^ 64 → length (encoding T msg u) < 2 ^ 64
+    → hex_word (encoding T msg t) ≡ hex_word (encoding T msg u) → t ≡ u
 tree-same one means T valid msg known t u h k few less e =
     let same = hex-same (encoding T msg t) (encoding T msg u) (encoding-bytes T msg t valid h few) (encoding-bytes T msg u valid k less) e in
     let other : Means T msg (encoding T msg t) u = subst (λ (bytes : List ℕ). Means T msg bytes u) (sym same) (means T msg u valid known k less) in
@@ -85,7 +89,8 @@ method-message : (T : Table) (sort : Sort) (m : Method) → IsMethod T m → mes
 method-message T Request m h = h.input
 method-message T Reply m h = h.output
 
-message-at : (T : Table) (sort : Sort) (ms : List Method) (i : ℕ) → All (IsMethod T) ms → i < length ms → unwrap_or (option_map (message_of_method sort) (slice_get ms i)) 0 < length T.messages
+message-at : (T : Table) (sort : Sort) (ms : List Method) (i : ℕ) → All (IsMethod T) ms → i < length ms
+    → unwrap_or (option_map (message_of_method sort) (slice_get ms i)) 0 < length T.messages
 message-at T sort [] i all less = absurd (omega (arith, less))
 message-at T sort (m ∷ ms) zero all less = method-message T sort m (All-head (IsMethod T) m ms all)
 message-at T sort (m ∷ ms) (suc i) all less = message-at T sort ms i (All-tail (IsMethod T) m ms all) (omega (arith, less))
@@ -129,7 +134,9 @@ unfolding IsTakenAt
 taken-at T valid call (Copy tree) h = (known-message T valid call.method call.number h.method, h.normal, h.short)
 taken-at T valid call (Malformed reason place value) h = h
 
-copy-same : OneMeaning → EncodingMeans → (T : Table) → IsValid T → (msg : ℕ) (a b : TookCopy) → IsTakenAt T msg a → IsTakenAt T msg b → nat_eq (mark (copy_words T msg a)) (mark (copy_words T msg b)) ≡ true → copy_words T msg a ≡ copy_words T msg b → a ≡ b
+copy-same : OneMeaning → EncodingMeans → (T : Table) → IsValid T → (msg : ℕ) (a b : TookCopy) → IsTakenAt T msg a
+    → IsTakenAt T msg b → nat_eq (mark (copy_words T msg a)) (mark (copy_words T msg b)) ≡ true
+    → copy_words T msg a ≡ copy_words T msg b → a ≡ b
 unfolding IsTakenAt
 copy-same one means T valid msg (Copy t) (Copy u) h k m e =
     let hex : hex_word (encoding T msg t) ≡ hex_word (encoding T msg u) = cc in
@@ -150,7 +157,8 @@ policy-same : (declared : Declared) (a b : List ℕ) (p q : Policy) → a ≡ b 
 policy-same declared a b p q e h k =
     let both : Some p ≡ Some q = sym h.under ∙ ap (λ l. policy_under l declared) e ∙ k.under in cc
 
-step-same : (declared : Declared) (a b : Step) → IsStep declared a → IsStep declared b → nat_eq (mark (step_words a)) (mark (step_words b)) ≡ true → step_words a ≡ step_words b → a ≡ b
+step-same : (declared : Declared) (a b : Step) → IsStep declared a → IsStep declared b
+    → nat_eq (mark (step_words a)) (mark (step_words b)) ≡ true → step_words a ≡ step_words b → a ≡ b
 step-same declared (Attach at name label policy) (Attach place other known rule) h k m e =
     let at_words : decimal at ≡ decimal place = cc in
     let places = decimal-same at place (low32 at h.0) (low32 place k.0) at_words in
@@ -197,10 +205,12 @@ made-again : (a : Taken) → made a.seq a.method a.number a.addr a.after a.count
 unfolding made
 made-again a = refl
 
-taken-same : (a b : Taken) → a.seq ≡ b.seq → a.method ≡ b.method → a.number ≡ b.number → a.addr ≡ b.addr → a.after ≡ b.after → a.count ≡ b.count → a.copy ≡ b.copy → a ≡ b
+taken-same : (a b : Taken) → a.seq ≡ b.seq → a.method ≡ b.method → a.number ≡ b.number → a.addr ≡ b.addr
+    → a.after ≡ b.after → a.count ≡ b.count → a.copy ≡ b.copy → a ≡ b
 taken-same a b seq method number addr after count copy = cc (made-again a, made-again b)
 
-call-same : OneMeaning → EncodingMeans → (T : Table) → IsValid T → (c d : ℕ) (a b : Taken) → IsAcceptance T a → IsAcceptance T b → happening_words T c (Took a) ≡ happening_words T d (Took b) → a ≡ b
+call-same : OneMeaning → EncodingMeans → (T : Table) → IsValid T → (c d : ℕ) (a b : Taken) → IsAcceptance T a
+    → IsAcceptance T b → happening_words T c (Took a) ≡ happening_words T d (Took b) → a ≡ b
 call-same one means T valid c d a b h k e =
     let seq_words : decimal a.seq ≡ decimal b.seq = cc in
     let method_words : decimal a.method ≡ decimal b.method = cc in
@@ -223,7 +233,10 @@ call-same one means T valid c d a b h k e =
 
 -- ---- happenings
 
-what-same : OneMeaning → EncodingMeans → (T : Table) → IsValid T → (declared : Declared) (c d : ℕ) (x y : Happening) → CanBeTold T declared x → CanBeTold T declared y → nat_eq (mark (happening_words T c x)) (mark (happening_words T d y)) ≡ true → happening_words T c x ≡ happening_words T d y → x ≡ y
+what-same : OneMeaning → EncodingMeans → (T : Table) → IsValid T → (declared : Declared) (c d : ℕ) (x y : Happening)
+    → CanBeTold T declared x → CanBeTold T declared y
+    → nat_eq (mark (happening_words T c x)) (mark (happening_words T d y)) ≡ true
+    → happening_words T c x ≡ happening_words T d y → x ≡ y
 what-same one means T valid declared c d (Took a) (Took b) h k m e = ap Took (call-same one means T valid c d a b h k e)
 what-same one means T valid declared c d (Away method number addr) (Away function request place) h k m e =
     let method_words : decimal method ≡ decimal function = cc in
@@ -301,7 +314,9 @@ happened-again x = refl
 happened-same : (x y : Happened) → x.conn ≡ y.conn → x.what ≡ y.what → x ≡ y
 happened-same x y conn what = cc (happened-again x, happened-again y)
 
-pub words-same : OneMeaning → EncodingMeans → (T : Table) → IsValid T → (declared : Declared) (x y : Happened) → IsWritable T declared x → IsWritable T declared y → happening_words T x.conn x.what ≡ happening_words T y.conn y.what → x ≡ y
+pub words-same : OneMeaning → EncodingMeans → (T : Table) → IsValid T → (declared : Declared) (x y : Happened)
+    → IsWritable T declared x → IsWritable T declared y
+    → happening_words T x.conn x.what ≡ happening_words T y.conn y.what → x ≡ y
 words-same one means T valid declared x y h k e =
     let words : decimal x.conn ≡ decimal y.conn = sym (second-word T x.conn x.what) ∙ ap second e ∙ second-word T y.conn y.what in
     let conns = decimal-same x.conn y.conn (low32 x.conn h.conn) (low32 y.conn k.conn) words in

@@ -1,5 +1,7 @@
 -- Decimal digits, few enough for a number of 64 bits, and the words of a text that begins with them.
-use Rattle.std.proofs.Common.{◌≡◌, ℕ, suc, ◌+◌, ◌-◌, ◌*◌, ◌^◌, ◌<◌, ◌≤◌, ◌==◌, ◌&&◌, true, false, nat_le, Bool, All, List, [], ◌∷◌, Option, length, take, get_or, Some, ap, sym, ◌∙◌, refl, arith, leb-true, le-ltb, lt-ltb, append-nil}
+use Rattle.std.proofs.Common.{◌≡◌, ℕ, suc, ◌+◌, ◌-◌, ◌*◌, ◌^◌, ◌<◌, ◌≤◌, ◌==◌, ◌&&◌, true, false, nat_le, Bool, All}
+use Rattle.std.proofs.Common.{List, [], ◌∷◌, Option, length, take, get_or, Some, ap, sym, ◌∙◌, refl, arith, leb-true}
+use Rattle.std.proofs.Common.{le-ltb, lt-ltb, append-nil}
 use Rattle.std.specs.Char.{digit_value, is_ascii_digit}
 use Rattle.std.specs.List.{list_all, AllByRecursion}
 use Rattle.std.specs.Str.Parse.{digits_value}

@@ -1,5 +1,6 @@
 -- A word that has the digits of an encoding, alone in a text.
-use Rattle.std.proofs.Common.{◌≡◌, ℕ, ◌/◌, ◌%◌, ◌≤◌, true, false, Bool, List, [], ◌∷◌, drop, length, slice_index, refl, ap, sym, ◌∙◌, Some, None, Option, Ok, Err}
+use Rattle.std.proofs.Common.{◌≡◌, ℕ, ◌/◌, ◌%◌, ◌≤◌, true, false, Bool, List, [], ◌∷◌, drop, length, slice_index}
+use Rattle.std.proofs.Common.{refl, ap, sym, ◌∙◌, Some, None, Option, Ok, Err}
 use Rattle.std.specs.Prelude.{Result}
 use Rattle.std.specs.List.{join_with_byte}
 use Rattle.std.specs.Str.{bytes_eq}
@@ -42,7 +43,8 @@ digits-other b left later other = not-true (bytes_eq left (encode_lower (b ∷ l
 pub next-digits : (b : ℕ) (left others from later : List ℕ) (answer : Bool) → left ≡ with_digits b others → from ≡ b ∷ later
     → bytes_eq left (encode_lower from) ≡ answer → bytes_eq others (encode_lower later) ≡ answer
 next-digits b left others from later answer is more before =
-    sym (digits-same b others later) ∙ sym (ap (λ (l : List ℕ). bytes_eq l (encode_lower (b ∷ later))) is) ∙ sym (ap (λ (f : List ℕ). bytes_eq left (encode_lower f)) more) ∙ before
+    sym (digits-same b others later) ∙ sym (ap (λ (l : List ℕ). bytes_eq l (encode_lower (b ∷ later))) is)
+    ∙ sym (ap (λ (f : List ℕ). bytes_eq left (encode_lower f)) more) ∙ before
 
 pub no-digits : (b : ℕ) (left from later : List ℕ) (answer : Bool) → ((rest : List ℕ) → left ≡ with_digits b rest → ⊥) → from ≡ b ∷ later
     → bytes_eq left (encode_lower from) ≡ answer → false ≡ answer

@@ -1,5 +1,6 @@
 -- What the words of a line of a call that stands say is what they spell, and the other way round.
-use Rattle.std.proofs.Common.{◌≡◌, ℕ, ◌<◌, ◌^◌, ◌||◌, Bool, true, false, List, [], ◌∷◌, cond, refl, ap, ◌∙◌, arith, Some, None, Option, subst, inl, inr, ◌⊎◌, codes}
+use Rattle.std.proofs.Common.{◌≡◌, ℕ, ◌<◌, ◌^◌, ◌||◌, Bool, true, false, List, [], ◌∷◌, cond, refl, ap, ◌∙◌, arith}
+use Rattle.std.proofs.Common.{Some, None, Option, subst, inl, inr, ◌⊎◌, codes}
 use Rattle.std.specs.Fmt.{decimal}
 use Rattle.std.specs.Str.{bytes_eq}
 use Rattle.std.proofs.lemmas.Slice.Eq.{bytes_eq-Decides}
@@ -54,7 +55,11 @@ holding-is (w ∷ ws) holding e = go (bytes_eq w (codes "held")) refl e
         let h = number-said (2 ^ 64) ws a.0 (omega arith) a.1 in
         let k = last-said (2 ^ 64) a.0.1 b.0 (omega arith) b.1 in
         let P : Option Holding → Type 0 = λ x. IsHolding x × (w ∷ ws ≡ held_words x) in
-        subst P (unsome (Some (record { level = a.0.0; cost = b.0 })) holding b.2) ((h.0, k.0), ap (λ v. v ∷ ws) ((bytes_eq-Decides w (codes "held")).0 is) ∙ ap (λ r. codes "held" ∷ r) (h.1 ∙ ap (λ r. decimal a.0.0 ∷ r) k.1))
+        subst P (unsome (Some (record { level = a.0.0; cost = b.0 })) holding b.2) (
+          (h.0, k.0),
+          ap (λ v. v ∷ ws) ((bytes_eq-Decides w (codes "held")).0 is) ∙ ap (λ r. codes "held" ∷ r)
+              (h.1 ∙ ap (λ r. decimal a.0.0 ∷ r) k.1),
+        )
     go false is e = absurd cc
 
 holding-read : (holding : Option Holding) → IsHolding holding → holding_said (held_words holding) ≡ Some holding
@@ -67,7 +72,8 @@ holding-read (Some at) h = rw (number-read (2 ^ 64) at.level (decimal at.cost �
 abbrev pub SaysLine : Table → Declared → Words → AuditLine → Type 0
 SaysLine T declared ws x = IsLine T declared x × (ws ≡ line_words T x)
 
-pub stands-said : (T : Table) (declared : Declared) (conn : ℕ) (ws : Words) (x : AuditLine) → conn < 2 ^ 32 → stands_said conn ws ≡ Some x → SaysLine T declared (codes "stands" ∷ decimal conn ∷ ws) x
+pub stands-said : (T : Table) (declared : Declared) (conn : ℕ) (ws : Words) (x : AuditLine) → conn < 2 ^ 32
+    → stands_said conn ws ≡ Some x → SaysLine T declared (codes "stands" ∷ decimal conn ∷ ws) x
 unfolding stands_said
 stands-said T declared conn ws x less e =
     let a = chained _ (number_said (2 ^ 32) ws) x e in
@@ -88,10 +94,27 @@ stands-said T declared conn ws x less e =
         let d = chained _ (holding_said rest) x e in
         let m = holding-is rest d.0 d.1 in
         let P : AuditLine → Type 0 = λ y. SaysLine T declared (codes "stands" ∷ decimal conn ∷ ws) y in
-        subst P (unsome (lines.Stands conn seq position name d.0) x d.2) (record { conn = small; seq = less; position = under; name = queue-is name is; holding = m.0 }, front (held_words d.0) m.1)
+        subst P (unsome (lines.Stands conn seq position name d.0) x d.2) (
+          record {
+            conn = small;
+            seq = less;
+            position = under;
+            name = queue-is name is;
+            holding = m.0;
+          },
+          front (held_words d.0) m.1,
+        )
     go conn small seq less position under name rest front false is e = absurd cc
 
-pub stands-read : (conn seq position : ℕ) (name : List ℕ) (holding : Option Holding) → IsStanding conn seq position name holding → stands_said conn (decimal seq ∷ decimal position ∷ name ∷ held_words holding) ≡ Some (lines.Stands conn seq position name holding)
+pub stands-read : (conn seq position : ℕ) (name : List ℕ) (holding : Option Holding)
+    → IsStanding conn seq position name holding
+    → stands_said conn (decimal seq ∷ decimal position ∷ name ∷ held_words holding)
+    ≡ Some (lines.Stands conn seq position name holding)
 unfolding stands_said
 stands-read conn seq position name holding h =
-    rw (number-read (2 ^ 32) seq (decimal position ∷ name ∷ held_words holding) (omega arith) h.seq, number-read (2 ^ 32) position (name ∷ held_words holding) (omega arith) h.position, queue-read name h.name, holding-read holding h.holding) refl
+    rw (
+      number-read (2 ^ 32) seq (decimal position ∷ name ∷ held_words holding) (omega arith) h.seq,
+      number-read (2 ^ 32) position (name ∷ held_words holding) (omega arith) h.position,
+      queue-read name h.name,
+      holding-read holding h.holding,
+    ) refl

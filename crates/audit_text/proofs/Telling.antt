@@ -84,8 +84,28 @@ cause-are_words (cause.Quota name ticket cap) h = (literal (codes "quota") refl,
 cause-are_words cause.Transport h = (literal (codes "transport") refl, tt)
 
 pub are-words : (T : Table) → IsValid T → (declared : Declared) (conn : ℕ) (x : Happening) → conn < 2 ^ 32 → CanBeTold T declared x → AreWords (happening_words T conn x)
-are-words T valid declared conn (Took call) small h =
-    (literal (codes "took") refl, (word32 conn small, (word32 call.seq h.seq, (word16 call.method h.method, (word32 call.number h.number, (decimal-word call.addr h.addr, (decimal-word call.after h.after, (decimal-word call.count h.count, copy-are_words T valid call call.copy h.copy))))))))
+are-words T valid declared conn (Took call) small h = (
+  literal (codes "took") refl,
+  (
+    word32 conn small,
+    (
+      word32 call.seq h.seq,
+      (
+        word16 call.method h.method,
+        (
+          word32 call.number h.number,
+          (
+            decimal-word call.addr h.addr,
+            (
+              decimal-word call.after h.after,
+              (decimal-word call.count h.count, copy-are_words T valid call call.copy h.copy),
+            ),
+          ),
+        ),
+      ),
+    ),
+  ),
+)
 are-words T valid declared conn (Away method number addr) small h =
     (literal (codes "away") refl, (word32 conn small, (word16 method h.0, (word32 number h.1, (decimal-word addr h.2, tt)))))
 are-words T valid declared conn (Op step) small h = (literal (codes "op") refl, (word32 conn small, step-are_words declared step h))

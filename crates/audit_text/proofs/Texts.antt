@@ -21,15 +21,20 @@ line-told : (T : Table) → IsValid T → (declared : Declared) (x : Happened) �
 line-told T valid declared x h = are-words T valid declared x.conn x.what h.conn h.told
 
 -- a line at the front of a text tells its happening, and what stands behind it
-pub front-same : OneMeaning → EncodingMeans → (T : Table) → IsValid T → (declared : Declared) (x y : Happened) (a b : List ℕ) → IsWritable T declared x → IsWritable T declared y → audit_line T x ++ a ≡ audit_line T y ++ b → (x ≡ y) × (a ≡ b)
+pub front-same : OneMeaning → EncodingMeans → (T : Table) → IsValid T
+    → (declared : Declared) (x y : Happened) (a b : List ℕ) → IsWritable T declared x → IsWritable T declared y
+    → audit_line T x ++ a ≡ audit_line T y ++ b → (x ≡ y) × (a ≡ b)
 front-same one means T valid declared x y a b h k e =
-    let words = line-words (happening_words T x.conn x.what) (happening_words T y.conn y.what) a b (some-words T x.conn x.what) (some-words T y.conn y.what) (line-told T valid declared x h) (line-told T valid declared y k) e in
+    let words = line-words (happening_words T x.conn x.what) (happening_words T y.conn y.what) a b
+    (some-words T x.conn x.what) (some-words T y.conn y.what) (line-told T valid declared x h)
+    (line-told T valid declared y k) e in
     (words-same one means T valid declared x y h k words.0, words.1)
 
 line-some : (ws : Words) (a : List ℕ) → 0 < length (line ws ++ a)
 line-some ws a = omega (arith, length-append (line ws) a, length-append (spaced ws) (10 ∷ []))
 
-pub text-same : OneMeaning → EncodingMeans → (T : Table) → IsValid T → (declared : Declared) (h k : History) → All (IsWritable T declared) h → All (IsWritable T declared) k → audit T h ≡ audit T k → h ≡ k
+pub text-same : OneMeaning → EncodingMeans → (T : Table) → IsValid T → (declared : Declared) (h k : History)
+    → All (IsWritable T declared) h → All (IsWritable T declared) k → audit T h ≡ audit T k → h ≡ k
 text-same one means T valid declared [] [] all every e = refl
 text-same one means T valid declared [] (y ∷ k) all every e = absurd (omega (arith, ap length e, line-some (happening_words T y.conn y.what) (audit T k)))
 text-same one means T valid declared (x ∷ h) [] all every e = absurd (omega (arith, ap length e, line-some (happening_words T x.conn x.what) (audit T h)))
@@ -53,11 +58,13 @@ held-are_words : (holding : Option Holding) → IsHolding holding → AreWords (
 held-are_words None h = tt
 held-are_words (Some at) h = (literal (codes "held") refl, (decimal-word at.level h.0, (decimal-word at.cost h.1, tt)))
 
-standing-are_words : (conn seq position : ℕ) (name : List ℕ) (holding : Option Holding) → IsStanding conn seq position name holding → AreWords (standing_words conn seq position name holding)
+standing-are_words : (conn seq position : ℕ) (name : List ℕ) (holding : Option Holding)
+    → IsStanding conn seq position name holding → AreWords (standing_words conn seq position name holding)
 standing-are_words conn seq position name holding h =
     (literal (codes "stands") refl, (word32 conn h.conn, (word32 seq h.seq, (word32 position h.position, (queue-word name h.name, held-are_words holding h.holding)))))
 
-pub standing-cut : (conn seq position : ℕ) (name : List ℕ) (holding : Option Holding) → IsStanding conn seq position name holding → IsCutInto (standing_words conn seq position name holding)
+pub standing-cut : (conn seq position : ℕ) (name : List ℕ) (holding : Option Holding)
+    → IsStanding conn seq position name holding → IsCutInto (standing_words conn seq position name holding)
 standing-cut conn seq position name holding h = cut-into (standing_words conn seq position name holding) (omega arith) (standing-are_words conn seq position name holding h)
 
 held : ℕ → ℕ → Holding
@@ -78,7 +85,10 @@ held-same (Some a) (Some b) h k e =
     let costs = decimal-same a.cost b.cost h.1 k.1 cost_words in
     let same : a ≡ b = cc (held-again a, held-again b) in ap Some same
 
-pub standing-same : (conn seq position conn' seq' position' : ℕ) (name name' : List ℕ) (holding holding' : Option Holding) → IsStanding conn seq position name holding → IsStanding conn' seq' position' name' holding' → stands_line conn seq position name holding ≡ stands_line conn' seq' position' name' holding'
+pub standing-same : (conn seq position conn' seq' position' : ℕ) (name name' : List ℕ)
+    (holding holding' : Option Holding) → IsStanding conn seq position name holding
+    → IsStanding conn' seq' position' name' holding'
+    → stands_line conn seq position name holding ≡ stands_line conn' seq' position' name' holding'
     → (conn ≡ conn') × (seq ≡ seq') × (position ≡ position') × (name ≡ name') × (holding ≡ holding')
 standing-same conn seq position conn' seq' position' name name' holding holding' h k e =
     let words : standing_words conn seq position name holding ≡ standing_words conn' seq' position' name' holding' =

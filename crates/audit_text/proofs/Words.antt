@@ -1,5 +1,6 @@
 -- Words that have no blank and no line feed, and lines of them: a line tells its words.
-use Rattle.std.proofs.Common.{◌≡◌, ℕ, zero, suc, ◌<◌, ◌≤◌, ◌^◌, ◌==◌, ◌&&◌, nat_lt, Bool, true, false, List, [], ◌∷◌, ◌++◌, length, refl, ap, sym, ◌∙◌, arith, rules, append_assoc, All, ◌≢◌}
+use Rattle.std.proofs.Common.{◌≡◌, ℕ, zero, suc, ◌<◌, ◌≤◌, ◌^◌, ◌==◌, ◌&&◌, nat_lt, Bool, true, false, List, [], ◌∷◌}
+use Rattle.std.proofs.Common.{◌++◌, length, refl, ap, sym, ◌∙◌, arith, rules, append_assoc, All, ◌≢◌}
 use Rattle.std.specs.Prelude.{slice_index_or}
 use Rattle.std.specs.Char.{is_ascii_digit}
 use Rattle.std.specs.Fmt.{decimal}
@@ -143,4 +144,7 @@ byte-above c h = grind (arith, nat_tests)
 
 pub name-word : (w : List ℕ) → is_name_form w ≡ true → IsWord w
 name-word [] h = tt
-name-word (c ∷ w) h = (start-above c (both-left (is_name_start c) (list_all is_name_byte w) h), above-test is_name_byte 32 w byte-above (both-right (is_name_start c) (list_all is_name_byte w) h))
+name-word (c ∷ w) h = (
+  start-above c (both-left (is_name_start c) (list_all is_name_byte w) h),
+  above-test is_name_byte 32 w byte-above (both-right (is_name_start c) (list_all is_name_byte w) h),
+)

@@ -10,3 +10,4 @@ pub mod Reading
 pub mod Said
 pub mod Told
 pub mod Writable
+pub mod Written

@@ -24,7 +24,7 @@ use std::alloc::Global;
 use wire_decode::{DecodeFault, decode, meaning_of_encoding};
 use wire_encode::encode;
 
-/// The hexadecimal digits.
+// The hexadecimal digits.
 const DIGITS: &[u8; 16] = b"0123456789abcdef";
 
 /// The numbers of an accepted call, as its line has them before the copy.
@@ -38,7 +38,7 @@ pub(crate) struct Head {
     pub count: u64,
 }
 
-/// `SEQ METHOD NUMBER ADDR AFTER COUNT`, and what is left.
+// `SEQ METHOD NUMBER ADDR AFTER COUNT`, and what is left.
 #[tactic(auto, unfolding(crate::specs::Copies::head_said))]
 fn numbers(rest: Rest<'_>) -> Option<(Head, Rest<'_>)>
     ensures { option_map (λ p. (p.0, words_in p.1)) result ≡ head_said (words_in rest.entry) }
@@ -60,7 +60,7 @@ fn numbers(rest: Rest<'_>) -> Option<(Head, Rest<'_>)>
     Some((head, rest))
 }
 
-/// The reason that a word names.
+// The reason that a word names.
 fn reason_of(word: &[u8]) -> Option<Reason>
     ensures { result ≡ reason_said word.now }
 {
@@ -87,7 +87,7 @@ fn reason_of(word: &[u8]) -> Option<Reason>
     }
 }
 
-/// `REASON PLACE VALUE`
+// `REASON PLACE VALUE`
 #[tactic(auto, unfolding(crate::specs::Copies::malformed_said))]
 fn malformed(rest: Rest<'_>) -> Option<TookCopy>
     ensures { result ≡ malformed_said (words_in rest.entry) }
@@ -103,7 +103,7 @@ fn malformed(rest: Rest<'_>) -> Option<TookCopy>
     })
 }
 
-/// The bytes that hexadecimal digits of either case spell, or none where the word is `-`.
+// The bytes that hexadecimal digits of either case spell, or none where the word is `-`.
 fn bytes_of(alloc: Global, word: &[u8]) -> Result<Option<Bytes>, Memory>
     ensures { (bytes : List ℕ) → IsBytes bytes → word.now ≡ hex_word bytes
         → IfOk result (λ b. b ≡ Some bytes) }
@@ -120,7 +120,7 @@ fn bytes_of(alloc: Global, word: &[u8]) -> Result<Option<Bytes>, Memory>
     }
 }
 
-/// The message that the digits of a word mean.
+// The message that the digits of a word mean.
 fn decoded(alloc: Global, word: &[u8], table: &Table, message: u32) -> Result<Option<Tree>, Memory>
     requires valid { IsValid table.now }
     requires known { message < length table.now.messages }
@@ -140,7 +140,7 @@ fn decoded(alloc: Global, word: &[u8], table: &Table, message: u32) -> Result<Op
     }
 }
 
-/// A hexadecimal digit.
+// A hexadecimal digit.
 fn digit(value: u8) -> u8
     requires { value < 16 }
     ensures { result ≡ slice_index lower_digits value }
@@ -148,7 +148,7 @@ fn digit(value: u8) -> u8
     DIGITS[usize::from(value)]
 }
 
-/// What stands behind the two digits of a byte, where a word begins with them.
+// What stands behind the two digits of a byte, where a word begins with them.
 fn behind_digits(word: &[u8], byte: u8) -> Option<&[u8]>
     ensures { MatchOption result ((rest : List ℕ) → word.now ≡ with_digits byte rest → ⊥)
         (λ rest. word.now ≡ with_digits byte rest.now) }
@@ -162,7 +162,7 @@ fn behind_digits(word: &[u8], byte: u8) -> Option<&[u8]>
     Some(others)
 }
 
-/// Whether a word is the digits of these bytes.
+// Whether a word is the digits of these bytes.
 fn are_digits(word: &[u8], bytes: &[u8]) -> bool
     ensures { result ≡ bytes_eq word.now (encode_lower bytes.now) }
 {
@@ -176,7 +176,7 @@ fn are_digits(word: &[u8], bytes: &[u8]) -> bool
     is_word(left, b"")
 }
 
-/// Whether a word has the digits of these bytes.
+// Whether a word has the digits of these bytes.
 fn spells(word: &[u8], bytes: &[u8]) -> bool
     ensures { result ≡ bytes_eq word.now (hex_word bytes.now) }
 {
@@ -186,7 +186,7 @@ fn spells(word: &[u8], bytes: &[u8]) -> bool
     are_digits(word, bytes)
 }
 
-/// The message whose encoding a word spells. What the digits mean is encoded again, so that no other spelling is taken.
+// The message whose encoding a word spells. What the digits mean is encoded again, so that no other spelling is taken.
 fn copied(alloc: Global, word: &[u8], table: &Table, message: u32) -> Result<Option<Tree>, Memory>
     requires valid { IsValid table.now }
     requires known { message < length table.now.messages }
@@ -204,7 +204,7 @@ fn copied(alloc: Global, word: &[u8], table: &Table, message: u32) -> Result<Opt
     }
 }
 
-/// The word of a copy, as the last one. (No other text spells an encoding: no space is a digit.)
+// The word of a copy, as the last one. (No other text spells an encoding: no space is a digit.)
 fn copy_at(
     alloc: Global,
     rest: Rest<'_>,
@@ -222,7 +222,7 @@ fn copy_at(
     }
 }
 
-/// What was taken of a call of a method. A copy has a method that the table has.
+// What was taken of a call of a method. A copy has a method that the table has.
 fn copy(
     alloc: Global,
     rest: Rest<'_>,

@@ -19,6 +19,7 @@ mod laws;
 mod line;
 mod reading;
 mod record;
+mod row;
 mod step;
 mod what;
 mod word;

@@ -42,14 +42,14 @@ pub enum AuditLine {
     },
 }
 
-/// Whether a word is the name of an engine, or that of the queue for transport.
+// Whether a word is the name of an engine, or that of the queue for transport.
 fn is_queue_name(word: &[u8]) -> bool
     ensures { result ≡ is_queue_name word.now }
 {
     is_name_form(word) || is_word(word, b"-")
 }
 
-/// `held LEVEL COST`, or nothing.
+// `held LEVEL COST`, or nothing.
 #[tactic(auto, unfolding(crate::specs::LineWords::holding_said))]
 fn holding(rest: Rest<'_>) -> Option<Option<Holding>>
     ensures { result ≡ holding_said (words_in rest.entry) }
@@ -65,7 +65,7 @@ fn holding(rest: Rest<'_>) -> Option<Option<Holding>>
     Some(Some(Holding { level, cost }))
 }
 
-/// `SEQ POSITION NAME`, and whether the call is held.
+// `SEQ POSITION NAME`, and whether the call is held.
 #[tactic(auto, unfolding(crate::specs::LineWords::stands_said))]
 fn stands(alloc: Global, conn: u32, rest: Rest<'_>) -> Result<Option<AuditLine>, Memory>
     ensures { IfOk result (λ x. x ≡ stands_said conn (words_in rest.entry)) }
@@ -95,7 +95,7 @@ fn stands(alloc: Global, conn: u32, rest: Rest<'_>) -> Result<Option<AuditLine>,
     }))
 }
 
-/// A happening of a kind, by the words behind the connection.
+// A happening of a kind, by the words behind the connection.
 fn what(
     alloc: Global,
     kind: Kind,
@@ -127,7 +127,7 @@ fn what(
     }
 }
 
-/// A line, by its words.
+// A line, by its words.
 fn line_of(
     alloc: Global,
     text: &[u8],
@@ -155,7 +155,7 @@ fn line_of(
     }
 }
 
-/// What stands before the line feed at the end.
+// What stands before the line feed at the end.
 fn before_feed(line: &[u8]) -> Option<&[u8]>
     ensures { MatchOption result ((front : List ℕ) → line.now ≡ front ++ 10 ∷ [] → ⊥)
         (λ text. line.now ≡ text.now ++ 10 ∷ []) }

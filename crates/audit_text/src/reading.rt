@@ -36,7 +36,7 @@ impl From<Memory> for AuditFault {
     }
 }
 
-/// The place behind the first line feed of a text, or its end where there is none.
+// The place behind the first line feed of a text, or its end where there is none.
 fn line_end(text: &[u8]) -> usize
     ensures first { (front behind : List ℕ) → text.now ≡ front ++ 10 ∷ behind → All (λ c. c ≢ 10) front
         → result ≡ length front + 1 }
@@ -49,7 +49,7 @@ fn line_end(text: &[u8]) -> usize
     }
 }
 
-/// The first line of a text, with its line feed if it has one, and what stands behind it.
+// The first line of a text, with its line feed if it has one, and what stands behind it.
 fn first_line(text: &[u8]) -> (&[u8], &[u8])
     ensures joined { text.now ≡ result.0.now ++ result.1.now }
     ensures ends { (front behind : List ℕ) → text.now ≡ front ++ 10 ∷ behind → All (λ c. c ≢ 10) front
@@ -60,7 +60,7 @@ fn first_line(text: &[u8]) -> (&[u8], &[u8])
     (&text[..end], &text[end..])
 }
 
-/// The happening of a line, if it is one of a happening.
+// The happening of a line, if it is one of a happening.
 fn happening_in(line: Option<AuditLine>) -> Option<Happened>
     ensures { result ≡ happening_in line }
 {
@@ -71,7 +71,7 @@ fn happening_in(line: Option<AuditLine>) -> Option<Happened>
     }
 }
 
-/// The happening whose line stands at the front of a text, and what stands behind it; none where no such line does.
+// The happening whose line stands at the front of a text, and what stands behind it; none where no such line does.
 fn front_happening<'a>(
     alloc: Global,
     text: &'a [u8],

@@ -12,7 +12,7 @@ use mrpc_table::{Memory, Name, is_word};
 use policy_blocks::Declarations;
 use std::alloc::Global;
 
-/// The policy that was declared under a label.
+// The policy that was declared under a label.
 fn policy_under<'a>(declared: &'a Declarations, label: &[u8]) -> Option<&'a Policy>
     ensures { option_copied result ≡ policy_under label.now declared.now }
 {
@@ -20,7 +20,7 @@ fn policy_under<'a>(declared: &'a Declarations, label: &[u8]) -> Option<&'a Poli
     Some(&declared.policies().get(place)?.policy)
 }
 
-/// The label of a policy that was declared, as the last word, and the policy.
+// The label of a policy that was declared, as the last word, and the policy.
 #[tactic(auto, unfolding(crate::specs::Said::label_said))]
 fn labelled(
     alloc: Global,
@@ -43,7 +43,7 @@ fn labelled(
     Ok(Some((label, policy)))
 }
 
-/// `AT NAME POLICY`
+// `AT NAME POLICY`
 #[tactic(auto, unfolding(crate::specs::Said::attach_said))]
 fn attach(alloc: Global, rest: Rest<'_>, declared: &Declarations) -> Result<Option<Op>, Memory>
     ensures { IfOk result (λ x. x ≡ attach_said declared.now (words_in rest.entry)) }
@@ -66,7 +66,7 @@ fn attach(alloc: Global, rest: Rest<'_>, declared: &Declarations) -> Result<Opti
     }))
 }
 
-/// `NAME`
+// `NAME`
 #[tactic(auto, unfolding(crate::specs::Said::detach_said))]
 fn detach(alloc: Global, rest: Rest<'_>) -> Result<Option<Op>, Memory>
     ensures { IfOk result (λ x. x ≡ detach_said (words_in rest.entry)) }
@@ -81,7 +81,7 @@ fn detach(alloc: Global, rest: Rest<'_>) -> Result<Option<Op>, Memory>
     Ok(Some(Op::Detach { name }))
 }
 
-/// `NAME POLICY`
+// `NAME POLICY`
 #[tactic(auto, unfolding(crate::specs::Said::upgrade_said))]
 fn upgrade(alloc: Global, rest: Rest<'_>, declared: &Declarations) -> Result<Option<Op>, Memory>
     ensures { IfOk result (λ x. x ≡ upgrade_said declared.now (words_in rest.entry)) }

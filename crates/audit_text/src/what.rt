@@ -90,7 +90,7 @@ pub(crate) fn sent(rest: Rest<'_>) -> Option<Happening>
     Some(Happening::Sent { seq, bytes })
 }
 
-/// `SEQ NAME`, and what is left.
+// `SEQ NAME`, and what is left.
 #[tactic(auto, unfolding(crate::specs::Said::noted_said))]
 fn noted(rest: Rest<'_>) -> Option<(u32, &[u8], Rest<'_>)>
     ensures { option_map (λ p. (p.0, p.1.now, words_in p.2)) result ≡ noted_said (words_in rest.entry) }
@@ -168,7 +168,7 @@ pub(crate) fn redacted(alloc: Global, rest: Rest<'_>) -> Result<Option<Happening
     Ok(Some(Happening::Redacted { seq, name, version }))
 }
 
-/// `NAME VERSION RULE`
+// `NAME VERSION RULE`
 #[tactic(auto, unfolding(crate::specs::Said::access_said))]
 fn access(alloc: Global, rest: Rest<'_>) -> Result<Option<Cause>, Memory>
     ensures { IfOk result (λ x. x ≡ access_said (words_in rest.entry)) }
@@ -194,7 +194,7 @@ fn access(alloc: Global, rest: Rest<'_>) -> Result<Option<Cause>, Memory>
     }))
 }
 
-/// A name and two numbers, of a refusal by an entry that counts.
+// A name and two numbers, of a refusal by an entry that counts.
 #[tactic(auto, unfolding(crate::specs::Said::by_entry_said))]
 fn by_entry(rest: Rest<'_>) -> Option<(&[u8], u64, u64)>
     ensures { option_map (λ p. (p.0.now, p.1, p.2)) result ≡ by_entry_said (words_in rest.entry) }
@@ -205,7 +205,7 @@ fn by_entry(rest: Rest<'_>) -> Option<(&[u8], u64, u64)>
     Some((name, first, second))
 }
 
-/// `NAME LEVEL COST`
+// `NAME LEVEL COST`
 #[tactic(auto, unfolding(crate::specs::Said::rate_said))]
 fn rate(alloc: Global, rest: Rest<'_>) -> Result<Option<Cause>, Memory>
     ensures { IfOk result (λ x. x ≡ rate_said (words_in rest.entry)) }
@@ -217,7 +217,7 @@ fn rate(alloc: Global, rest: Rest<'_>) -> Result<Option<Cause>, Memory>
     Ok(Some(Cause::Rate { name, level, cost }))
 }
 
-/// `NAME TICKET CAP`
+// `NAME TICKET CAP`
 #[tactic(auto, unfolding(crate::specs::Said::quota_said))]
 fn quota(alloc: Global, rest: Rest<'_>) -> Result<Option<Cause>, Memory>
     ensures { IfOk result (λ x. x ≡ quota_said (words_in rest.entry)) }
@@ -229,7 +229,7 @@ fn quota(alloc: Global, rest: Rest<'_>) -> Result<Option<Cause>, Memory>
     Ok(Some(Cause::Quota { name, ticket, cap }))
 }
 
-/// Why a call was refused.
+// Why a call was refused.
 #[tactic(auto, unfolding(crate::specs::Said::cause_said))]
 fn cause(alloc: Global, rest: Rest<'_>) -> Result<Option<Cause>, Memory>
     ensures { IfOk result (λ x. x ≡ cause_said (words_in rest.entry)) }

@@ -33,10 +33,10 @@ pub(crate) fn end(rest: Rest<'_>) -> Option<()>
     }
 }
 
-/// So many digits spell a number of 64 bits, whichever they are.
+// So many digits spell a number of 64 bits, whichever they are.
 const FEW_DIGITS: usize = 19;
 
-/// Whether digits are a number: there are some, and no zero stands in front of others.
+// Whether digits are a number: there are some, and no zero stands in front of others.
 fn is_number(digits: &[u8]) -> bool
     requires { list_all is_ascii_digit digits.now ≡ true }
     ensures { result ≡ is_decimal digits.now }
@@ -47,8 +47,8 @@ fn is_number(digits: &[u8]) -> bool
     }
 }
 
-/// The number that the first digits of a text spell, at most 19 of them, and what stands behind these; none where they
-/// are no number.
+// The number that the first digits of a text spell, at most 19 of them, and what stands behind these; none where they
+// are no number.
 fn front_number(text: &[u8]) -> Option<(u64, &[u8])>
     ensures { IfSome result (λ r. IsNumberBefore text.now r.0 r.1.now) }
 {
@@ -65,7 +65,7 @@ fn front_number(text: &[u8]) -> Option<(u64, &[u8])>
     Some((number, &text[count..]))
 }
 
-/// What stands behind the space with which a text begins.
+// What stands behind the space with which a text begins.
 fn behind_space(text: &[u8]) -> Option<&[u8]>
     ensures { IfSome result (λ r. text.now ≡ 32 ∷ r.now) }
 {
@@ -75,7 +75,7 @@ fn behind_space(text: &[u8]) -> Option<&[u8]>
     }
 }
 
-/// A number of few digits as the first word, and what is left. None where the first word is another.
+// A number of few digits as the first word, and what is left. None where the first word is another.
 fn short_number(text: &[u8]) -> Option<(u64, Rest<'_>)>
     ensures { IfSome result (λ p. number_said (2 ^ 64) (words_of text.now) ≡ Some (p.0, words_in p.1)) }
 {
@@ -87,7 +87,7 @@ fn short_number(text: &[u8]) -> Option<(u64, Rest<'_>)>
     Some((number, Some(others)))
 }
 
-/// A number of 64 bits, by its whole word.
+// A number of 64 bits, by its whole word.
 #[tactic(auto, unfolding(crate::specs::Reading::number_said))]
 fn any_number(rest: Rest<'_>) -> Option<(u64, Rest<'_>)>
     ensures { option_map (λ p. (p.0, words_in p.1)) result ≡ number_said (2 ^ 64) (words_in rest.entry) }

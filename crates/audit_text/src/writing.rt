@@ -10,11 +10,15 @@ ghost use Rattle.audit_text.specs.Pieces.{behind_spaces, note_line, told_copy};
 ghost use Rattle.call_history.specs.declared.happening.Happening.TheVariants.{Took};
 
 use crate::holding::Holding;
+use crate::row::{put_front, put_line, put_note};
 use call_history::{Cause, Happened, Happening, Taken, TookCopy};
 use engine_core::Op;
 use mrpc_table::{Bytes, Memory, Table};
 use std::alloc::Global;
 use wire_encode::encode;
+
+// How many bytes are made in a row, before they are appended at once. What is longer is appended word by word.
+const ROOM: usize = 128;
 
 /// The audit line of a happening, with its line feed. The format is this project's own. The only error is `Memory`.
 pub fn audit_line(alloc: Global, happened: &Happened, table: &Table) -> Result<Bytes, Memory>
@@ -200,6 +204,19 @@ pub(crate) fn append_name(out: &mut Bytes, name: &[u8]) -> Result<(), Memory>
 pub(crate) fn begin(out: &mut Bytes, front: &[u8], numbers: &[u64]) -> Result<(), Memory>
     ensures { OnOk result (out.new ≡ out.old ++ (front.now ++ behind_spaces (map decimal numbers.now))) }
 {
+    let mut row = [0; ROOM];
+    match put_front(&mut row, ROOM, front, numbers) {
+        Some(start) => out.append(&row[start..]),
+        None => begin_by_words(out, front, numbers),
+    }
+}
+
+// The same, a word after another.
+#[cold]
+#[inline(never)]
+fn begin_by_words(out: &mut Bytes, front: &[u8], numbers: &[u64]) -> Result<(), Memory>
+    ensures { OnOk result (out.new ≡ out.old ++ (front.now ++ behind_spaces (map decimal numbers.now))) }
+{
     out.append(front)?;
     for number in numbers {
         out.append_word(*number)?;
@@ -211,7 +228,20 @@ pub(crate) fn begin(out: &mut Bytes, front: &[u8], numbers: &[u64]) -> Result<()
 pub(crate) fn append_numbers(out: &mut Bytes, word: &[u8], numbers: &[u64]) -> Result<(), Memory>
     ensures { OnOk result (out.new ≡ out.old ++ line (word.now ∷ map decimal numbers.now)) }
 {
-    begin(out, word, numbers)?;
+    let mut row = [0; ROOM];
+    match put_line(&mut row, word, numbers) {
+        Some(start) => out.append(&row[start..]),
+        None => append_numbers_by_words(out, word, numbers),
+    }
+}
+
+// The same, a word after another.
+#[cold]
+#[inline(never)]
+fn append_numbers_by_words(out: &mut Bytes, word: &[u8], numbers: &[u64]) -> Result<(), Memory>
+    ensures { OnOk result (out.new ≡ out.old ++ line (word.now ∷ map decimal numbers.now)) }
+{
+    begin_by_words(out, word, numbers)?;
     out.push(b'\n')
 }
 
@@ -226,9 +256,29 @@ pub(crate) fn append_note(
 ) -> Result<(), Memory>
     ensures { OnOk result (out.new ≡ out.old ++ note_line word.now conn seq name.now numbers.now) }
 {
-    begin(out, word, &[u64::from(conn), u64::from(seq)])?;
+    let mut row = [0; ROOM];
+    match put_note(&mut row, word, conn, seq, name, numbers) {
+        Some(start) => out.append(&row[start..]),
+        None => append_note_by_words(out, word, conn, seq, name, numbers),
+    }
+}
+
+// The same, a word after another.
+#[cold]
+#[inline(never)]
+fn append_note_by_words(
+    out: &mut Bytes,
+    word: &[u8],
+    conn: u32,
+    seq: u32,
+    name: &[u8],
+    numbers: &[u64],
+) -> Result<(), Memory>
+    ensures { OnOk result (out.new ≡ out.old ++ note_line word.now conn seq name.now numbers.now) }
+{
+    begin_by_words(out, word, &[u64::from(conn), u64::from(seq)])?;
     append_name(out, name)?;
-    begin(out, b"", numbers)?;
+    begin_by_words(out, b"", numbers)?;
     out.push(b'\n')
 }
 

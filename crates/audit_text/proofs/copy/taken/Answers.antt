@@ -16,4 +16,5 @@ returns-in-None c =
 pub returns-in-Some-2 : goal.returns-in-Some-2
 returns-in-Some-2 c =
     let head : head_said (words_in c.args.rest) ≡ Some (c.in-Some.head, words_in c.in-Some.rest) = search rules in
-    some-copy c.args.table.now (words_in c.args.rest) (words_in c.in-Some.rest) c.in-Some.head c.in-Some-2.copy c.copy.result head c.copy.ensures (c.in_ok-copy.was ∙ ap (λ r. Ok r) c.in-Some-2.is)
+    some-copy c.args.table.now (words_in c.args.rest) (words_in c.in-Some.rest) c.in-Some.head c.in-Some-2.copy
+    c.copy.result head c.copy.ensures (c.in_ok-copy.was ∙ ap (λ r. Ok r) c.in-Some-2.is)

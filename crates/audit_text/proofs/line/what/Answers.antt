@@ -4,7 +4,9 @@ use Rattle.audit_text.specs.Reading.{words_in}
 use Rattle.audit_text.specs.Said.{away_said, charged_said, counted_said, drawn_said, moment_said, redacted_said, refused_said, sent_said, step_said}
 use Rattle.audit_text.specs.declared.what.Kind.TheVariants as kinds
 use Rattle.audit_text.proofs.Causes.{op-none, op-said, refused-read, refused-said}
-use Rattle.audit_text.proofs.KindLines.{IsTold, away-read, away-said, charged-read, charged-said, counted-read, counted-said, drawn-read, drawn-said, moment-read, moment-said, redacted-read, redacted-said, sent-read, sent-said}
+use Rattle.audit_text.proofs.KindLines.{IsTold, away-read, away-said, charged-read, charged-said, counted-read}
+use Rattle.audit_text.proofs.KindLines.{counted-said, drawn-read, drawn-said, moment-read, moment-said, redacted-read}
+use Rattle.audit_text.proofs.KindLines.{redacted-said, sent-read, sent-said}
 use Rattle.audit_text.proofs.LineParts.{reads-kind}
 use Rattle.audit_text.proofs.Said.{reads-by}
 use Rattle.audit_text.proofs.line.what.Goals as goal

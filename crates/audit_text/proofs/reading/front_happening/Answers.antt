@@ -12,5 +12,6 @@ returns-in-None-clause-told c =
 pub returns-in-Some-clause-told : goal.returns-in-Some-clause-told
 returns-in-Some-clause-told c =
     let some : happening_in c.in_ok-read_line.field-0 ≡ Some c.in-Some.happened = sym c.happening_in.ensures ∙ c.in-Some.is in
-    let front = front-some c.args.table.now c.args.declared.now c.first_line.result.0.now c.in_ok-read_line.field-0 c.in-Some.happened c.in_ok-read_line.ensures.told c.in_ok-read_line.ensures.writable some in
+    let front = front-some c.args.table.now c.args.declared.now c.first_line.result.0.now c.in_ok-read_line.field-0
+    c.in-Some.happened c.in_ok-read_line.ensures.told c.in_ok-read_line.ensures.writable some in
     (c.first_line.ensures.joined ∙ ap (λ l. l ++ c.first_line.result.1.now) front.0, front.1)

@@ -15,7 +15,8 @@ returns-in_default-clause-only c =
     let rest = c.loop-rest.rest.now in
     let some : rest ≢ [] = search rules in
     let none : HasNoLine T declared rest = search rules in
-    absurd (no-history c.a_text_has_one_history.ensures.front T c.requires declared c.loop-rest.history h rest c.loop-rest.invariant.told all some none (sym c.loop-rest.invariant.text ∙ e))
+    absurd (no-history c.a_text_has_one_history.ensures.front T c.requires declared c.loop-rest.history h rest
+    c.loop-rest.invariant.told all some none (sym c.loop-rest.invariant.text ∙ e))
 
 pub loop-rest-preserved : goal.loop-rest-preserved
 loop-rest-preserved c =
@@ -40,5 +41,7 @@ returns-clause-only c =
     λ h all e.
     let zero : length c.loop-rest.rest.now ≡ 0 = search rules in
     let none : c.loop-rest.rest.now ≡ [] = nothing-left c.loop-rest.rest.now zero in
-    let text : c.args.text.now ≡ audit c.args.table.now c.loop-rest.history = c.loop-rest.invariant.text ∙ ap (λ r. audit c.args.table.now c.loop-rest.history ++ r) none ∙ append-nil (audit c.args.table.now c.loop-rest.history) in
+    let text : c.args.text.now ≡ audit c.args.table.now c.loop-rest.history =
+    c.loop-rest.invariant.text ∙ ap (λ r. audit c.args.table.now c.loop-rest.history ++ r) none
+    ∙ append-nil (audit c.args.table.now c.loop-rest.history) in
     c.a_text_has_one_history.ensures.text c.args.table.now c.args.declared.now c.loop-rest.history h c.requires c.loop-rest.invariant.told all (sym text ∙ e)

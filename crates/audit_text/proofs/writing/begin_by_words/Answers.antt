@@ -3,7 +3,7 @@ use Rattle.std.specs.List.{flat_map}
 use Rattle.std.proofs.lemmas.Grind.{common_steps}
 use Rattle.std.specs.Fmt.{decimal}
 use Rattle.audit_text.proofs.Pieces.{numbers-spaced}
-use Rattle.audit_text.proofs.writing.begin.Goals as goal
+use Rattle.audit_text.proofs.writing.begin_by_words.Goals as goal
 
 pub returns : goal.returns
 returns c =

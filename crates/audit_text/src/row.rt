@@ -1,0 +1,102 @@
+//! Rows of bytes that are written from the last byte to the first, since so the digits of a number come.
+
+ghost use Rattle.std.specs.Prelude.{◌≡◌, ◌≤◌, ◌∷◌, ◌++◌, [], IfSome, drop, length, map};
+ghost use Rattle.std.specs.Fmt.{decimal};
+ghost use Rattle.mrpc_table.specs.Text.{line};
+ghost use Rattle.audit_text.specs.Pieces.{behind_spaces, note_line};
+ghost use Rattle.audit_text.specs.Written.{StandsBefore};
+
+/// Writes a byte in front of what stands from `end` on, and says where it stands; none where no room is left.
+#[inline(always)]
+pub(crate) fn put_byte(row: &mut [u8], end: usize, byte: u8) -> Option<usize>
+    requires { end ≤ length row.old }
+    ensures { IfSome result (StandsBefore row.old row.new end (byte ∷ [])) }
+{
+    if end == 0 {
+        return None;
+    }
+    row[end - 1] = byte;
+    Some(end - 1)
+}
+
+/// The same for bytes.
+#[inline(always)]
+pub(crate) fn put_bytes(row: &mut [u8], end: usize, bytes: &[u8]) -> Option<usize>
+    requires { end ≤ length row.old }
+    ensures { IfSome result (StandsBefore row.old row.new end bytes.now) }
+{
+    if bytes.len() > end {
+        return None;
+    }
+    let start = end - bytes.len();
+    row[start..end].copy_from_slice(bytes);
+    Some(start)
+}
+
+/// The same for the digits of a decimal number, behind a space.
+pub(crate) fn put_number(row: &mut [u8], end: usize, number: u64) -> Option<usize>
+    requires { end ≤ length row.old }
+    ensures { IfSome result (StandsBefore row.old row.new end (32 ∷ decimal number)) }
+{
+    let mut start = end;
+    let mut left = number;
+    while left >= 10 {
+        start = put_byte(row, start, b'0' + (left % 10) as u8)?;
+        left /= 10;
+    }
+    let start = put_byte(row, start, b'0' + left as u8)?;
+    put_byte(row, start, b' ')
+}
+
+/// The same for numbers, each behind a space.
+#[inline(always)]
+pub(crate) fn put_numbers(row: &mut [u8], end: usize, numbers: &[u64]) -> Option<usize>
+    requires { end ≤ length row.old }
+    ensures { IfSome result (StandsBefore row.old row.new end (behind_spaces (map decimal numbers.now))) }
+{
+    let mut start = end;
+    for place in (0..numbers.len()).rev() {
+        start = put_number(row, start, numbers[place])?;
+    }
+    Some(start)
+}
+
+/// The same for what a line begins with, and numbers behind it.
+#[inline(always)]
+pub(crate) fn put_front(row: &mut [u8], end: usize, front: &[u8], numbers: &[u64]) -> Option<usize>
+    requires { end ≤ length row.old }
+    ensures { IfSome result (StandsBefore row.old row.new end (front.now ++ behind_spaces (map decimal numbers.now))) }
+{
+    let start = put_numbers(row, end, numbers)?;
+    put_bytes(row, start, front)
+}
+
+/// The same at the end of a row for a line of a word and numbers.
+pub(crate) fn put_line(row: &mut [u8], word: &[u8], numbers: &[u64]) -> Option<usize>
+    ensures { IfSome result (StandsBefore row.old row.new (length row.old)
+        (line (word.now ∷ map decimal numbers.now))) }
+{
+    let end = row.len();
+    let feed = put_byte(row, end, b'\n')?;
+    put_front(row, feed, word, numbers)
+}
+
+/// The same for the line of what an entry noted of a call.
+pub(crate) fn put_note(
+    row: &mut [u8],
+    word: &[u8],
+    conn: u32,
+    seq: u32,
+    name: &[u8],
+    numbers: &[u64],
+) -> Option<usize>
+    ensures { IfSome result (StandsBefore row.old row.new (length row.old)
+        (note_line word.now conn seq name.now numbers.now)) }
+{
+    let end = row.len();
+    let feed = put_byte(row, end, b'\n')?;
+    let told = put_numbers(row, feed, numbers)?;
+    let named = put_bytes(row, told, name)?;
+    let space = put_byte(row, named, b' ')?;
+    put_front(row, space, word, &[u64::from(conn), u64::from(seq)])
+}
