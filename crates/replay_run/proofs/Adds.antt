@@ -9,7 +9,9 @@ use Rattle.engine_core.specs.declared.outcome.Outcome.{Outcome}
 use Rattle.engine_core.specs.declared.outcome.Outcome.TheVariants as outcomes
 use Rattle.call_history.specs.Behind.{Behind, chain, standing, taken}
 use Rattle.call_history.specs.Draining.{Ending, at_rest, again, Turns, is_idle, is_held, redacts, goes, Passes, is_over, next, begins_again, SendsSome, none, one, BeginsToDrain}
-use Rattle.call_history.specs.Events.{Course, Comes, Event, accepts, operates, sends, shows, turns, turns_away, fails, takes, is_away, changes, rises, stays, has_turn, is_sent, link_failed, turned, note_behind, refused_for_link}
+use Rattle.call_history.specs.Events.{Course, Comes, Event, accepts, operates, sends, shows, turns, turns_away, fails}
+use Rattle.call_history.specs.Events.{takes, is_away, changes, rises, stays, has_turn, is_sent, link_failed, turned}
+use Rattle.call_history.specs.Events.{note_behind, refused_for_link}
 use Rattle.call_history.specs.Frames.{frames_behind}
 use Rattle.call_history.specs.Rules.{Under}
 use Rattle.call_history.specs.Tickets.{tickets_behind}

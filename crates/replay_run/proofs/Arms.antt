@@ -9,7 +9,8 @@ use Rattle.script_text.specs.Lines.{op_in}
 use Rattle.script_text.specs.declared.script.Line.{Line}
 use Rattle.script_text.specs.declared.script.Line.TheVariants as line
 use Rattle.script_text.specs.declared.script.Script.{Script}
-use Rattle.replay_run.specs.Kept.{AreInOrder, BrokenOn, BrokenWhere, DoesWhere, DoneOn, DoneWhere, IsListed, IsOf, IsResting, IsStored, Keeps, MayDo, MayOperate, OnRan, StoppedOn, StoppedWhere}
+use Rattle.replay_run.specs.Kept.{AreInOrder, BrokenOn, BrokenWhere, DoesWhere, DoneOn, DoneWhere, IsListed, IsOf}
+use Rattle.replay_run.specs.Kept.{IsResting, IsStored, Keeps, MayDo, MayOperate, OnRan, StoppedOn, StoppedWhere}
 use Rattle.replay_run.specs.declared.connection.Connection.{Connection}
 use Rattle.replay_run.specs.declared.stop.Stop.{Stop}
 use Rattle.replay_run.specs.declared.stop.Stop.TheVariants.{Memory, Out, Wire}
@@ -119,7 +120,8 @@ may-operate s (line.Drain conn) c is may = absurd is
 pub done-at : (s : Script) (l k : Line) (c d : Connection) (q q' : Counters) (w w' : Option (List ℕ)) → l ≡ k → DoneOn s k c d q q' w w' → DoneOn s l c d q q' w w'
 done-at s l k c d q q' w w' is done = subst (λ (m : Line). DoneOn s m c d q q' w w') (sym is) done
 
-pub ran-at : (s : Script) (l : Line) (line_on : ℕ → Line) (c d : Connection) (q q' : Counters) (w w' : Option (List ℕ)) (result : Result (Unit {0}) Stop) → IsOf s c → l ≡ line_on c.calls.conn
+pub ran-at : (s : Script) (l : Line) (line_on : ℕ → Line) (c d : Connection) (q q' : Counters)
+    (w w' : Option (List ℕ)) (result : Result (Unit {0}) Stop) → IsOf s c → l ≡ line_on c.calls.conn
     → OnRan result (DoneWhere line_on c d q q' w w') (BrokenWhere line_on c d q q' w w') (StoppedWhere line_on c w w') ⊥
     → OnRan result (DoneOn s l c d q q' w w') (BrokenOn s l c d q q' w w') (StoppedOn s l c w w') ⊥
 ran-at s l line_on c d q q' w w' (Ok value) of_script is ran = subst (λ (m : Line). DoneOn s m c d q q' w w') (sym is) (ran s of_script)

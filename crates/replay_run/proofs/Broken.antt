@@ -81,7 +81,8 @@ send-broken written faults s c calls quotas x y of_script rests same step fault 
       draws = draws-none (course c.calls) (course calls) quotas (λ tenant window. failing-draws (under s c.calls.conn) (course c.calls) (course calls) tenant window comes);
       hands = record {
         more = [];
-        frames = frames-failed s.table c.calls.conn (under s c.calls.conn) (course c.calls) (course calls) comes ∙ sym (append-nil (frames_behind s.table c.calls.conn (course c.calls).past));
+        frames = frames-failed s.table c.calls.conn (under s c.calls.conn) (course c.calls) (course calls) comes
+            ∙ sym (append-nil (frames_behind s.table c.calls.conn (course c.calls).past));
         many = front.0;
         few = subst (λ T. front.0 < length (frame_of T call)) of_script.table front.1;
         told = subst (λ T. Appends (written (sink_of x)) (written (sink_of y)) (take front.0 (frame_of T call))) of_script.table front.2;

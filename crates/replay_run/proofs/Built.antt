@@ -1,5 +1,6 @@
 -- What some lines of a script have made of its connections: heaps, chains, and how many calls.
-use Rattle.std.proofs.Common.{◌≡◌, ◌≢◌, ℕ, ◌+◌, ◌≤◌, Bool, true, false, cond, List, [], ◌∷◌, ◌++◌, ◌⊎◌, inl, inr, length, refl, sym, ap, ◌∙◌, subst, length-append, arith}
+use Rattle.std.proofs.Common.{◌≡◌, ◌≢◌, ℕ, ◌+◌, ◌≤◌, Bool, true, false, cond, List, [], ◌∷◌, ◌++◌, ◌⊎◌, inl, inr}
+use Rattle.std.proofs.Common.{length, refl, sym, ap, ◌∙◌, subst, length-append, arith}
 use Rattle.std.specs.Prelude.{Option, Some, None, ◌==◌}
 use Rattle.std.specs.List.{AllByRecursion}
 use Rattle.std.proofs.lemmas.Bool.{eq-eqb, ne_eqb}
@@ -18,7 +19,9 @@ use Rattle.call_history.specs.Rules.{Under}
 use Rattle.call_history.specs.declared.happening.Taken.{Taken}
 use Rattle.call_history.specs.declared.happening.TookCopy.{TookCopy}
 use Rattle.call_history.specs.declared.happening.TookCopy.TheVariants.{Copy, Malformed}
-use Rattle.replay_run.specs.Follows.{Opened, under, come_to, Does, stores, races, submits, is_away as is_turned_away, operates_on, shows_it, is_idle, has_turn as does_turn, none_ready, is_sent as does_send, drains}
+use Rattle.replay_run.specs.Follows.{Opened, under, come_to, Does, stores, races, submits, is_away as is_turned_away}
+use Rattle.replay_run.specs.Follows.{operates_on, shows_it, is_idle, has_turn as does_turn, none_ready}
+use Rattle.replay_run.specs.Follows.{is_sent as does_send, drains}
 use Rattle.replay_run.proofs.Adds.{accepted_as, Adds, IsOfTurn, IsOfDrain, IsTurning, unmoved, chain-kept, taken-kept, turn-drains, adds-weaker, turning-adds, sending-adds, begins-adds}
 
 -- ---- one more line
@@ -123,7 +126,8 @@ same-or-other : (a b : ℕ) (test : Bool) → (a == b) ≡ test → (a ≡ b) �
 same-or-other a b true is = inl (same-number a b is)
 same-or-other a b false is = inr (λ same. let yes : (a == b) ≡ true = eq-eqb a b same in let no : true ≡ false = sym yes ∙ is in absurd cc)
 
-pub new-more : (loads : ℕ) (policies : List NamedPolicy) (before : List Line) (l : Line) → Allows loads policies before l → AreNew policies before → AreNew policies (before ++ l ∷ [])
+pub new-more : (loads : ℕ) (policies : List NamedPolicy) (before : List Line) (l : Line)
+    → Allows loads policies before l → AreNew policies before → AreNew policies (before ++ l ∷ [])
 new-more loads policies before l allows new conn none =
     let was : heap_of before conn ≡ None = was-none before l conn (heap_of before conn) refl none in
     elim (same-or-other (conn_of l) conn (conn_of l == conn) refl) [

@@ -1,5 +1,6 @@
 -- Bytes that are known, over two steps.
-use Rattle.std.proofs.Common.{◌≡◌, ℕ, ◌+◌, ◌≤◌, List, [], ◌∷◌, ◌++◌, length, take, Option, Some, None, sym, ap, ◌∙◌, subst, append_assoc, append-nil, length-append, zero-add, suc-add, arith}
+use Rattle.std.proofs.Common.{◌≡◌, ℕ, ◌+◌, ◌≤◌, List, [], ◌∷◌, ◌++◌, length, take, Option, Some, None, sym, ap, ◌∙◌}
+use Rattle.std.proofs.Common.{subst, append_assoc, append-nil, length-append, zero-add, suc-add, arith}
 use Rattle.std.specs.Io.KnownBytes.{Appends}
 use Rattle.replay_run.specs.Kept.{TellsSome}
 

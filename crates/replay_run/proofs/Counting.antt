@@ -1,5 +1,5 @@
 -- Tickets that are given in turn count up: so do those in front of others, and the last is the number of those before.
-use Rattle.std.proofs.Common.{◌≡◌, ℕ, suc, ◌+◌, List, [], ◌∷◌, ◌++◌, length, refl, ◌∙◌, arith}
+use Rattle.std.proofs.Common.{◌≡◌, ℕ, suc, ◌+◌, List, [], ◌∷◌, ◌++◌, length, refl, arith}
 use Rattle.std.specs.List.{range_with_len}
 
 -- numbers that count up from one

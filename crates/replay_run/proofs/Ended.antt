@@ -75,7 +75,8 @@ module _ {W : Type 0} (written : W → Option (List ℕ)) (faults : W → ℕ) w
       drain-done s c calls quotas quotas' (written (sink_of x)) (written (sink_of y)) of_script rests same drained draws
       (handed-on written faults c.calls calls x y same hands later none)
 
-  pub drain-short : (s : Script) (c : Connection) (calls : Calls) (x y : ByteLink W) → IsOf s c → IsSame c.calls calls → BeginsToDrain (under_in c.calls) (course c.calls) (course calls)
+  pub drain-short : (s : Script) (c : Connection) (calls : Calls) (x y : ByteLink W) → IsOf s c → IsSame c.calls calls
+      → BeginsToDrain (under_in c.calls) (course c.calls) (course calls)
       → Hands c.calls calls (frames_of x) (frames_of y) → IsLater written faults x y → failures_of y ≡ 0
       → StoppedOn s (line.Drain c.calls.conn) c (written (sink_of x)) (written (sink_of y))
   drain-short s c calls x y of_script same begins hands later none =

@@ -21,7 +21,8 @@ use Rattle.replay_run.proofs.Lines.{openings, Lacks}
 use Rattle.replay_run.proofs.Spelled.{event-spells}
 use Rattle.replay_run.proofs.Sound.{IsNext, Stands, AreSound, start-stands, leads-stand, goes-stand, gets-next, one-course, one-spelled}
 
-pub allowed-front : (loads : ℕ) (policies : List NamedPolicy) (before lines rest : List Line) → AreAllowed loads policies before (lines ++ rest) → AreAllowed loads policies before lines
+pub allowed-front : (loads : ℕ) (policies : List NamedPolicy) (before lines rest : List Line)
+    → AreAllowed loads policies before (lines ++ rest) → AreAllowed loads policies before lines
 allowed-front loads policies before [] rest allowed = tt
 allowed-front loads policies before (l ∷ lines) rest allowed = (allowed.0, allowed-front loads policies (before ++ l ∷ []) lines rest allowed.1)
 
@@ -38,7 +39,8 @@ module _ (laws : HistoryLaws) (s : Script) (script : IsScript s) where
   gets-opens-none l old c (by_send is same) = ap (λ k. openings (k ∷ [])) is
   gets-opens-none l old c (by_drain is begins) = ap (λ k. openings (k ∷ [])) is
 
-  fails-next : (l : Line) (old new : Opened) (tried : Call) → IsCourse (under s old.conn) old.course → AreSpelled s.table old.words s.loads old.course.past old.loads → Fails s l old tried new → IsNext s old new
+  fails-next : (l : Line) (old new : Opened) (tried : Call) → IsCourse (under s old.conn) old.course
+      → AreSpelled s.table old.words s.loads old.course.past old.loads → Fails s l old tried new → IsNext s old new
   fails-next l old new tried course spelled failing =
       let reached = gets-next laws s l old failing.at course spelled failing.gets in
       subst (IsNext s old) (sym failing.same) (record {
@@ -52,7 +54,8 @@ module _ (laws : HistoryLaws) (s : Script) (script : IsScript s) where
   until-stands tried end f =
       let before : Stands laws s f.lines f.before = front-stands f.lines (f.failing ∷ f.behind) f.before f.order f.leads in
       goes-stand laws s f.lines f.failing f.before end f.one f.other (gets-opens-none f.failing f.one f.fails.at f.fails.gets) before f.goes
-      (fails-next f.failing f.one f.other tried (one-course laws s f.lines f.before end f.one f.other before f.goes) (one-spelled laws s f.lines f.before end f.one f.other before f.goes) f.fails)
+      (fails-next f.failing f.one f.other tried (one-course laws s f.lines f.before end f.one f.other before f.goes)
+      (one-spelled laws s f.lines f.before end f.one f.other before f.goes) f.fails)
 
   pub whole-stands : (end : State) → Follows s end → Stands laws s s.lines end
   whole-stands end f = leads-stand laws s [] s.lines start end script.lines (start-stands laws s) f.leads
@@ -89,5 +92,7 @@ module _ (laws : HistoryLaws) (s : Script) (script : IsScript s) where
   pub tried-allowed : (tried : Call) (end : State) (f : LeadsUntil s tried end) → IsAllowed (under s f.one.conn) f.fails.at f.fails.seq
   tried-allowed tried end f =
       let before : Stands laws s f.lines f.before = front-stands f.lines (f.failing ∷ f.behind) f.before f.order f.leads in
-      let reached = gets-next laws s f.failing f.one f.fails.at (one-course laws s f.lines f.before end f.one f.other before f.goes) (one-spelled laws s f.lines f.before end f.one f.other before f.goes) f.fails.gets in
+      let reached = gets-next laws s f.failing f.one f.fails.at
+      (one-course laws s f.lines f.before end f.one f.other before f.goes)
+      (one-spelled laws s f.lines f.before end f.one f.other before f.goes) f.fails.gets in
       ready-allowed (under s f.one.conn) f.fails.at f.fails.seq f.fails.bytes reached.course f.fails.ready

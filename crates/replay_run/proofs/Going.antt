@@ -24,7 +24,9 @@ module _ (laws : HistoryLaws) (s : Script) where
     pub built : AreBuilt s before st.opened
     pub new : AreNew s.declared.policies before
 
-  built-behind : (before : List Line) (l : Line) (os : List Opened) → AllByRecursion (λ n. n ≢ conn_of l) (numbers laws s os) → AreBuilt s before os → AreBuilt s (before ++ l ∷ []) os
+  built-behind : (before : List Line) (l : Line) (os : List Opened)
+      → AllByRecursion (λ n. n ≢ conn_of l) (numbers laws s os) → AreBuilt s before os
+      → AreBuilt s (before ++ l ∷ []) os
   built-behind before l [] apart built = tt
   built-behind before l (o ∷ os) apart built = (built-other s before l o apart.0 built.0, built-behind before l os apart.1 built.1)
 
@@ -41,7 +43,9 @@ module _ (laws : HistoryLaws) (s : Script) where
   built-at before [] back o built = built.0
   built-at before (x ∷ front) back o built = built-at before front back o built.1
 
-  built-more : (before : List Line) (l : Line) (os : List Opened) (o : Opened) → AllByRecursion (λ n. n ≢ conn_of l) (numbers laws s os) → AreBuilt s before os → IsBuilt s (before ++ l ∷ []) o
+  built-more : (before : List Line) (l : Line) (os : List Opened) (o : Opened)
+      → AllByRecursion (λ n. n ≢ conn_of l) (numbers laws s os) → AreBuilt s before os
+      → IsBuilt s (before ++ l ∷ []) o
       → AreBuilt s (before ++ l ∷ []) (os ++ o ∷ [])
   built-more before l [] o apart built one = (one, tt)
   built-more before l (x ∷ os) o apart built one = (built-other s before l x apart.0 built.0, built-more before l os o apart.1 built.1 one)
@@ -70,7 +74,8 @@ module _ (laws : HistoryLaws) (s : Script) where
         few = omega arith;
       })
 
-  pub step-known : (before : List Line) (l : Line) (old new : State) → Allows s.loads s.declared.policies before l → IsKnown before old → Step s old l new → IsKnown (before ++ l ∷ []) new
+  pub step-known : (before : List Line) (l : Line) (old new : State) → Allows s.loads s.declared.policies before l
+      → IsKnown before old → Step s old l new → IsKnown (before ++ l ∷ []) new
   step-known before l old new allows known (opens conn words is makes) = record {
     stands = step-stands laws s before l old new allows known.stands (opens conn words is makes);
     built = subst (λ k. AreBuilt s (before ++ k ∷ []) new.opened) (sym is) (subst (λ (st : State). AreBuilt s (before ++ line.Conn conn words ∷ []) st.opened) (sym makes)
@@ -83,7 +88,8 @@ module _ (laws : HistoryLaws) (s : Script) where
     new = new-more s.loads s.declared.policies before l allows known.new;
   }
 
-  pub leads-known : (before lines : List Line) (old new : State) → AreAllowed s.loads s.declared.policies before lines → IsKnown before old → Leads s old lines new → IsKnown (before ++ lines) new
+  pub leads-known : (before lines : List Line) (old new : State) → AreAllowed s.loads s.declared.policies before lines
+      → IsKnown before old → Leads s old lines new → IsKnown (before ++ lines) new
   leads-known before [] old new allowed known same = subst (λ ls. IsKnown ls new) (sym (append-nil before)) (subst (IsKnown before) (sym same) known)
   leads-known before (l ∷ lines) old new allowed known leads =
       subst (λ ls. IsKnown ls new) (append_assoc before (l ∷ []) lines)
@@ -99,7 +105,9 @@ module _ (laws : HistoryLaws) (s : Script) where
       start-known leads
 
   -- the line behind them may stand there
-  allowed-behind : (before lines : List Line) (l : Line) (rest : List Line) → AreAllowed s.loads s.declared.policies before (lines ++ l ∷ rest) → Allows s.loads s.declared.policies (before ++ lines) l
+  allowed-behind : (before lines : List Line) (l : Line) (rest : List Line)
+      → AreAllowed s.loads s.declared.policies before (lines ++ l ∷ rest)
+      → Allows s.loads s.declared.policies (before ++ lines) l
   allowed-behind before [] l rest allowed = subst (λ ls. Allows s.loads s.declared.policies ls l) (sym (append-nil before)) allowed.0
   allowed-behind before (k ∷ lines) l rest allowed =
       subst (λ ls. Allows s.loads s.declared.policies ls l) (append_assoc before (k ∷ []) lines) (allowed-behind (before ++ k ∷ []) lines l rest allowed.1)

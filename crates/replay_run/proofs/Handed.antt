@@ -55,7 +55,8 @@ sending-past u old seq bytes new (is_sent s b is going ready makes) =
     ap (λ (c : Course). c.past) makes ∙ ap (λ n. Sent n b ∷ old.past) number ∙ ap (λ n. Sent seq n ∷ old.past) long
 sending-past u old seq bytes new (link_failed is makes) = cc
 
-pub send-done : (s : Script) (c : Connection) (seq bytes : ℕ) (calls : Calls) (quotas : Counters) (wire wire' : Option (List ℕ)) → IsOf s c → IsResting c.heap → IsSame c.calls calls
+pub send-done : (s : Script) (c : Connection) (seq bytes : ℕ) (calls : Calls) (quotas : Counters)
+    (wire wire' : Option (List ℕ)) → IsOf s c → IsResting c.heap → IsSame c.calls calls
     → Steps c.calls (sends seq bytes) calls → HandsOn c.calls.table c.calls.conn (course c.calls) (course calls) wire wire'
     → DoneOn s (line.Send c.calls.conn) c (with_calls c calls) quotas quotas wire wire'
 send-done s c seq bytes calls quotas wire wire' of_script rests same step hands =
@@ -71,7 +72,8 @@ send-done s c seq bytes calls quotas wire wire' of_script rests same step hands 
 
 -- no call is ready
 pub send-nothing : (s : Script) (c : Connection) (calls : Calls) (quotas : Counters) (wire : Option (List ℕ)) → IsOf s c → IsResting c.heap → IsSame c.calls calls
-    → first_at (length (chain (behind c.calls)).entries) c.calls.chain.row ≡ None → calls ≡ c.calls → DoneOn s (line.Send c.calls.conn) c (with_calls c calls) quotas quotas wire wire
+    → first_at (length (chain (behind c.calls)).entries) c.calls.chain.row ≡ None → calls ≡ c.calls
+    → DoneOn s (line.Send c.calls.conn) c (with_calls c calls) quotas quotas wire wire
 send-nothing s c calls quotas wire of_script rests same none still = record {
   does = none_ready refl none (ap (λ k. opened_of (with_calls c k)) still);
   keeps = keeps-by c calls same rests;

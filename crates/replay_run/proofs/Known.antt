@@ -13,7 +13,10 @@ use Rattle.call_history.specs.declared.happening.Happening.TheVariants.{Took, Aw
 use Rattle.call_history.specs.declared.happening.Taken.{Taken}
 use Rattle.call_history.specs.declared.happening.TookCopy.{TookCopy}
 use Rattle.call_history.specs.declared.happening.TookCopy.TheVariants.{Copy, Malformed}
-use Rattle.replay_run.specs.Follows.{Opened, State, start, new_one, under, come_to, Does, stores, races, submits, is_away as is_turned_away, operates_on, shows_it, is_idle as has_none, has_turn as does_turn, none_ready, is_sent as does_send, drains, GetsTo, by_send, by_drain, Fails, GoesOn, Step, opens, goes_on, Leads, LeadsUntil}
+use Rattle.replay_run.specs.Follows.{Opened, State, start, new_one, under, come_to, Does, stores, races, submits}
+use Rattle.replay_run.specs.Follows.{is_away as is_turned_away, operates_on, shows_it, is_idle as has_none}
+use Rattle.replay_run.specs.Follows.{has_turn as does_turn, none_ready, is_sent as does_send, drains, GetsTo, by_send}
+use Rattle.replay_run.specs.Follows.{by_drain, Fails, GoesOn, Step, opens, goes_on, Leads, LeadsUntil}
 use Rattle.replay_run.proofs.Adds.{accepted_as, Adds, IsOfDrain, IsTurning, all-append, all-weaker, begins-adds, turn-drains, turning-adds, adds-weaker, IsOfTurn}
 use Rattle.replay_run.proofs.Ready.{ArePolicies, IsGoodOption, IsGoodStep, IsModest, IsModestChain, op-good, step-modest}
 

@@ -1,5 +1,6 @@
 -- What a line of an open connection needs is there.
-use Rattle.std.proofs.Common.{◌≡◌, ◌≢◌, ℕ, suc, zero, get_or, length-append, ◌+◌, ◌<◌, ◌≤◌, ◌==◌, ◌^◌, ⊎_elim, Bool, true, false, cond, List, [], ◌∷◌, ◌++◌, length, map, refl, sym, ap, ◌∙◌, subst, arith}
+use Rattle.std.proofs.Common.{◌≡◌, ◌≢◌, ℕ, suc, zero, get_or, length-append, ◌+◌, ◌<◌, ◌≤◌, ◌==◌, ◌^◌, ⊎_elim, Bool}
+use Rattle.std.proofs.Common.{true, false, cond, List, [], ◌∷◌, ◌++◌, length, map, refl, sym, ap, ◌∙◌, subst, arith}
 use Rattle.std.specs.Prelude.{All, Option, Some, None, option_map, position, slice_get}
 use Rattle.std.specs.List.{AllByRecursion}
 use Rattle.std.proofs.lemmas.Bool.{cases_lt, ne_eqb}
@@ -105,7 +106,8 @@ module _ (s : Script) (script : IsScript s) where
       (cases_lt place (length s.declared.policies))
 
   -- the chain of a connection's engines is the one that the lines make
-  engines-chain : (lines : List Line) (c : Connection) → IsConnection c.calls → IsBuilt s lines (opened_of c) → chain_in c.calls.chain ≡ chain_of s.declared.policies lines c.calls.conn
+  engines-chain : (lines : List Line) (c : Connection) → IsConnection c.calls → IsBuilt s lines (opened_of c)
+      → chain_in c.calls.chain ≡ chain_of s.declared.policies lines c.calls.conn
   engines-chain lines c sound built = sound.same_chain ∙ built.chain_is
 
   engines-modest : (lines : List Line) (c : Connection) → IsConnection c.calls → IsBuilt s lines (opened_of c)

@@ -1,5 +1,6 @@
 -- What came on a connection behind a history of all: where its tickets are in turn, the next one is determined.
-use Rattle.std.proofs.Common.{◌≡◌, ℕ, ◌+◌, ◌==◌, ◌&&◌, Bool, true, false, cond, List, [], ◌∷◌, ◌++◌, length, refl, sym, ap, ◌∙◌, subst, append_assoc, append-nil}
+use Rattle.std.proofs.Common.{◌≡◌, ℕ, ◌==◌, ◌&&◌, Bool, true, false, cond, List, [], ◌∷◌, ◌++◌, length, refl}
+use Rattle.std.proofs.Common.{sym, ap, ◌∙◌, subst, append_assoc, append-nil}
 use Rattle.std.specs.Prelude.{Option, Some}
 use Rattle.std.specs.Option.{option_map_or}
 use Rattle.std.proofs.lemmas.Bool.{eq-eqb}
@@ -11,7 +12,6 @@ use Rattle.call_history.specs.declared.happening.Happening.{Happening}
 use Rattle.call_history.specs.declared.happening.Happening.TheVariants.{Drawn}
 use Rattle.replay_run.proofs.Adds.{Adds}
 use Rattle.replay_run.proofs.Counting.{CountsFrom, counts-end, counts-front}
-use Rattle.replay_run.proofs.Pieces.{append-cancel}
 
 -- what some happenings tell of a tenant's window, on top of others
 pub record Told (tenant window : ℕ) (old new : Behind) : Type 0 where
@@ -59,7 +59,8 @@ module _ (told : (tenant window : ℕ) → List ℕ) (base : Behind) where
         (subst (CountsFrom 0) (sym (append_assoc (told tenant window) t.more later_told.more)) (turn.counts tenant window both));
   }
 
-  next-ticket : (P : Happening → Type 0) (seq : ℕ) (name : List ℕ) (window ticket : ℕ) (past : Behind) (tenant per most : ℕ) → policy_of name past ≡ Some (Quota tenant per most)
+  next-ticket : (P : Happening → Type 0) (seq : ℕ) (name : List ℕ) (window ticket : ℕ) (past : Behind)
+      (tenant per most : ℕ) → policy_of name past ≡ Some (Quota tenant per most)
       → (adds : Adds P base past) → IsInTurn (Drawn seq name window ticket ∷ past) → ticket ≡ length (told tenant window ++ (told-by tenant window P base past adds).more)
   next-ticket P seq name window ticket past tenant per most policy adds turn =
       let t : Told tenant window base past = told-by tenant window P base past adds in
@@ -72,7 +73,8 @@ module _ (told : (tenant window : ℕ) → List ℕ) (base : Behind) where
       counts-end (told tenant window ++ t.more) ticket
       (subst (CountsFrom 0) (sym (append_assoc (told tenant window) t.more (ticket ∷ []))) (turn.counts tenant window both))
 
-  pub one-ticket : (P : Happening → Type 0) (seq : ℕ) (name : List ℕ) (window s t : ℕ) (past : Behind) (tenant per most : ℕ) → policy_of name past ≡ Some (Quota tenant per most)
+  pub one-ticket : (P : Happening → Type 0) (seq : ℕ) (name : List ℕ) (window s t : ℕ) (past : Behind)
+      (tenant per most : ℕ) → policy_of name past ≡ Some (Quota tenant per most)
       → Adds P base past → IsInTurn (Drawn seq name window s ∷ past) → IsInTurn (Drawn seq name window t ∷ past) → s ≡ t
   one-ticket P seq name window s t past tenant per most policy adds first second =
       next-ticket P seq name window s past tenant per most policy adds first ∙ sym (next-ticket P seq name window t past tenant per most policy adds second)

@@ -1,10 +1,10 @@
 -- A submission takes one call, by one list of loads.
-use Rattle.std.proofs.Common.{◌≡◌, ℕ, ◌+◌, ◌<◌, ◌≤◌, List, [], length, refl, sym, ap, ◌∙◌, subst, arith}
+use Rattle.std.proofs.Common.{◌≡◌, ℕ, ◌<◌, ◌≤◌, [], length, sym, ap, ◌∙◌, subst, arith}
 use Rattle.mrpc_table.specs.Calls.{message_at}
 use Rattle.mrpc_table.specs.declared.table.Table.{Table}
 use Rattle.graph_form.specs.Malformed.{ComesTo, Outcome, ReadsBy, copied, malformed}
 use Rattle.graph_form.specs.declared.reason.Reason.TheVariants.{NoMethod}
-use Rattle.call_history.specs.Behind.{standing, taken}
+use Rattle.call_history.specs.Behind.{standing}
 use Rattle.call_history.specs.Events.{Comes, Course, accepts, turns_away, takes, is_away, changes, rises, stays, has_turn, is_sent, link_failed}
 use Rattle.call_history.specs.Loads.{IsLoaded, IsTaken, Loads, is_copied, is_malformed, no_method}
 use Rattle.call_history.specs.Rules.{MayTake, Under}
@@ -62,7 +62,8 @@ module _ (laws : OneLaws) (T : Table) (H limit : ℕ) (reads : ℕ → ℕ → �
       let alike = laws.reading T H (message_at T method number) addr limit reads own other outcome result read reads-too comes comes_too in
       (alike.0, is ∙ ap copy_of alike.1 ∙ sym is_too)
 
-  same-taken : (x y : Taken) → x.seq ≡ y.seq → x.method ≡ y.method → x.number ≡ y.number → x.addr ≡ y.addr → x.after ≡ y.after → x.count ≡ y.count → x.copy ≡ y.copy → x ≡ y
+  same-taken : (x y : Taken) → x.seq ≡ y.seq → x.method ≡ y.method → x.number ≡ y.number → x.addr ≡ y.addr
+      → x.after ≡ y.after → x.count ≡ y.count → x.copy ≡ y.copy → x ≡ y
   same-taken x y seq method number addr after count copy = λ i. record {
     seq = seq i;
     method = method i;
@@ -74,7 +75,8 @@ module _ (laws : OneLaws) (T : Table) (H limit : ℕ) (reads : ℕ → ℕ → �
   }
 
   -- of one method, number and address, behind one past and one number of stores
-  pub calls-alike : (u : Under) (old : Course) (x y : Taken) (own other : Loads) → MayTake u old.past x → MayTake u old.past y → x.method ≡ y.method → x.number ≡ y.number → x.addr ≡ y.addr
+  pub calls-alike : (u : Under) (old : Course) (x y : Taken) (own other : Loads) → MayTake u old.past x
+      → MayTake u old.past y → x.method ≡ y.method → x.number ≡ y.number → x.addr ≡ y.addr
       → x.after ≡ y.after → ReadsBy reads 1 own → ReadsBy reads 1 other → IsLoaded T H limit x own → IsLoaded T H limit y other → (own ≡ other) × (x ≡ y)
   calls-alike u old x y own other may may_too method number addr after read reads-too loaded loaded_too =
       let second : IsTaken T H limit x.method x.number x.addr other y.copy =

@@ -1,6 +1,6 @@
 -- What one drain of a connection does, another does, up to the shorter of them: each turn comes out alike, where
 -- tickets are in turn, and calls are sent in one order.
-use Rattle.std.proofs.Common.{◌≡◌, ◌≢◌, ℕ, ◌+◌, ◌<◌, ◌⊎◌, inl, inr, List, [], ◌∷◌, ◌++◌, length, slice_get, refl, sym, ap, ◌∙◌, subst, arith}
+use Rattle.std.proofs.Common.{◌≡◌, ℕ, ◌+◌, ◌<◌, ◌⊎◌, inl, inr, List, length, refl, sym, ap, ◌∙◌, subst, arith}
 use Rattle.std.specs.Prelude.{None, Some}
 use Rattle.mrpc_table.specs.declared.call.Call.{Call}
 use Rattle.frame_transport.specs.declared.format.TheConstants.{HEADER_LEN}
@@ -8,17 +8,14 @@ use Rattle.engine_core.specs.Answers.{note, ticket_in}
 use Rattle.engine_core.specs.Chains.{Entry}
 use Rattle.engine_core.specs.Moves.{first_at}
 use Rattle.engine_core.specs.Turns.{ComesOut, noted_in}
-use Rattle.engine_core.specs.declared.outcome.Noted.{Noted}
-use Rattle.engine_core.specs.declared.outcome.Noted.TheVariants as notes
 use Rattle.engine_core.specs.declared.outcome.Outcome.{Outcome}
 use Rattle.engine_core.specs.declared.outcome.Outcome.TheVariants as outcomes
-use Rattle.engine_core.specs.declared.policy.Policy.TheVariants.{Quota}
 use Rattle.call_history.specs.Behind.{Behind, chain, form, level, moment, noted, policy_of}
 use Rattle.call_history.specs.Draining.{Ending, at_rest, again, IsDone, Turns, is_idle, is_held, redacts, goes, Passes, is_over, next, begins_again, SendsSome, none, one, BeginsToDrain}
 use Rattle.call_history.specs.Events.{Comes, Course, HasTurn, IsCourse, IsReady, note_behind, sends, turned, turns, takes, is_away, changes, rises, stays, has_turn, is_sent, link_failed}
 use Rattle.call_history.specs.Rules.{Under, payload}
-use Rattle.call_history.specs.declared.happening.Happening.TheVariants.{Drawn, Redacted, Refused}
-use Rattle.replay_run.proofs.Adds.{Adds, IsOfDrain, adds-more, adds-nothing, adds-one, begins-adds, passes-add, sending-adds, sends-add, turned-drains, turns-add}
+use Rattle.call_history.specs.declared.happening.Happening.TheVariants.{Redacted}
+use Rattle.replay_run.proofs.Adds.{Adds, IsOfDrain, adds-more, adds-nothing, adds-one, passes-add, sends-add, turned-drains, turns-add}
 use Rattle.replay_run.proofs.Named.{policy-at}
 use Rattle.replay_run.proofs.NextTicket.{IsInTurn, earlier, one-ticket}
 use Rattle.replay_run.proofs.OneLaws.{OneLaws}
@@ -175,7 +172,8 @@ module _ (laws : OneLaws) (u : Under) (told : (tenant window : ℕ) → List ℕ
       turns-course position (turned e seq outcome c) other d (turn-course position seq outcome e c course turn) rest
 
   behind-turn : (e : Entry) (seq : ℕ) (outcome : Outcome) (c : Course) → Adds IsAny base c.past → Adds IsAny base (turned e seq outcome c).past
-  behind-turn e seq outcome c above = adds-more IsAny base c.past (turned e seq outcome c).past above (any-adds IsOfDrain c.past (turned e seq outcome c).past (turned-drains e seq outcome c))
+  behind-turn e seq outcome c above = adds-more IsAny base c.past (turned e seq outcome c).past above
+      (any-adds IsOfDrain c.past (turned e seq outcome c).past (turned-drains e seq outcome c))
 
   -- a turn of one entry with one call
   same-outcome : (c : Course) (position seq : ℕ) (a b : Outcome) (e : Entry) → IsCourse u c → Adds IsAny base c.past → HasTurn u c position seq a e → HasTurn u c position seq b e
@@ -188,8 +186,12 @@ module _ (laws : OneLaws) (u : Under) (told : (tenant window : ℕ) → List ℕ
       (subst (λ (call : Call). ComesOut e.policy (level e.name c.past) (moment c.past) call (noted e.name seq c.past) b) same second.comes)
       (λ tenant per most window s t is drawn_a drawn_b.
       one-ticket told base IsAny seq e.name window s t c.past tenant per most (policy ∙ ap (λ p. Some p) is) above
-      (subst (λ n. TurnsInTurn (note_behind e.name seq n c.past)) drawn_a (earlier told base IsAny (note_behind e.name seq (noted_in a) c.past) (turned e seq a c).past (note-first e seq a c) turn-a))
-      (subst (λ n. TurnsInTurn (note_behind e.name seq n c.past)) drawn_b (earlier told base IsAny (note_behind e.name seq (noted_in b) c.past) (turned e seq b c).past (note-first e seq b c) turn-b)))
+      (subst (λ n. TurnsInTurn (note_behind e.name seq n c.past)) drawn_a
+      (earlier told base IsAny (note_behind e.name seq (noted_in a) c.past) (turned e seq a c).past
+      (note-first e seq a c) turn-a))
+      (subst (λ n. TurnsInTurn (note_behind e.name seq n c.past)) drawn_b
+      (earlier told base IsAny (note_behind e.name seq (noted_in b) c.past) (turned e seq b c).past
+      (note-first e seq b c) turn-b)))
       (noted_in a) (noted_in b) refl refl
 
   -- a turn at a position
@@ -237,7 +239,9 @@ module _ (laws : OneLaws) (u : Under) (told : (tenant window : ℕ) → List ℕ
         (earlier told base IsOfDrain (turned entry seq outcome c).past d.past (turns-add u position (turned entry seq outcome c) ending d rest) turn-x)
         (earlier told base IsOfDrain (turned other s result c).past y.past adds turn-y) in
         let others = gone-on u position outcome (turned entry seq outcome c) f y done (subst (λ (k : AllTurn). TurnsBehind u position k.1 (turned k.2 k.0 k.1 c) f y) alike behind) in
-        turns-alike position (turned entry seq outcome c) ending f d y (turn-course position seq outcome entry c course turn) (behind-turn entry seq outcome c above) rest others turn-x turn-y
+        turns-alike position (turned entry seq outcome c) ending f d y
+        (turn-course position seq outcome entry c course turn) (behind-turn entry seq outcome c above) rest others
+        turn-x turn-y
         )
   ]
 
@@ -246,7 +250,8 @@ module _ (laws : OneLaws) (u : Under) (told : (tenant window : ℕ) → List ℕ
   above-turns : (position : ℕ) (old : Course) (ending : Ending) (new : Course) → Adds IsAny base old.past → Turns u position old ending new → Adds IsAny base new.past
   above-turns position old ending new above these = adds-more IsAny base old.past new.past above (any-adds IsOfDrain old.past new.past (turns-add u position old ending new these))
 
-  passes-alike : (position : ℕ) (old x y : Course) → IsCourse u old → Adds IsAny base old.past → Passes u position old x → Passes u position old y → TurnsInTurn x.past → TurnsInTurn y.past
+  passes-alike : (position : ℕ) (old x y : Course) → IsCourse u old → Adds IsAny base old.past
+      → Passes u position old x → Passes u position old y → TurnsInTurn x.past → TurnsInTurn y.past
       → x ≡ y
   passes-alike position old x y course above (is_over p c end) second turn-x turn-y = elim (passes-by u p c y second) [
     | no_entry ended same ↦ sym same

@@ -1,5 +1,6 @@
 -- Two sendings that fail behind as many calls that were sent are one.
-use Rattle.std.proofs.Common.{◌≡◌, ℕ, suc, ◌+◌, ◌<◌, ◌≤◌, ◌⊎◌, inl, inr, List, [], ◌∷◌, ◌++◌, length, map, reverse, refl, sym, ap, ◌∙◌, subst, append_assoc, append-nil, length-append, arith}
+use Rattle.std.proofs.Common.{◌≡◌, ℕ, ◌+◌, ◌<◌, ◌≤◌, ◌⊎◌, inl, inr, List, [], ◌∷◌, ◌++◌, length, map, reverse}
+use Rattle.std.proofs.Common.{refl, sym, ap, ◌∙◌, subst, append_assoc, append-nil, length-append, arith}
 use Rattle.std.specs.Prelude.{None}
 use Rattle.std.specs.List.{AllByRecursion}
 use Rattle.mrpc_table.specs.declared.call.Call.{Call}
@@ -13,11 +14,12 @@ use Rattle.call_history.specs.Behind.{Behind, chain}
 use Rattle.call_history.specs.Draining.{BeginsToDrain, SendsSome}
 use Rattle.call_history.specs.Events.{Comes, Course, IsCourse, IsReady, fails, sends, takes, is_away, changes, rises, stays, has_turn, is_sent, link_failed}
 use Rattle.call_history.specs.Frames.{frames, frames_behind, handed_by}
-use Rattle.call_history.specs.Legal.{History, behind}
+use Rattle.call_history.specs.Legal.{behind}
 use Rattle.call_history.specs.Rules.{Under}
 use Rattle.call_history.specs.declared.happening.Happening.{Happening}
 use Rattle.call_history.specs.declared.happening.Happening.TheVariants.{Sent}
-use Rattle.replay_run.specs.Follows.{Opened, State, start, under, come_to, Does, Fails, GetsTo, by_drain, by_send, GoesOn, Step, opens, goes_on, on_connection, Leads, FollowsUntil, LeadsUntil}
+use Rattle.replay_run.specs.Follows.{Opened, State, start, under, come_to, Does, Fails, GetsTo, by_drain, by_send}
+use Rattle.replay_run.specs.Follows.{GoesOn, Step, opens, goes_on, on_connection, Leads, FollowsUntil}
 use Rattle.replay_run.specs.Sound.{IsSoundOn}
 use Rattle.replay_run.specs.Tickets.{tickets}
 use Rattle.replay_run.proofs.Adds.{Adds, IsOfDrain, IsOfTurn, adds-nothing, sends-add, turning-adds}
@@ -25,7 +27,7 @@ use Rattle.replay_run.proofs.Broken.{frames-failed}
 use Rattle.replay_run.proofs.Followed.{allowed-front, front-stands}
 use Rattle.replay_run.proofs.GivenLaws.{HistoryLaws}
 use Rattle.replay_run.proofs.NextTicket.{IsInTurn, earlier}
-use Rattle.replay_run.proofs.OneDrain.{by_one, drains-alike, no-first, no_more, none-sent, one-ready, sends-by, sends-ready}
+use Rattle.replay_run.proofs.OneDrain.{by_one, drains-alike, no-first, no_more, none-sent, one-ready, sends-by}
 use Rattle.replay_run.proofs.OneLaws.{OneLaws}
 use Rattle.replay_run.proofs.OneLine.{DoesBy, DrainsAll, Idles, SendsOne, does-by}
 use Rattle.replay_run.proofs.OneScript.{AreCounted, counted-before, counted-in-turn, goes-alike, goes-in-turn, leads-alike, leads-grow, together}
@@ -142,7 +144,8 @@ module _ (laws : OneLaws) (s : Script) (told : (tenant window : ℕ) → List �
   not-ready a b seq bytes same empty ready =
       no-first (seq, length (chain b.past).entries) (sym empty ∙ ap (λ (k : Course). first_at (length (chain k.past).entries) k.row) same ∙ ready.first)
 
-  sending-more : (at : Course) (seq bytes : ℕ) (other : Opened) → at ≡ one.course → IsReady u at seq bytes → Idles (length (chain one.course.past).entries) one other ⊎ SendsOne s one other
+  sending-more : (at : Course) (seq bytes : ℕ) (other : Opened) → at ≡ one.course → IsReady u at seq bytes
+      → Idles (length (chain one.course.past).entries) one other ⊎ SendsOne s one other
       → count at < count other.course
   sending-more at seq bytes other same ready (inl idle) = absurd (not-ready one.course at seq bytes (sym same) idle.empty ready)
   sending-more at seq bytes other same ready (inr sent) =
@@ -205,10 +208,14 @@ module _ (laws : OneLaws) (s : Script) where
       → all new + many s.table one.conn one.course.past ≡ all old + many s.table one.conn c.past
   goes-count before old new one other c stands goes same =
       let T : Table = s.table in
-      let here : one.course.past ≡ behind one.conn old.history = (sound-at h-laws s old.history goes.front goes.back one (subst (λ os. AllByRecursion (IsSoundOn s old.history) os) goes.before stands.each)).past in
+      let here : one.course.past ≡ behind one.conn old.history =
+      (sound-at h-laws s old.history goes.front goes.back one
+      (subst (λ os. AllByRecursion (IsSoundOn s old.history) os) goes.before stands.each)).past in
       let now : other.course.past ≡ behind one.conn (old.history ++ map (on_connection one.conn) goes.piece) =
       goes.past ∙ ap (λ p. reverse goes.piece ++ p) here ∙ sym (behind-own h-laws s one.conn old.history goes.piece) in
-      let hands : Hands T one.conn one.course.past other.course.past = subst (Hands T one.conn one.course.past) (sym goes.past) (hands-over T one.conn (reverse goes.piece) one.course.past) in
+      let hands : Hands T one.conn one.course.past other.course.past =
+      subst (Hands T one.conn one.course.past) (sym goes.past)
+      (hands-over T one.conn (reverse goes.piece) one.course.past) in
       let history : frames T (old.history ++ map (on_connection one.conn) goes.piece) ≡ frames T old.history ++ hands.more =
       frames-more h-laws T one.conn old.history goes.piece hands.more
       (ap (frames_behind T one.conn) (sym now) ∙ hands.is ∙ ap (λ p. frames_behind T one.conn p ++ hands.more) here) in
@@ -273,7 +280,8 @@ module _ (laws : OneLaws) (s : Script) where
 
   module _ (script : IsScript s) where
     -- no line whose sending fails stands in front of one that fails behind as many calls
-    never-sooner : (x y : State) (tried instead : Call) (a : FollowsUntil s tried x) (b : FollowsUntil s instead y) (between : List Line) → b.until.lines ≡ a.until.lines ++ a.until.failing ∷ between
+    never-sooner : (x y : State) (tried instead : Call) (a : FollowsUntil s tried x) (b : FollowsUntil s instead y)
+        (between : List Line) → b.until.lines ≡ a.until.lines ++ a.until.failing ∷ between
         → all x ≡ all y → ⊥
     never-sooner x y tried instead a b between is counts =
         let f = failure-of x tried script a in
@@ -282,7 +290,8 @@ module _ (laws : OneLaws) (s : Script) where
         let grown = leads-grow laws s cut.mid (a.until.failing ∷ between) b.until.before cut.back in
         let counted_mid : AreCounted cut.mid.history = counted-before laws s cut.mid.history grown.more
         (subst AreCounted grown.is (before-counted y b.until.lines b.until.failing b.until.before b.until.one b.until.other instead g)) in
-        let allowed = allowed-front s.loads s.declared.policies [] a.until.lines (a.until.failing ∷ a.until.behind) (subst (AreAllowed s.loads s.declared.policies []) a.until.order script.lines) in
+        let allowed = allowed-front s.loads s.declared.policies [] a.until.lines (a.until.failing ∷ a.until.behind)
+        (subst (AreAllowed s.loads s.declared.policies []) a.until.order script.lines) in
         let same : cut.mid ≡ a.until.before =
         leads-alike laws s [] a.until.lines start cut.mid a.until.before allowed (start-stands h-laws s) cut.front a.until.leads counted_mid
         (before-counted x a.until.lines a.until.failing a.until.before a.until.one a.until.other tried f) in
@@ -301,7 +310,8 @@ module _ (laws : OneLaws) (s : Script) where
     same-line : (x y : State) (lines : List Line) (l : Line) (before : State) (one two other another : Opened) (tried instead : Call) → Failure x lines l before one other tried
         → Failure y lines l before two another instead → all x ≡ all y → (tried ≡ instead) × (x ≡ y)
     same-line x y lines l before one two other another tried instead f g counts =
-        let same : one ≡ two = goes-alike laws s lines before x y one other two another f.stands f.goes g.goes (sym (fails-on l one other tried f.failing) ∙ fails-on l two another instead g.failing) in
+        let same : one ≡ two = goes-alike laws s lines before x y one other two another f.stands f.goes g.goes
+        (sym (fails-on l one other tried f.failing) ∙ fails-on l two another instead g.failing) in
         let g_so : Failure y lines l before one another instead = subst (λ (o : Opened). Failure y lines l before o another instead) (sym same) g in
         let count_x = failed-count x lines l before one other tried f in
         let count_y = failed-count y lines l before one another instead g_so in
@@ -315,7 +325,8 @@ module _ (laws : OneLaws) (s : Script) where
     same-place x y tried instead a b same_lines same_line counts =
         let f = failure-of x tried script a in
         let g = failure-of y instead script b in
-        let allowed = allowed-front s.loads s.declared.policies [] a.until.lines (a.until.failing ∷ a.until.behind) (subst (AreAllowed s.loads s.declared.policies []) a.until.order script.lines) in
+        let allowed = allowed-front s.loads s.declared.policies [] a.until.lines (a.until.failing ∷ a.until.behind)
+        (subst (AreAllowed s.loads s.declared.policies []) a.until.order script.lines) in
         let same : a.until.before ≡ b.until.before =
         leads-alike laws s [] a.until.lines start a.until.before b.until.before allowed (start-stands h-laws s) a.until.leads
         (subst (λ ls. Leads s start ls b.until.before) (sym same_lines) b.until.leads)

@@ -1,5 +1,5 @@
 -- A line leads an open connection to one other, where the tickets that are drawn on the way are in turn.
-use Rattle.std.proofs.Common.{◌≡◌, ℕ, ◌+◌, ◌<◌, ◌⊎◌, inl, inr, List, [], ◌∷◌, ◌++◌, length, refl, sym, ap, ◌∙◌, subst, arith}
+use Rattle.std.proofs.Common.{◌≡◌, ℕ, ◌<◌, ◌⊎◌, inl, inr, List, [], ◌∷◌, ◌++◌, length, refl, sym, ap, ◌∙◌, subst, arith}
 use Rattle.std.specs.Prelude.{None, Option, Some}
 use Rattle.mrpc_base.specs.Heap.{races_with}
 use Rattle.engine_core.specs.Moves.{first_at}
@@ -14,7 +14,9 @@ use Rattle.script_text.specs.declared.script.Line.TheVariants as line
 use Rattle.script_text.specs.declared.script.Script.{Script}
 use Rattle.call_history.specs.Behind.{Behind, chain, standing}
 use Rattle.call_history.specs.Draining.{Drains}
-use Rattle.call_history.specs.Events.{Comes, Course, HasTurn, IsCourse, accepts, operates, sends, shows, turned, turns, turns_away, takes, is_away as turned_away, changes, rises, stays as stays_so, has_turn as comes_round, is_sent as goes_out, link_failed}
+use Rattle.call_history.specs.Events.{Comes, Course, HasTurn, IsCourse, accepts, operates, sends, shows, turned}
+use Rattle.call_history.specs.Events.{turns, turns_away, takes, is_away as turned_away, changes, rises}
+use Rattle.call_history.specs.Events.{stays as stays_so, has_turn as comes_round, is_sent as goes_out, link_failed}
 use Rattle.call_history.specs.Loads.{IsLoaded, Loads}
 use Rattle.call_history.specs.Rules.{Under}
 use Rattle.call_history.specs.declared.happening.Taken.{Taken}
@@ -197,7 +199,8 @@ module _ (laws : OneLaws) (s : Script) (told : (tenant window : ℕ) → List �
       let both : Some first.op ≡ Some second.op = sym first.is ∙ second.is in
       let same : second.op ≡ first.op = cc in
       first.makes
-      ∙ ap (come_to old) (laws.end u old.course first.course second.course (operates first.op) first.comes (subst (λ (o : Op). Comes u old.course (operates o) second.course) same second.comes))
+      ∙ ap (come_to old) (laws.end u old.course first.course second.course (operates first.op) first.comes
+      (subst (λ (o : Op). Comes u old.course (operates o) second.course) same second.comes))
       ∙ sym second.makes
 
   course-turn : (c : Course) (x : Opened) → x ≡ come_to old c → TurnsInTurn x.course.past → TurnsInTurn c.past
@@ -208,7 +211,8 @@ module _ (laws : OneLaws) (s : Script) (told : (tenant window : ℕ) → List �
       let one = turns-one u old.course position first.seq first.outcome first.course first.comes in
       let two = turns-one u old.course position second.seq second.outcome second.course second.comes in
       let alike : of_turn second.seq second.outcome two.entry ≡ of_turn first.seq first.outcome one.entry =
-      turn-alike laws u told old.course.past old.course position first.seq second.seq first.outcome second.outcome one.entry two.entry course (adds-nothing IsAny old.course.past) one.turn two.turn
+      turn-alike laws u told old.course.past old.course position first.seq second.seq first.outcome second.outcome
+      one.entry two.entry course (adds-nothing IsAny old.course.past) one.turn two.turn
       (subst (λ (c : Course). TurnsInTurn c.past) one.makes (course-turn first.course x first.makes turn-x))
       (subst (λ (c : Course). TurnsInTurn c.past) two.makes (course-turn second.course y second.makes turn-y)) in
       first.makes ∙ ap (come_to old) (one.makes ∙ ap (λ (k : AllTurn). turned k.2 k.0 k.1 old.course) (sym alike) ∙ sym two.makes) ∙ sym second.makes
@@ -238,7 +242,8 @@ module _ (laws : OneLaws) (s : Script) (told : (tenant window : ℕ) → List �
       (sends-ready u old.course second.seq second.bytes second.course second.comes) in
       first.makes
       ∙ ap (come_to old) (laws.end u old.course first.course second.course (sends first.seq first.bytes) first.comes
-      (subst (λ n. Comes u old.course (sends first.seq n) second.course) (sym alike.long) (subst (λ n. Comes u old.course (sends n second.bytes) second.course) (sym alike.number) second.comes)))
+      (subst (λ n. Comes u old.course (sends first.seq n) second.course) (sym alike.long)
+      (subst (λ n. Comes u old.course (sends n second.bytes) second.course) (sym alike.number) second.comes)))
       ∙ sym second.makes
 
   draining-alike : (x y : Opened) → DrainsAll s old x → DrainsAll s old y → TurnsInTurn x.course.past → TurnsInTurn y.course.past → x ≡ y

@@ -1,24 +1,23 @@
 -- A script leads to one state, whole and up to a sending that fails behind as many calls that were sent.
-use Rattle.std.proofs.Common.{◌≡◌, ◌≢◌, ℕ, suc, ◌+◌, ◌<◌, ◌≤◌, ◌⊎◌, inl, inr, List, [], ◌∷◌, ◌++◌, length, map, reverse, refl, sym, ap, ◌∙◌, subst, append_assoc, append-nil, length-append, arith}
+use Rattle.std.proofs.Common.{◌≡◌, ◌≢◌, ℕ, List, [], ◌∷◌, ◌++◌, map}
+use Rattle.std.proofs.Common.{reverse, refl, sym, ap, ◌∙◌, subst, append_assoc, append-nil}
 use Rattle.std.proofs.lemmas.List.{reverse-append, reverse-reverse}
 use Rattle.std.specs.List.{AllByRecursion}
-use Rattle.mrpc_table.specs.declared.call.Call.{Call}
-use Rattle.script_text.specs.Lines.{AreAllowed, IsScript, conn_of}
+use Rattle.script_text.specs.Lines.{AreAllowed, IsScript}
 use Rattle.script_text.specs.declared.script.Line.{Line}
 use Rattle.script_text.specs.declared.script.Line.TheVariants as line
 use Rattle.script_text.specs.declared.script.Script.{Script}
 use Rattle.call_history.specs.Behind.{Behind}
-use Rattle.call_history.specs.Events.{IsCourse}
 use Rattle.call_history.specs.Legal.{History, behind}
 use Rattle.call_history.specs.Tickets.{tickets_behind}
 use Rattle.replay_run.specs.Sound.{IsSoundOn}
 use Rattle.call_history.specs.declared.happening.Happening.{Happening}
-use Rattle.replay_run.specs.Follows.{Opened, State, start, new_one, under, Does, GoesOn, Step, opens, goes_on, on_connection, Leads, Follows}
+use Rattle.replay_run.specs.Follows.{Opened, State, start, new_one, Does, GoesOn, Step, opens, goes_on, on_connection, Leads, Follows}
 use Rattle.replay_run.specs.Tickets.{AreInTurn, tickets}
 use Rattle.replay_run.proofs.Counting.{CountsFrom, counts-front, counts-range}
 use Rattle.replay_run.proofs.GivenLaws.{HistoryLaws}
 use Rattle.replay_run.proofs.Lines.{AreApart}
-use Rattle.replay_run.proofs.NextTicket.{IsInTurn, Told}
+use Rattle.replay_run.proofs.NextTicket.{IsInTurn}
 use Rattle.replay_run.proofs.OneLaws.{OneLaws}
 use Rattle.replay_run.proofs.OneLine.{does-alike, does-by}
 use Rattle.replay_run.proofs.Pieces.{append-cancel, tickets-further, tickets-more}
@@ -119,7 +118,8 @@ module _ (laws : OneLaws) (s : Script) where
       (one-place first.front second.front one two first.back second.back (sym first.before ∙ second.before)
       (subst AreApart (sym (ap conns (sym first.before) ∙ stands.are)) stands.apart) same).here
 
-  goes-together : (before : List Line) (old new last : State) (one other another : Opened) → Stands h-laws s before old → GoesOn old one other new → GoesOn old one another last → other ≡ another
+  goes-together : (before : List Line) (old new last : State) (one other another : Opened)
+      → Stands h-laws s before old → GoesOn old one other new → GoesOn old one another last → other ≡ another
       → new ≡ last
   goes-together before old new last one other another stands first second same =
       let place = one-place first.front second.front one one first.back second.back (sym first.before ∙ second.before)
@@ -131,12 +131,14 @@ module _ (laws : OneLaws) (s : Script) where
       let history : new.history ≡ last.history = first.history ∙ ap (λ xs. old.history ++ map (on_connection one.conn) xs) piece ∙ sym second.history in
       λ i. record { opened = opened i; history = history i }
 
-  pub together : (before : List Line) (old new last : State) (one other two another : Opened) → Stands h-laws s before old → GoesOn old one other new → GoesOn old two another last → one ≡ two
+  pub together : (before : List Line) (old new last : State) (one other two another : Opened)
+      → Stands h-laws s before old → GoesOn old one other new → GoesOn old two another last → one ≡ two
       → other ≡ another → new ≡ last
   together before old new last one other two another stands first second same ends =
       goes-together before old new last one other another stands first (subst (λ (o : Opened). GoesOn old o another last) (sym same) second) ends
 
-  step-alike : (before : List Line) (l : Line) (old x y : State) → Stands h-laws s before old → Step s old l x → Step s old l y → AreCounted x.history → AreCounted y.history → x ≡ y
+  step-alike : (before : List Line) (l : Line) (old x y : State) → Stands h-laws s before old → Step s old l x
+      → Step s old l y → AreCounted x.history → AreCounted y.history → x ≡ y
   step-alike before l old x y stands (opens conn words is makes) (opens other many is_too makes_too) counted counted_too =
       let same : line.Conn conn words ≡ line.Conn other many = sym is ∙ is_too in
       let number : conn ≡ other = cc in
@@ -156,7 +158,8 @@ module _ (laws : OneLaws) (s : Script) where
 
   -- ---- all lines
 
-  pub leads-alike : (before lines : List Line) (old x y : State) → AreAllowed s.loads s.declared.policies before lines → Stands h-laws s before old → Leads s old lines x → Leads s old lines y
+  pub leads-alike : (before lines : List Line) (old x y : State) → AreAllowed s.loads s.declared.policies before lines
+      → Stands h-laws s before old → Leads s old lines x → Leads s old lines y
       → AreCounted x.history → AreCounted y.history → x ≡ y
   leads-alike before [] old x y allowed stands first second counted counted_too = first ∙ sym second
   leads-alike before (l ∷ lines) old x y allowed stands first second counted counted_too =

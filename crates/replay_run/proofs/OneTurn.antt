@@ -2,7 +2,9 @@
 use Rattle.std.proofs.Common.{◌≡◌, ◌≢◌, ℕ, min, ◌/◌, refl, sym, ap, ◌∙◌, subst}
 use Rattle.mrpc_table.specs.declared.call.Call.{Call}
 use Rattle.std.specs.Prelude.{None, Some}
-use Rattle.engine_core.specs.Answers.{Answer, Answers, Past, allows, charges, counts, denies, drawn, draws, holds, is_clear, is_over, is_within, note, redacts, refuses, ticket_in, was_charged, was_counted}
+use Rattle.engine_core.specs.Answers.{Answer, Answers, Past, allows, charges, counts, denies, drawn, draws, holds}
+use Rattle.engine_core.specs.Answers.{is_clear, is_over, is_within, note, redacts, refuses, ticket_in, was_charged}
+use Rattle.engine_core.specs.Answers.{was_counted}
 use Rattle.engine_core.specs.Turns.{ComesOut, is_held, is_noted, is_noted_and_refused, is_redacted, is_refused, noted_in, passes, refusal}
 use Rattle.engine_core.specs.declared.outcome.Noted.{Noted}
 use Rattle.engine_core.specs.declared.outcome.Noted.TheVariants as notes
@@ -23,7 +25,8 @@ pub record IsUndrawn (policy : Policy) (at window : ℕ) (past : Past) : Type 0 
   pub none : (t : ℕ) → past ≢ drawn t
   pub window_is : window ≡ min (at / per) 1023
 
-draws-only : (policy : Policy) (left at : ℕ) (form : Call) (past : Past) (window ticket : ℕ) → Answers policy left at form past (note (notes.Drawn window ticket)) → IsUndrawn policy at window past
+draws-only : (policy : Policy) (left at : ℕ) (form : Call) (past : Past) (window ticket : ℕ)
+    → Answers policy left at form past (note (notes.Drawn window ticket)) → IsUndrawn policy at window past
 draws-only policy left at form past window ticket (allows p is allowed answer) = cc
 draws-only policy left at form past window ticket (denies p is denied answer) = cc
 draws-only policy left at form past window ticket (was_charged r is some answer) = cc

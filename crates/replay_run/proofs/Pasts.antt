@@ -9,13 +9,16 @@ use Rattle.script_text.specs.declared.script.Line.{Line}
 use Rattle.script_text.specs.declared.script.Script.{Script}
 use Rattle.call_history.specs.Behind.{Behind}
 use Rattle.call_history.specs.Draining.{Ending, at_rest, again, Turns, is_idle, is_held, redacts, goes, Passes, is_over, next, begins_again, SendsSome, none, one, BeginsToDrain}
-use Rattle.call_history.specs.Events.{Course, Comes, Event, accepts, operates, sends, shows, turns, turns_away, fails, takes, is_away, changes, rises, stays, has_turn, is_sent, link_failed, turned}
+use Rattle.call_history.specs.Events.{Course, Comes, Event, accepts, operates, sends, shows, turns, turns_away, fails}
+use Rattle.call_history.specs.Events.{takes, is_away, changes, rises, stays, has_turn, is_sent, link_failed, turned}
 use Rattle.call_history.specs.Rules.{Under}
 use Rattle.call_history.specs.declared.happening.Happening.{Happening}
 use Rattle.call_history.specs.declared.happening.Taken.{Taken}
 use Rattle.call_history.specs.declared.happening.TookCopy.{TookCopy}
 use Rattle.call_history.specs.declared.happening.TookCopy.TheVariants.{Copy, Malformed}
-use Rattle.replay_run.specs.Follows.{Opened, under, Does, stores, races, submits, is_away as is_turned_away, operates_on, shows_it, is_idle as has_none, has_turn as does_turn, none_ready, is_sent as does_send, drains, GetsTo, by_send, by_drain, Fails}
+use Rattle.replay_run.specs.Follows.{Opened, under, Does, stores, races, submits, is_away as is_turned_away}
+use Rattle.replay_run.specs.Follows.{operates_on, shows_it, is_idle as has_none, has_turn as does_turn, none_ready}
+use Rattle.replay_run.specs.Follows.{is_sent as does_send, drains, GetsTo, by_send, by_drain, Fails}
 use Rattle.replay_run.proofs.Adds.{accepted_as, Adds, IsOfChange, IsOfDrain, IsOfTurn, adds-more, adds-nothing, adds-weaker, begins-adds, changing-adds, sending-adds, turning-adds}
 
 abbrev pub IsAny : Happening → Type 0

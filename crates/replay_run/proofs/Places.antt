@@ -1,5 +1,6 @@
 -- The connection at a place of a run's connections, and another one in its place.
-use Rattle.std.proofs.Common.{◌≡◌, ◌≢◌, ℕ, suc, ◌+◌, ◌<◌, ◌≤◌, ◌==◌, Bool, true, false, cond, nat_lt, List, [], ◌∷◌, ◌++◌, length, map, take, drop, get_or, refl, sym, ap, ◌∙◌, arith, ⊎_elim}
+use Rattle.std.proofs.Common.{◌≡◌, ◌≢◌, ℕ, suc, ◌+◌, ◌<◌, ◌≤◌, ◌==◌, Bool, true, false, cond, nat_lt, List, [], ◌∷◌}
+use Rattle.std.proofs.Common.{◌++◌, length, map, take, drop, get_or, refl, sym, ap, ◌∙◌, arith, ⊎_elim}
 use Rattle.std.specs.Prelude.{Option, Some, None, find, position, slice_get, slice_set}
 use Rattle.std.specs.List.{AllByRecursion, position_or_len}
 use Rattle.std.proofs.Math.Seq.{drop-cons}
@@ -59,7 +60,8 @@ other-number : (a b : ℕ) → (a == b) ≡ false → a ≢ b
 other-number a b test = grind (arith, nat_tests)
 
 -- the one that was found has the number
-pub found-number : (conn place : ℕ) (cs : List Connection) (c : Connection) → position (λ d. d.calls.conn == conn) cs ≡ Some place → slice_get cs place ≡ Some c → c.calls.conn ≡ conn
+pub found-number : (conn place : ℕ) (cs : List Connection) (c : Connection)
+    → position (λ d. d.calls.conn == conn) cs ≡ Some place → slice_get cs place ≡ Some c → c.calls.conn ≡ conn
 found-number conn place cs c found at =
     let p = position-Some (λ (d : Connection). d.calls.conn == conn) cs place c found in
     ap (λ (d : Connection). d.calls.conn) (cut cs place c at).is ∙ same-number (get_or cs place c).calls.conn conn p.1

@@ -1,5 +1,6 @@
 -- The calls that stand, as they are told.
-use Rattle.std.proofs.Common.{◌≡◌, ◌≢◌, ℕ, zero, suc, ◌+◌, ◌-◌, ◌<◌, Bool, true, false, List, [], ◌∷◌, ◌++◌, length, map, get_or, Option, Some, None, refl, sym, ap, ◌∙◌, subst, arith}
+use Rattle.std.proofs.Common.{◌≡◌, ◌≢◌, ℕ, zero, suc, ◌+◌, ◌-◌, ◌<◌, Bool, true, false, List, [], ◌∷◌, ◌++◌, length}
+use Rattle.std.proofs.Common.{map, get_or, Option, Some, None, refl, sym, ap, ◌∙◌, subst, arith}
 use Rattle.std.proofs.lemmas.Bool.{cond-true, cond-false, ne_eqb}
 use Rattle.std.proofs.lemmas.List.{length-map}
 use Rattle.std.proofs.lemmas.List.Quantifiers.{position-Some}
@@ -25,7 +26,9 @@ find-at : (p : Opened → Bool) (cs : List Connection) (i : ℕ) (c : Connection
 find-at p [] i c at passes others = cc
 find-at p (d ∷ cs) zero c at passes others =
     let same : d ≡ c = cc in
-    cond-true (p (opened_of d)) (Some (opened_of d)) (find p (map opened_of cs)) (subst (λ (x : Connection). p (opened_of x) ≡ true) (sym same) passes) ∙ ap (λ (x : Connection). Some (opened_of x)) same
+    cond-true (p (opened_of d)) (Some (opened_of d)) (find p (map opened_of cs))
+    (subst (λ (x : Connection). p (opened_of x) ≡ true) (sym same) passes)
+    ∙ ap (λ (x : Connection). Some (opened_of x)) same
 find-at p (d ∷ cs) (suc i) c at passes others =
     cond-false (p (opened_of d)) (Some (opened_of d)) (find p (map opened_of cs)) (others zero (omega arith))
     ∙ find-at p cs i c at passes (λ k low. others (suc k) (omega arith))
@@ -73,9 +76,12 @@ module _ (cs : List Connection) where
   stands-some first out next conn bytes all low t is some =
       rest-some first out next (stands_at (map opened_of cs) conn ++ flat_map (stands_at (map opened_of cs)) (range_with_len (conn + 1) (17 - (conn + 1)))) all
       (subst (λ ns. TellsRest first out (flat_map (stands_at (map opened_of cs)) ns) all) (range-step conn 17 low) t)
-      (some-in out next (stands_at (map opened_of cs) conn) (flat_map (stands_at (map opened_of cs)) (range_with_len (conn + 1) (17 - (conn + 1)))) (subst (TellsSome out next) (sym is) some))
+      (some-in out next (stands_at (map opened_of cs) conn)
+      (flat_map (stands_at (map opened_of cs)) (range_with_len (conn + 1) (17 - (conn + 1))))
+      (subst (TellsSome out next) (sym is) some))
 
-pub open-there : (cs : List Connection) (conn place : ℕ) (c : Connection) → position (λ d. d.calls.conn == conn) cs ≡ Some place → c ≡ get_or cs place c → slice_get cs place ≡ Some c
+pub open-there : (cs : List Connection) (conn place : ℕ) (c : Connection)
+    → position (λ d. d.calls.conn == conn) cs ≡ Some place → c ≡ get_or cs place c → slice_get cs place ≡ Some c
 open-there cs conn place c found is =
     let it = position-Some (λ (d : Connection). d.calls.conn == conn) cs place c found in
     at-index cs place c it.0 is

@@ -73,7 +73,8 @@ module _ (s : Script) where
   does-still conn l old new quiet (is_sent seq bytes c is comes makes) = absurd (subst IsQuiet is quiet)
   does-still conn l old new quiet (drains c is drained makes) = absurd (subst IsQuiet is quiet)
 
-  pub quiet-done : (l : Line) (c d : Connection) (quotas : Counters) (wire : Option (List ℕ)) → IsQuiet l → Does s l (opened_of c) (opened_of d) → Keeps c d → DoneOn s l c d quotas quotas wire wire
+  pub quiet-done : (l : Line) (c d : Connection) (quotas : Counters) (wire : Option (List ℕ)) → IsQuiet l
+      → Does s l (opened_of c) (opened_of d) → Keeps c d → DoneOn s l c d quotas quotas wire wire
   quiet-done l c d quotas wire quiet does keeps =
       let still : IsStill s.table c.calls.conn (course c.calls) (course d.calls) = does-still c.calls.conn l (opened_of c) (opened_of d) quiet does in
       record {

@@ -110,7 +110,8 @@ done-modest tenants lines None c good modest = record {
 }
 done-modest tenants lines (Some step) c good modest = step-modest tenants lines step c good modest
 
-with-modest : (tenants lines : ℕ) (b : Bool) (step : Option Op) (c : Chain) → IsGoodOption tenants step → IsModestChain tenants lines c → IsModestChain tenants (lines + 1) (cond b (done step c) c)
+with-modest : (tenants lines : ℕ) (b : Bool) (step : Option Op) (c : Chain) → IsGoodOption tenants step
+    → IsModestChain tenants lines c → IsModestChain tenants (lines + 1) (cond b (done step c) c)
 with-modest tenants lines true step c good modest = done-modest tenants lines step c good modest
 with-modest tenants lines false step c good modest = done-modest tenants lines None c tt modest
 
@@ -123,7 +124,8 @@ behind-modest tenants policies good lines c (l ∷ ls) conn modest =
     (behind-modest tenants policies good (lines + 1) next ls conn
     (with-modest tenants lines (conn_of l == conn) (op_in policies l) c (op-good tenants policies good l) modest))
 
-pub chain-modest : (tenants : ℕ) (policies : List NamedPolicy) → ArePolicies tenants policies → (ls : List Line) (conn : ℕ) → IsModestChain tenants (length ls) (chain_of policies ls conn)
+pub chain-modest : (tenants : ℕ) (policies : List NamedPolicy) → ArePolicies tenants policies
+    → (ls : List Line) (conn : ℕ) → IsModestChain tenants (length ls) (chain_of policies ls conn)
 chain-modest tenants policies good ls conn =
     subst (λ n. IsModestChain tenants n (chain_of policies ls conn)) (let same : 0 + length ls ≡ length ls = omega arith in same)
     (behind-modest tenants policies good 0 new_chain ls conn (record { attached = omega arith; entries = All-nil (IsModest tenants 0) }))

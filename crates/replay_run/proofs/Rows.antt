@@ -40,7 +40,9 @@ use Rattle.call_history.specs.declared.happening.Happening.{Happening}
 use Rattle.call_history.specs.declared.happening.Happening.TheVariants.{Took, Away, Op, Moment, Charged, Drawn, Sent, Refused}
 use Rattle.call_history.specs.declared.happening.Taken.{Taken}
 use Rattle.call_history.specs.declared.happening.TookCopy.TheVariants.{Copy}
-use Rattle.replay_run.specs.Follows.{Opened, start, new_one, Does, stores, races, submits, is_away, operates_on, shows_it, is_idle, has_turn, none_ready, is_sent, drains, Fails, by_send, by_drain, GoesOn, Step, opens, goes_on}
+use Rattle.replay_run.specs.Follows.{Opened, start, new_one, Does, stores, races, submits, is_away, operates_on}
+use Rattle.replay_run.specs.Follows.{shows_it, is_idle, has_turn, none_ready, is_sent, drains, Fails, by_send}
+use Rattle.replay_run.specs.Follows.{by_drain, GoesOn, Step, opens, goes_on}
 use Rattle.connection_text.specs.Standing.{holding, queue_name}
 use Rattle.replay_run.specs.Stands.{stands_on}
 use Rattle.replay_run.specs.Tickets.{tickets, AreInTurn}
@@ -246,7 +248,14 @@ turned : Does script (line.Turn 1 0) (at_course [] one_stands) (at_course [] one
 turned =
     has_turn 0 1 (outcomes.Passed (notes.Charged 1000)) one_charged refl
     (comes_round 0 1 (outcomes.Passed (notes.Charged 1000)) rate_entry refl
-    (record { entry = refl; first = refl; call = form_of 1; is_form = refl; comes = turns.is_noted (notes.Charged 1000) (answers.charges rate refl refl (omega arith) refl) (answers.was_charged rate refl (λ none. cc) refl) refl })
+    (record {
+      entry = refl;
+      first = refl;
+      call = form_of 1;
+      is_form = refl;
+      comes = turns.is_noted (notes.Charged 1000) (answers.charges rate refl refl (omega arith) refl)
+          (answers.was_charged rate refl (λ none. cc) refl) refl;
+    })
     refl)
     refl
 
@@ -276,7 +285,14 @@ drained =
         between = one_charged;
         passes = next 0 one_stands one_charged one_charged (omega arith)
             (goes one_stands one_charged at_rest 1 (outcomes.Passed (notes.Charged 1000)) rate_entry
-            (record { entry = refl; first = refl; call = form_of 1; is_form = refl; comes = turns.is_noted (notes.Charged 1000) (answers.charges rate refl refl (omega arith) refl) (answers.was_charged rate refl (λ none. cc) refl) refl })
+            (record {
+              entry = refl;
+              first = refl;
+              call = form_of 1;
+              is_form = refl;
+              comes = turns.is_noted (notes.Charged 1000) (answers.charges rate refl refl (omega arith) refl)
+                  (answers.was_charged rate refl (λ none. cc) refl) refl;
+            })
             tt (has_none one_charged refl))
             (is_over 1 one_charged refl);
         sent = sends_one one_charged one_sent one_sent 1 18 (goes_out 1 18 refl refl (record { first = refl; sent = form_of 1; is_form = refl; long = long-7 1 }) refl) (none one_sent);

@@ -1,5 +1,6 @@
 -- How a run follows its script, line by line.
-use Rattle.std.proofs.Common.{◌≡◌, ℕ, ◌<◌, ◌≤◌, inl, inr, List, [], ◌∷◌, ◌++◌, drop, length, map, reverse, take, refl, sym, ap, ◌∙◌, subst, append-nil, append_assoc, length-append, arith}
+use Rattle.std.proofs.Common.{◌≡◌, ℕ, ◌<◌, ◌≤◌, inl, inr, List, [], ◌∷◌, ◌++◌, drop, length, map, reverse, take, refl}
+use Rattle.std.proofs.Common.{sym, ap, ◌∙◌, subst, append-nil, append_assoc, length-append, arith}
 use Rattle.std.specs.Prelude.{Option, Some, None, IfSome, slice_get, slice_set}
 use Rattle.std.specs.Io.KnownBytes.{Appends}
 use Rattle.std.proofs.lemmas.List.{map-append, take-append-le}
@@ -22,7 +23,9 @@ use Rattle.call_history.specs.declared.happening.Happening.{Happening}
 use Rattle.audit_text.specs.Lines.{audit, audit_line}
 use Rattle.conn_core.specs.Connections.{IsConnection, course}
 use Rattle.replay_run.specs.Follows.{Opened, State, start, new_one, on_connection, come_to, under, GoesOn, LeadsUntil, Step, opens, goes_on}
-use Rattle.replay_run.specs.Kept.{After, Before, Broke, BrokenOn, BrokenTold, BreaksOn, DoneOn, DoneTold, DrawnIn, DrawsOn, HandsOn, IsFresh, IsReady, IsResting, IsTold, StopsAt, TellsSome, behind_failure, behind_line, drawn_of, in_line, opened_of, untold}
+use Rattle.replay_run.specs.Kept.{After, Before, Broke, BrokenOn, BrokenTold, BreaksOn, DoneOn, DoneTold, DrawnIn}
+use Rattle.replay_run.specs.Kept.{DrawsOn, HandsOn, IsFresh, IsReady, IsResting, IsTold, StopsAt, TellsSome}
+use Rattle.replay_run.specs.Kept.{behind_failure, behind_line, drawn_of, in_line, opened_of, untold}
 use Rattle.replay_run.specs.Running.{Stops, TellsFront, joined, partly, sent, stops_behind, stops_in, text, whole}
 use Rattle.replay_run.specs.Stands.{all_stands}
 use Rattle.replay_run.specs.Tickets.{tickets}
@@ -42,7 +45,8 @@ none-drawn : IfSome (tickets_of 0) (λ now. now ≡ [])
 unfolding tickets_of
 none-drawn = refl
 
-pub begins : (s : Script) (quotas : Counters) (out wire : Option (List ℕ)) → quotas.tenants ≡ length s.declared.tenants → ((tenant window : ℕ) → drawn_in quotas tenant window ≡ 0)
+pub begins : (s : Script) (quotas : Counters) (out wire : Option (List ℕ))
+    → quotas.tenants ≡ length s.declared.tenants → ((tenant window : ℕ) → drawn_in quotas tenant window ≡ 0)
     → After s [] [] quotas out out wire wire
 begins s quotas out wire tenants undrawn = (
   start,
@@ -106,7 +110,8 @@ stops-at_once s out wire =
 
 -- ---- a connection is opened
 
-pub opens-one : (s : Script) (conn words : ℕ) (cs : List Connection) (c : Connection) (quotas : Counters) (out wire : Option (List ℕ)) (b : Before s (line.Conn conn words) cs quotas out wire)
+pub opens-one : (s : Script) (conn words : ℕ) (cs : List Connection) (c : Connection) (quotas : Counters)
+    (out wire : Option (List ℕ)) (b : Before s (line.Conn conn words) cs quotas out wire)
     → opened_of c ≡ new_one conn words → IsFresh s.table s.loads c → After s (b.lines ++ line.Conn conn words ∷ []) (cs ++ c ∷ []) quotas b.out out b.wire wire
 opens-one s conn words cs c quotas out wire b is fresh =
     let next : State = record { opened = b.st.opened ++ new_one conn words ∷ []; history = b.st.history } in (
@@ -139,7 +144,8 @@ module _ (laws : HistoryLaws) (s : Script) where
     here : (course c.calls).past ≡ behind c.calls.conn b.st.history
     grown : new.past ≡ behind c.calls.conn (b.st.history ++ map (on_connection c.calls.conn) piece)
 
-  is-on : (l : Line) (cs : List Connection) (quotas : Counters) (out wire : Option (List ℕ)) (b : Before s l cs quotas out wire) (place : ℕ) (c : Connection) (new : Course) (piece : List Happening)
+  is-on : (l : Line) (cs : List Connection) (quotas : Counters) (out wire : Option (List ℕ))
+      (b : Before s l cs quotas out wire) (place : ℕ) (c : Connection) (new : Course) (piece : List Happening)
       → IsScript s → IsCut cs place c → IsPiece (course c.calls).past new.past piece → IsOn l cs quotas out wire b c new piece
   is-on l cs quotas out wire b place c new piece script it added =
       let known : IsKnown laws s b.lines b.st = front-known laws s b.lines (l ∷ b.others) b.st script b.order b.ran.leads in
@@ -154,8 +160,11 @@ module _ (laws : HistoryLaws) (s : Script) where
   abbrev next_state : State → (front : List Opened) (other : Opened) (back : List Opened) (conn : ℕ) → List Happening → State
   next_state st front other back conn piece = record { opened = front ++ other ∷ back; history = st.history ++ map (on_connection conn) piece }
 
-  frames-on : (l : Line) (cs : List Connection) (quotas : Counters) (out wire wire' : Option (List ℕ)) (b : Before s l cs quotas out wire) (c : Connection) (new : Course) (piece : List Happening)
-      → IsOn l cs quotas out wire b c new piece → (hands : HandsOn s.table c.calls.conn (course c.calls) new wire wire') (st : State) → st.history ≡ b.st.history ++ map (on_connection c.calls.conn) piece
+  frames-on : (l : Line) (cs : List Connection) (quotas : Counters) (out wire wire' : Option (List ℕ))
+      (b : Before s l cs quotas out wire) (c : Connection) (new : Course) (piece : List Happening)
+      → IsOn l cs quotas out wire b c new piece
+      → (hands : HandsOn s.table c.calls.conn (course c.calls) new wire wire') (st : State)
+      → st.history ≡ b.st.history ++ map (on_connection c.calls.conn) piece
       → Appends b.wire wire' (sent s st)
   frames-on l cs quotas out wire wire' b c new piece is hands st same =
       let T : Table = s.table in
@@ -175,7 +184,8 @@ module _ (laws : HistoryLaws) (s : Script) where
   drawn-more tenant window old new before after (Some earlier) (Some now) goes was drawn =
       drawn.2 ∙ ap (λ ts. ts ++ drawn.0) was ∙ sym (goes drawn.0 drawn.1)
 
-  drawn-on : (l : Line) (cs : List Connection) (quotas quotas' : Counters) (out wire : Option (List ℕ)) (b : Before s l cs quotas out wire) (c : Connection) (new : Course) (piece : List Happening)
+  drawn-on : (l : Line) (cs : List Connection) (quotas quotas' : Counters) (out wire : Option (List ℕ))
+      (b : Before s l cs quotas out wire) (c : Connection) (new : Course) (piece : List Happening)
       → IsOn l cs quotas out wire b c new piece → DrawsOn (course c.calls) new quotas quotas' → (h : History) → h ≡ b.st.history ++ map (on_connection c.calls.conn) piece
       → (tenant window : ℕ) → tenant < quotas'.tenants → window < WINDOWS → IfSome (drawn_of quotas' tenant window) (λ now. now ≡ tickets tenant window h)
   drawn-on l cs quotas quotas' out wire b c new piece is draws h same tenant window known early =
@@ -195,11 +205,14 @@ module _ (laws : HistoryLaws) (s : Script) where
       ∙ ap (λ xs. audit s.table (map (on_connection c.calls.conn) xs)) (piece-dropped c.calls.happenings mid.calls.happenings piece added)
 
   -- the text of what happened so far, and of the piece
-  audit-more : (h : History) (conn : ℕ) (piece : List Happening) → audit s.table (h ++ map (on_connection conn) piece) ≡ audit s.table h ++ audit s.table (map (on_connection conn) piece)
+  audit-more : (h : History) (conn : ℕ) (piece : List Happening)
+      → audit s.table (h ++ map (on_connection conn) piece) ≡ audit s.table h
+      ++ audit s.table (map (on_connection conn) piece)
   audit-more h conn piece = flat_map-append (audit_line s.table) h (map (on_connection conn) piece)
 
   -- the line went on to this connection, by this piece
-  goes-on : (l : Line) (cs : List Connection) (quotas : Counters) (out wire : Option (List ℕ)) (b : Before s l cs quotas out wire) (place : ℕ) (c : Connection) (it : IsCut cs place c) (other : Opened)
+  goes-on : (l : Line) (cs : List Connection) (quotas : Counters) (out wire : Option (List ℕ))
+      (b : Before s l cs quotas out wire) (place : ℕ) (c : Connection) (it : IsCut cs place c) (other : Opened)
       (piece : List Happening) → IsPiece (course c.calls).past other.course.past piece
       → GoesOn b.st (opened_of c) other (next_state b.st (map opened_of it.front) other (map opened_of it.back) c.calls.conn piece)
   goes-on l cs quotas out wire b place c it other piece added = record {
@@ -277,7 +290,8 @@ module _ (laws : HistoryLaws) (s : Script) where
 
   -- ---- a line whose sending failed
 
-  sent-more : (l : Line) (cs : List Connection) (quotas : Counters) (out wire : Option (List ℕ)) (b : Before s l cs quotas out wire) (c : Connection) (new : Course) (piece : List Happening)
+  sent-more : (l : Line) (cs : List Connection) (quotas : Counters) (out wire : Option (List ℕ))
+      (b : Before s l cs quotas out wire) (c : Connection) (new : Course) (piece : List Happening)
       (more : List (List ℕ)) → IsOn l cs quotas out wire b c new piece
       → frames_behind s.table c.calls.conn new.past ≡ frames_behind s.table c.calls.conn (course c.calls).past ++ more
       → joined (frames s.table (b.st.history ++ map (on_connection c.calls.conn) piece)) ≡ sent s b.st ++ joined more
@@ -287,7 +301,8 @@ module _ (laws : HistoryLaws) (s : Script) where
       (ap (frames_behind T c.calls.conn) (sym is.grown) ∙ grown ∙ ap (λ p. frames_behind T c.calls.conn p ++ more) is.here))
       ∙ flat_map-append (λ frame. frame) (frames T b.st.history) more
 
-  breaks-on : (l : Line) (cs : List Connection) (quotas : Counters) (out wire wire' : Option (List ℕ)) (b : Before s l cs quotas out wire) (c : Connection) (new : Course) (piece : List Happening)
+  breaks-on : (l : Line) (cs : List Connection) (quotas : Counters) (out wire wire' : Option (List ℕ))
+      (b : Before s l cs quotas out wire) (c : Connection) (new : Course) (piece : List Happening)
       (tried : Call) → IsOn l cs quotas out wire b c new piece → (hands : BreaksOn s.table c.calls.conn tried (course c.calls) new wire wire')
       → Appends b.wire wire' (joined (frames s.table (b.st.history ++ map (on_connection c.calls.conn) piece)) ++ take hands.many (frame_of s.table tried))
   breaks-on l cs quotas out wire wire' b c new piece tried is hands =
@@ -305,7 +320,8 @@ module _ (laws : HistoryLaws) (s : Script) where
   broken-added l c mid quotas quotas' wire wire' broken =
       piece-added IsAny (course c.calls).past (course mid.calls).past (fails-adds s l (opened_of c) (opened_of mid) broken.tried broken.fails)
 
-  abbrev leads-until : (l : Line) (cs : List Connection) (quotas : Counters) (out wire wire' : Option (List ℕ)) (b : Before s l cs quotas out wire) (place : ℕ) (c : Connection) (it : IsCut cs place c)
+  abbrev leads-until : (l : Line) (cs : List Connection) (quotas : Counters) (out wire wire' : Option (List ℕ))
+      (b : Before s l cs quotas out wire) (place : ℕ) (c : Connection) (it : IsCut cs place c)
       (mid : Connection) (piece : List Happening) (q q' : Counters) → conn_of l ≡ c.calls.conn → (broken : BrokenOn s l c mid q q' wire wire')
       → IsPiece (course c.calls).past (course mid.calls).past piece
       → LeadsUntil s broken.tried (next_state b.st (map opened_of it.front) (opened_of mid) (map opened_of it.back) c.calls.conn piece)
@@ -353,7 +369,8 @@ module _ (laws : HistoryLaws) (s : Script) where
   -- ---- a run that stops
 
   -- all of what happened before, and a front of the piece's lines
-  tells-piece : (l : Line) (cs : List Connection) (quotas : Counters) (out out' wire : Option (List ℕ)) (b : Before s l cs quotas out wire) (c : Connection) (st : State) (piece : List Happening)
+  tells-piece : (l : Line) (cs : List Connection) (quotas : Counters) (out out' wire : Option (List ℕ))
+      (b : Before s l cs quotas out wire) (c : Connection) (st : State) (piece : List Happening)
       → st.history ≡ b.st.history ++ map (on_connection c.calls.conn) piece → TellsSome out out' (audit s.table (map (on_connection c.calls.conn) piece))
       → TellsFront s b.st (audit s.table st.history) b.out out'
   tells-piece l cs quotas out out' wire b c st piece same some =
@@ -362,7 +379,8 @@ module _ (laws : HistoryLaws) (s : Script) where
       (ap (audit s.table) same ∙ audit-more b.st.history c.calls.conn piece)
       (tells-behind b.out out out' (audit s.table b.st.history) lines b.ran.told some)
 
-  untold-some : (c mid : Connection) (piece : List Happening) (out out' : Option (List ℕ)) → IsPiece (course c.calls).past (course mid.calls).past piece → mid.told ≡ length c.calls.happenings
+  untold-some : (c mid : Connection) (piece : List Happening) (out out' : Option (List ℕ))
+      → IsPiece (course c.calls).past (course mid.calls).past piece → mid.told ≡ length c.calls.happenings
       → mid.calls.conn ≡ c.calls.conn → TellsSome out out' (untold s.table mid) → TellsSome out out' (audit s.table (map (on_connection c.calls.conn) piece))
   untold-some c mid piece out out' added told conn some = subst (TellsSome out out') (untold-piece c mid piece added told conn) some
 
@@ -378,7 +396,8 @@ module _ (laws : HistoryLaws) (s : Script) where
       (tells-all s b.st b.out out b.ran.told)
       (subst (Appends b.wire wire') (append-nil (sent s b.st)) (appends-more b.wire wire wire' (sent s b.st) [] b.ran.handed nothing))
 
-  stops-partly : (l : Line) (cs : List Connection) (place : ℕ) (c : Connection) (quotas : Counters) (out wire wire' : Option (List ℕ)) → IsScript s → (b : Before s l cs quotas out wire) (it : IsCut cs place c)
+  stops-partly : (l : Line) (cs : List Connection) (place : ℕ) (c : Connection) (quotas : Counters)
+      (out wire wire' : Option (List ℕ)) → IsScript s → (b : Before s l cs quotas out wire) (it : IsCut cs place c)
       (end : Course) → l ≡ line.Drain c.calls.conn → BeginsToDrain (under s c.calls.conn) (course c.calls) end → HandsOn s.table c.calls.conn (course c.calls) end wire wire'
       → Stops s b.out out b.wire wire'
   stops-partly l cs place c quotas out wire wire' script b it end is_drain drains hands =
@@ -399,7 +418,8 @@ module _ (laws : HistoryLaws) (s : Script) where
       (tells-piece l cs quotas out out wire b c next piece refl (0, omega arith, appends-nothing out))
       (frames-on l cs quotas out wire wire' b c end piece is hands next refl)
 
-  pub line-stops : (l : Line) (cs : List Connection) (place : ℕ) (c : Connection) (quotas : Counters) (out out' wire wire' : Option (List ℕ)) → IsScript s → (b : Before s l cs quotas out wire)
+  pub line-stops : (l : Line) (cs : List Connection) (place : ℕ) (c : Connection) (quotas : Counters)
+      (out out' wire wire' : Option (List ℕ)) → IsScript s → (b : Before s l cs quotas out wire)
       → conn_of l ≡ c.calls.conn → slice_get cs place ≡ Some c → StopsAt s l c out out' wire wire' → Stops s b.out out' b.wire wire'
   line-stops l cs place c quotas out out' wire wire' script b on at (in_line stopped same) =
       subst (λ o. Stops s b.out o b.wire wire') (sym same) (elim stopped.begun [

@@ -48,15 +48,20 @@ pub comes-of : (s : Script) (c : Connection) (event : Event) (calls : Calls) →
 comes-of s c event calls of_script step = subst (λ (u : Under). Comes u (course c.calls) event (course calls)) (under-of s c of_script) step
 
 -- nothing was handed over
-pub hands-nothing : (T : Table) (conn : ℕ) (old new : Course) (wire : Option (List ℕ)) → frames_behind T conn new.past ≡ frames_behind T conn old.past → HandsOn T conn old new wire wire
+pub hands-nothing : (T : Table) (conn : ℕ) (old new : Course) (wire : Option (List ℕ))
+    → frames_behind T conn new.past ≡ frames_behind T conn old.past → HandsOn T conn old new wire wire
 hands-nothing T conn old new wire same = record { more = []; frames = same ∙ sym (append-nil (frames_behind T conn old.past)); told = appends-nothing wire }
 
-drawn-none : (tenant window : ℕ) (old new : Course) (d : Option (List ℕ)) → tickets_behind tenant window new.past ≡ tickets_behind tenant window old.past → DrawnIn tenant window old new d d
+drawn-none : (tenant window : ℕ) (old new : Course) (d : Option (List ℕ))
+    → tickets_behind tenant window new.past ≡ tickets_behind tenant window old.past
+    → DrawnIn tenant window old new d d
 drawn-none tenant window old new None same = tt
 drawn-none tenant window old new (Some now) same = ([], same ∙ sym (append-nil (tickets_behind tenant window old.past)), sym (append-nil now))
 
 -- no ticket was drawn
-pub draws-none : (old new : Course) (quotas : Counters) → ((tenant window : ℕ) → tickets_behind tenant window new.past ≡ tickets_behind tenant window old.past) → DrawsOn old new quotas quotas
+pub draws-none : (old new : Course) (quotas : Counters)
+    → ((tenant window : ℕ) → tickets_behind tenant window new.past ≡ tickets_behind tenant window old.past)
+    → DrawsOn old new quotas quotas
 draws-none old new quotas same = record {
   same = refl;
   drawn = λ tenant window known early. drawn-none tenant window old new (drawn_of quotas tenant window) (same tenant window);
@@ -68,7 +73,8 @@ draws-of c calls quotas quotas' draws = record { same = draws.since quotas refl;
 
 -- ---- turns
 
-turned-by : (s : Script) (c : Connection) (at seq : ℕ) (outcome : Outcome) (calls : Calls) (quotas quotas' : Counters) (wire : Option (List ℕ)) → IsOf s c → IsResting c.heap → IsSame c.calls calls
+turned-by : (s : Script) (c : Connection) (at seq : ℕ) (outcome : Outcome) (calls : Calls) (quotas quotas' : Counters)
+    (wire : Option (List ℕ)) → IsOf s c → IsResting c.heap → IsSame c.calls calls
     → Steps c.calls (turns at seq outcome) calls → DrawsTickets knows drawn_of have_same_tenants c.calls calls quotas quotas'
     → DoneOn s (line.Turn c.calls.conn at) c (with_calls c calls) quotas quotas' wire wire
 turned-by s c at seq outcome calls quotas quotas' wire of_script rests same step draws =
@@ -92,8 +98,10 @@ idle-there s c at calls quotas quotas' wire of_script rests same none still unus
   hands = hands-nothing s.table c.calls.conn (course c.calls) (course calls) wire (ap (λ k. frames_behind s.table c.calls.conn (course k).past) still);
 }
 
-pub turn-done : (s : Script) (c : Connection) (at : ℕ) (t : Turned) (calls : Calls) (quotas quotas' : Counters) (wire : Option (List ℕ)) → IsOf s c → IsResting c.heap → IsSame c.calls calls
-    → (t ≡ Idle) ↔ (first_at at c.calls.chain.row ≡ None) → (t ≡ Idle → (calls ≡ c.calls) × (quotas' ≡ quotas)) → OnTurn t (λ seq outcome. Steps c.calls (turns at seq outcome) calls)
+pub turn-done : (s : Script) (c : Connection) (at : ℕ) (t : Turned) (calls : Calls) (quotas quotas' : Counters)
+    (wire : Option (List ℕ)) → IsOf s c → IsResting c.heap → IsSame c.calls calls
+    → (t ≡ Idle) ↔ (first_at at c.calls.chain.row ≡ None) → (t ≡ Idle → (calls ≡ c.calls) × (quotas' ≡ quotas))
+    → OnTurn t (λ seq outcome. Steps c.calls (turns at seq outcome) calls)
     → DrawsTickets knows drawn_of have_same_tenants c.calls calls quotas quotas' → DoneOn s (line.Turn c.calls.conn at) c (with_calls c calls) quotas quotas' wire wire
 turn-done s c at Idle calls quotas quotas' wire of_script rests same idle as_before step draws =
     let still = as_before refl in idle-there s c at calls quotas quotas' wire of_script rests same (idle.0 refl) still.0 still.1

@@ -14,7 +14,9 @@ use Rattle.call_history.specs.Legal.{History, behind, on}
 use Rattle.call_history.specs.Loads.{AreSpelled}
 use Rattle.call_history.specs.declared.happening.Happened.{Happened}
 use Rattle.call_history.specs.declared.happening.Happening.{Happening}
-use Rattle.replay_run.specs.Follows.{Opened, State, start, new_one, under, come_to, Does, stores, races, submits, is_away, operates_on, shows_it, is_idle, has_turn, none_ready, is_sent, drains, GetsTo, by_send, by_drain, GoesOn, Step, opens, goes_on, on_connection, Leads}
+use Rattle.replay_run.specs.Follows.{Opened, State, start, new_one, under, come_to, Does, stores, races, submits}
+use Rattle.replay_run.specs.Follows.{is_away, operates_on, shows_it, is_idle, has_turn, none_ready, is_sent, drains}
+use Rattle.replay_run.specs.Follows.{GetsTo, by_send, by_drain, GoesOn, Step, opens, goes_on, on_connection, Leads}
 use Rattle.replay_run.specs.Sound.{IsSoundOn}
 use Rattle.replay_run.proofs.GivenLaws.{HistoryLaws}
 use Rattle.replay_run.proofs.Lines.{openings, Lacks, AreApart, openings-append, op-opens-none, lacks-unopened, unopened, apart-more}
@@ -126,7 +128,8 @@ module _ (laws : HistoryLaws) (s : Script) where
       record {
         past = here;
         course = subst (λ c. IsCourse (under s c) other.course) (sym next.conn) next.course;
-        spelled = subst (λ b. AreSpelled s.table other.words s.loads b other.loads) here (subst (λ w. AreSpelled s.table w s.loads other.course.past other.loads) (sym next.words) next.spelled);
+        spelled = subst (λ b. AreSpelled s.table other.words s.loads b other.loads) here
+            (subst (λ w. AreSpelled s.table w s.loads other.course.past other.loads) (sym next.words) next.spelled);
       }
 
   -- ---- all connections
@@ -174,7 +177,8 @@ module _ (laws : HistoryLaws) (s : Script) where
   lacks-middle front back one conn lacks = middle (λ n. n ≢ conn) front back one lacks
 
   -- one connection goes on
-  pub goes-stand : (before : List Line) (l : Line) (old new : State) (one other : Opened) → openings (l ∷ []) ≡ [] → Stands before old → GoesOn old one other new → IsNext s one other
+  pub goes-stand : (before : List Line) (l : Line) (old new : State) (one other : Opened) → openings (l ∷ []) ≡ []
+      → Stands before old → GoesOn old one other new → IsNext s one other
       → Stands (before ++ l ∷ []) new
   goes-stand before l old new one other none stands goes next =
       let more : openings (before ++ l ∷ []) ≡ openings before = openings-append before (l ∷ []) ∙ ap (λ ns. openings before ++ ns) none ∙ append-nil (openings before) in
@@ -183,7 +187,8 @@ module _ (laws : HistoryLaws) (s : Script) where
         are = ap numbers goes.after ∙ numbers-on goes.front goes.back one other next.conn ∙ names ∙ sym more;
         apart = subst AreApart (sym more) stands.apart;
         each = subst (λ h. AreSound h new.opened) (sym goes.history) (subst (AreSound (old.history ++ map (on_connection one.conn) goes.piece)) (sym goes.after)
-            (sounds-on old.history goes.piece goes.front goes.back one other (subst AreApart (sym names) stands.apart) (subst (AreSound old.history) goes.before stands.each) next goes.past));
+            (sounds-on old.history goes.piece goes.front goes.back one other (subst AreApart (sym names) stands.apart)
+            (subst (AreSound old.history) goes.before stands.each) next goes.past));
         quiet = λ conn lacks.
             let lacked : Lacks conn (openings before) = subst (Lacks conn) more lacks in
             ap (behind conn) goes.history
@@ -229,7 +234,8 @@ module _ (laws : HistoryLaws) (s : Script) where
         quiet = λ other lacked. stands.quiet other (lacks-front other (openings before) (conn ∷ []) (subst (Lacks other) more lacked));
       }
 
-  pub step-stands : (before : List Line) (l : Line) (old new : State) → Allows s.loads s.declared.policies before l → Stands before old → Step s old l new → Stands (before ++ l ∷ []) new
+  pub step-stands : (before : List Line) (l : Line) (old new : State) → Allows s.loads s.declared.policies before l
+      → Stands before old → Step s old l new → Stands (before ++ l ∷ []) new
   step-stands before l old new allows stands (opens conn words is makes) =
       subst (λ k. Stands (before ++ k ∷ []) new) (sym is) (subst (Stands (before ++ line.Conn conn words ∷ [])) (sym makes)
       (opening-stands before old conn words (subst (Allows s.loads s.declared.policies before) is allows) stands))
@@ -237,7 +243,8 @@ module _ (laws : HistoryLaws) (s : Script) where
       goes-stand before l old new one other (does-opens-none l one other does) stands goes
       (does-next l one other (one-course before old new one other stands goes) (one-spelled before old new one other stands goes) does)
 
-  pub leads-stand : (before lines : List Line) (old new : State) → AreAllowed s.loads s.declared.policies before lines → Stands before old → Leads s old lines new → Stands (before ++ lines) new
+  pub leads-stand : (before lines : List Line) (old new : State) → AreAllowed s.loads s.declared.policies before lines
+      → Stands before old → Leads s old lines new → Stands (before ++ lines) new
   leads-stand before [] old new allowed stands same = subst (λ ls. Stands ls new) (sym (append-nil before)) (subst (Stands before) (sym same) stands)
   leads-stand before (l ∷ lines) old new allowed stands leads =
       subst (λ ls. Stands ls new) (append_assoc before (l ∷ []) lines)

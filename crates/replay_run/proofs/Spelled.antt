@@ -54,7 +54,8 @@ module _ (T : Table) (H limit : ℕ) where
 
   -- ---- drains
 
-  turns-spell : (u : Under) (position : ℕ) (old : Course) (ending : Ending) (new : Course) (loads : Loads) → Turns u position old ending new → Spells old.past loads → Spells new.past loads
+  turns-spell : (u : Under) (position : ℕ) (old : Course) (ending : Ending) (new : Course) (loads : Loads)
+      → Turns u position old ending new → Spells old.past loads → Spells new.past loads
   turns-spell u position old ending new loads (is_idle c empty) spelled = spelled
   turns-spell u position old ending new loads (is_held c seq level cost e turn) spelled = spelled
   turns-spell u position old ending new loads (redacts c seq e turn) spelled = spelled

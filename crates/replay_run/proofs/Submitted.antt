@@ -42,7 +42,8 @@ read-heap old mid own rests (inr only) =
     let read : Read old.stores old.races 0 old.size own mid = read-submission old mid own rests.in_order rests.begun only in
     record { reads = read.read; all = read.all }
 
-opened-as : (c : Connection) (calls : Calls) (new : Heap) (stores : List (ℕ × ℕ)) (loads : Loads) → IsSame c.calls calls → new.size ≡ c.heap.size → new.stores ≡ stores → new.races ≡ []
+opened-as : (c : Connection) (calls : Calls) (new : Heap) (stores : List (ℕ × ℕ)) (loads : Loads)
+    → IsSame c.calls calls → new.size ≡ c.heap.size → new.stores ≡ stores → new.races ≡ []
     → new.loads ≡ loads → opened_of (with_heap c calls new) ≡ record { conn = c.calls.conn; words = c.heap.size; stores = stores; races = []; loads = loads; course = course calls }
 opened-as c calls new stores loads same size stored raced loaded = (λ i. record {
   conn = same.conn i;
@@ -53,7 +54,8 @@ opened-as c calls new stores loads same size stored raced loaded = (λ i. record
   course = course calls;
 })
 
-keeps-finished : (c : Connection) (calls : Calls) (mid new : Heap) → IsSame c.calls calls → IsResting c.heap → mid.size ≡ c.heap.size → IsFinished mid new → Keeps c (with_heap c calls new)
+keeps-finished : (c : Connection) (calls : Calls) (mid new : Heap) → IsSame c.calls calls → IsResting c.heap
+    → mid.size ≡ c.heap.size → IsFinished mid new → Keeps c (with_heap c calls new)
 keeps-finished c calls mid new same rests size done =
     let whole : c.heap.size ≡ new.size = sym (done.size ∙ size) in
     record {
@@ -67,7 +69,8 @@ keeps-finished c calls mid new same rests size done =
       told = refl;
     }
 
-pub submission-keeps : (c : Connection) (ask : Ask) (calls : Calls) (mid new : Heap) → IsSame c.calls calls → IsResting c.heap → Submits ask c.calls calls c.heap mid → IsFinished mid new
+pub submission-keeps : (c : Connection) (ask : Ask) (calls : Calls) (mid new : Heap) → IsSame c.calls calls
+    → IsResting c.heap → Submits ask c.calls calls c.heap mid → IsFinished mid new
     → Keeps c (with_heap c calls new)
 submission-keeps c ask calls mid new same rests (accepted seq accepts_it adds size reads) done = keeps-finished c calls mid new same rests size done
 submission-keeps c ask calls mid new same rests (turned_away step still) done = keeps-finished c calls mid new same rests (ap (λ (h : Heap). h.size) still) done

@@ -1,20 +1,13 @@
 -- Lines that are written one after another.
-use Rattle.std.proofs.Common.{◌≡◌, ℕ, zero, suc, ◌+◌, ◌≤◌, List, [], ◌∷◌, ◌++◌, length, take, drop, map, reverse, Option, Some, refl, sym, ap, ◌∙◌, subst, append_assoc, append-nil, length-append, arith}
-use Rattle.std.proofs.lemmas.List.{reverse-append, take-append-le}
+use Rattle.std.proofs.Common.{◌≡◌, ℕ, zero, suc, ◌+◌, ◌≤◌, List, [], ◌∷◌, ◌++◌, length, take, drop, map}
+use Rattle.std.proofs.Common.{Option, Some, refl, sym, ap, ◌∙◌, subst, append_assoc, append-nil, length-append, arith}
+use Rattle.std.proofs.lemmas.List.{take-append-le}
 use Rattle.std.specs.Prelude.{Err, Ok, OnErr, Result, slice_get}
-use Rattle.std.specs.List.{AllByRecursion, flat_map}
+use Rattle.std.specs.List.{flat_map}
 use Rattle.std.specs.Io.KnownBytes.{Appends}
 use Rattle.mrpc_table.specs.declared.table.Table.{Table}
-use Rattle.call_history.specs.Behind.{Behind}
-use Rattle.call_history.specs.Legal.{IsPrefix}
-use Rattle.call_history.specs.Rules.{Under}
 use Rattle.call_history.specs.declared.happening.Happening.{Happening}
-use Rattle.call_history.specs.declared.happening.Happening.TheVariants.{Away, Charged, Counted, Drawn, Moment, Op, Redacted, Refused, Sent, Took}
-use Rattle.call_history.specs.declared.happening.Taken.{Taken}
-use Rattle.call_history.specs.declared.happening.TookCopy.{TookCopy}
-use Rattle.call_history.specs.declared.happening.TookCopy.TheVariants.{Copy, Malformed}
-use Rattle.call_history.specs.Rules.{IsTakenBy}
-use Rattle.audit_text.specs.Lines.{FitsCall, FitsTable, audit, audit_line}
+use Rattle.audit_text.specs.Lines.{audit, audit_line}
 use Rattle.replay_run.specs.Follows.{on_connection}
 use Rattle.replay_run.specs.Kept.{TellsSome}
 use Rattle.replay_run.specs.declared.stop.Stop.{Stop}
@@ -87,25 +80,25 @@ after-none old new all line none more same = same ∙ more ∙ ap (λ l. l ++ li
 
 -- ---- the lines of happenings from a place on
 
-module _ (T : Table) (conn : ℕ) (hs : List Happening) (first out : Option (List ℕ)) (all : List ℕ) where
-  pub told-one : (next : Option (List ℕ)) (place after : ℕ) (what : Happening) (line : List ℕ) → TellsRest first out (audit T (map (on_connection conn) (drop place hs))) all
-      → slice_get hs place ≡ Some what → line ≡ audit_line T (on_connection conn what) → after ≡ suc place → Appends out next line
-      → TellsRest first next (audit T (map (on_connection conn) (drop after hs))) all
-  told-one next place after what line t at is after_is a =
-      subst (λ n. TellsRest first next (audit T (map (on_connection conn) (drop n hs))) all) (sym after_is)
-      (rest-more first out next (audit_line T (on_connection conn what)) (audit T (map (on_connection conn) (drop (suc place) hs))) all
-      (subst (λ d. TellsRest first out (audit T (map (on_connection conn) d)) all) (drop-at hs place what at) t) (subst (Appends out next) is a))
+module _ (T : Table) (conn : ℕ) (hs : List Happening) where
+  pub text-one : (text next all : List ℕ) (place after : ℕ) (what : Happening) → slice_get hs place ≡ Some what
+      → next ≡ text ++ audit_line T (on_connection conn what) → after ≡ suc place
+      → text ++ audit T (map (on_connection conn) (drop place hs)) ≡ all
+      → next ++ audit T (map (on_connection conn) (drop after hs)) ≡ all
+  text-one text next all place after what at is after_is same =
+      ap (λ n. next ++ audit T (map (on_connection conn) (drop n hs))) after_is
+      ∙ ap (λ l. l ++ audit T (map (on_connection conn) (drop (suc place) hs))) is
+      ∙ append_assoc text (audit_line T (on_connection conn what)) (audit T (map (on_connection conn) (drop (suc place) hs)))
+      ∙ ap (λ d. text ++ audit T (map (on_connection conn) d)) (sym (drop-at hs place what at))
+      ∙ same
 
-  -- a write of the next line failed
-  pub told-some : (next : Option (List ℕ)) (place : ℕ) (what : Happening) (line : List ℕ) → TellsRest first out (audit T (map (on_connection conn) (drop place hs))) all
-      → slice_get hs place ≡ Some what → line ≡ audit_line T (on_connection conn what) → TellsSome out next line → TellsSome first next all
-  told-some next place what line t at is some =
-      rest-some first out next (audit_line T (on_connection conn what) ++ audit T (map (on_connection conn) (drop (suc place) hs))) all
-      (subst (λ d. TellsRest first out (audit T (map (on_connection conn) d)) all) (drop-at hs place what at) t)
-      (some-in out next (audit_line T (on_connection conn what)) (audit T (map (on_connection conn) (drop (suc place) hs))) (subst (TellsSome out next) is some))
+  pub text-all : (text all : List ℕ) (place : ℕ) → text ++ audit T (map (on_connection conn) (drop place hs)) ≡ all → length hs ≤ place → text ≡ all
+  text-all text all place same past =
+      sym (append-nil text) ∙ ap (λ d. text ++ audit T (map (on_connection conn) d)) (sym (drop-past hs place past)) ∙ same
 
-  pub told-all : (place : ℕ) → TellsRest first out (audit T (map (on_connection conn) (drop place hs))) all → length hs ≤ place → Appends first out all
-  told-all place t past = rest-ends first out (audit T (map (on_connection conn) (drop place hs))) all (ap (λ d. audit T (map (on_connection conn) d)) (drop-past hs place past)) t
+  pub none-left : (out : Option (List ℕ)) (place : ℕ) → length hs ≤ place → Appends out out (audit T (map (on_connection conn) (drop place hs)))
+  none-left out place past =
+      subst (λ d. Appends out out (audit T (map (on_connection conn) d))) (sym (drop-past hs place past)) (appends-nothing out)
 
 -- ---- the lines of other items from a place on
 

@@ -12,7 +12,7 @@ use mrpc_base::{PlainWords, Room, Stores};
 use mrpc_table::Table;
 use std::alloc::Global;
 
-/// A heap takes no more stores than this.
+// A heap takes no more stores than this.
 const STORE_LIMIT: u64 = 1 << 63;
 
 /// What a run keeps of a connection between two lines.

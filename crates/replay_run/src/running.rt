@@ -23,18 +23,18 @@ use mrpc_base::{PlainTickets, Sink, Tickets, WINDOWS};
 use script_text::{Line, Script};
 use std::alloc::Global;
 
-/// No script has as many lines, since its text has at most 16 MiB.
+// No script has as many lines, since its text has at most 16 MiB.
 const LINE_LIMIT: usize = 1 << 25;
 
-/// What a run keeps between two lines: the connections, in the order in which they were opened, and the quotas of all.
+// What a run keeps between two lines: the connections, in the order in which they were opened, and the quotas of all.
 #[derive(Drop)]
 struct Run<'t> {
     connections: Vec<Connection<'t>>,
     tickets: PlainTickets,
 }
 
-/// Runs a script: writes a line of the audit for each happening, as it happens, the frames of the calls that are sent,
-/// and at the end the calls that stand.
+/// Runs a script: writes behind each of its lines those of the audit for what it made happen, the frames of the calls
+/// that are sent, and at the end the calls that stand.
 ///
 /// # Errors
 ///

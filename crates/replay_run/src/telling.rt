@@ -1,12 +1,11 @@
 //! The audit lines of what has happened on a connection.
 
-ghost use Rattle.std.specs.Prelude.{◌≡◌, ◌≢◌, ◌<◌, Err, IfErr, IfOk, OnErr, OnOk, Some, length, slice_get};
+ghost use Rattle.std.specs.Prelude.{◌≡◌, ◌≢◌, Err, IfErr, IfOk, OnErr, OnOk, drop, map};
 ghost use Rattle.std.specs.Io.KnownBytes.{Appends};
 ghost use Rattle.mrpc_base.specs.Faults.{HasCause};
 ghost use Rattle.mrpc_base.specs.Writing.{AppendsFront};
 ghost use Rattle.mrpc_table.specs.Valid.{IsValid};
-ghost use Rattle.audit_text.specs.Lines.{audit_line};
-ghost use Rattle.call_history.specs.declared.happening.Happening.{Happening};
+ghost use Rattle.audit_text.specs.Lines.{audit};
 ghost use Rattle.replay_run.specs.Follows.{on_connection};
 ghost use Rattle.replay_run.specs.Kept.{IsTold, TellsSome, untold};
 
@@ -18,10 +17,13 @@ use mrpc_base::{Sink, write_all};
 use mrpc_table::{Bytes, Memory, Table};
 use std::alloc::Global;
 
-/// Nearly all lines have at most so many bytes, so that their room is taken once.
-const USUAL_LINE: usize = 256;
+// Lines that are written together have mostly at most so many bytes each.
+const SHORT_LINE: usize = 64;
 
-/// Writes the lines of what has happened on a connection since its last lines were written.
+// A line that is written alone has mostly at most so many.
+const LONE_LINE: usize = 256;
+
+/// Writes the lines of what has happened on a connection since its last lines were written, in one piece.
 pub(crate) fn tell<K: Sink>(
     alloc: Global,
     table: &Table,
@@ -37,28 +39,33 @@ pub(crate) fn tell<K: Sink>(
     ensures cause { HasCause (result ≡ Err Stop.Out) (K.faults out.old) (K.faults out.new) }
 {
     let count = connection.calls.history().len();
-    for place in connection.told..count {
-        let line = line_of(alloc, table, &connection.calls, place)?;
-        write_line(out, line.as_slice())?;
+    if connection.told >= count {
+        connection.told = count;
+        return Ok(());
     }
+    let lines = lines_from(alloc, table, &connection.calls, connection.told)?;
+    write_line(out, lines.as_slice())?;
     connection.told = count;
     Ok(())
 }
 
-// The line of the happening at a place, from 0.
-fn line_of(alloc: Global, table: &Table, calls: &Conn<'_>, place: usize) -> Result<Bytes, Memory>
+// The lines of what has happened from a place on.
+fn lines_from(alloc: Global, table: &Table, calls: &Conn<'_>, first: usize) -> Result<Bytes, Memory>
     requires valid { IsValid table.now }
     requires same { calls.now.table ≡ table.now }
-    requires there { place < length calls.now.happenings }
-    ensures { (what : Happening) → slice_get calls.now.happenings place ≡ Some what
-        → IfOk result (λ line. line ≡ audit_line table.now (on_connection calls.now.conn what)) }
+    ensures { IfOk result (λ lines. lines
+        ≡ audit table.now (map (on_connection calls.now.conn) (drop first calls.now.happenings))) }
 {
-    let mut line = Bytes::with_room(alloc, USUAL_LINE)?;
-    append_happened(alloc, &mut line, calls, place, table)?;
-    Ok(line)
+    let count = calls.history().len();
+    let room = count.saturating_sub(first).saturating_mul(SHORT_LINE);
+    let mut lines = Bytes::with_room(alloc, room.max(LONE_LINE))?;
+    for place in first..count {
+        append_happened(alloc, &mut lines, calls, place, table)?;
+    }
+    Ok(lines)
 }
 
-/// Writes a line.
+/// Writes a line, or several.
 pub(crate) fn write_line<K: Sink>(out: &mut K, line: &[u8]) -> Result<(), Stop>
     ensures written { OnOk result (Appends (K.written out.old) (K.written out.new) line.now) }
     ensures front { OnErr result (AppendsFront (K.written out.old) (K.written out.new) line.now) }

@@ -1,5 +1,7 @@
 -- What is kept stays so behind one line, or one item, more.
-use Rattle.std.proofs.Common.{◌≡◌, ◌≢◌, ℕ, zero, suc, ◌+◌, ◌-◌, ◌*◌, ◌<◌, ◌≤◌, ◌==◌, Bool, true, false, not, List, [], ◌∷◌, ◌++◌, length, map, All, Option, Some, None, refl, sym, ap, subst, ◌∙◌, arith, inl, inr, filter, set, take, drop, insert}
+use Rattle.std.proofs.Common.{◌≡◌, ◌≢◌, ℕ, zero, suc, ◌+◌, ◌-◌, ◌*◌, ◌<◌, ◌≤◌, ◌==◌, Bool, true, false, not, List, []}
+use Rattle.std.proofs.Common.{◌∷◌, ◌++◌, length, map, All, Option, Some, None, refl, sym, ap, subst, ◌∙◌, arith, inl}
+use Rattle.std.proofs.Common.{inr, filter, set, take, drop, insert}
 use Rattle.std.specs.Prelude.{nat_lt, nat_le, slice_get, unwrap_or, option_map, if◌then◌else◌}
 use Rattle.std.proofs.lemmas.Bool.{cases_Bool, ltb-false, leb-true, leb-false, eqb-true, eqb-false, eq-eqb, false≢true, or_parts, cond-true, cond-false, cond_both}
 use Rattle.std.proofs.lemmas.List.{length-map, length-set, map-append, length-append}
@@ -192,7 +194,9 @@ module _ (loads : ℕ) (ps : List NamedPolicy) (before : List Line) where
   unless_none true r e = refl
   unless_none false r e = absurd cc
 
-  submit_by : (conn method number addr : ℕ) (heap : Option ℕ) (es : List Entry) (count : ℕ) → against_known loads ps heap es count (line.Submit conn method number addr) ≡ None → (count + 1) * loads ≤ 16777216
+  submit_by : (conn method number addr : ℕ) (heap : Option ℕ) (es : List Entry) (count : ℕ)
+      → against_known loads ps heap es count (line.Submit conn method number addr) ≡ None
+      → (count + 1) * loads ≤ 16777216
   submit_by conn method number addr None es count e = absurd cc
   submit_by conn method number addr (Some w) es count e = leb-true ((count + 1) * loads) 16777216 (unless_none (nat_le ((count + 1) * loads) 16777216) _ e)
 
@@ -201,7 +205,10 @@ module _ (loads : ℕ) (ps : List NamedPolicy) (before : List Line) where
       submit_by conn method number addr (heap_of before conn) (entries conn) (submissions before) (free (line.Submit conn method number addr) allowed)
 
   -- a step of an operator
-  op_by : (l : Line) (o : Op) (heap : Option ℕ) (count : ℕ) (es : List Entry) → against_known loads ps heap es count l ≡ None → ((w : ℕ) → against_known loads ps (Some w) es count l ≡ against_op o es) → ((es : List Entry) → against_known loads ps None es count l ≡ None → ⊥) → against_op o es ≡ None
+  op_by : (l : Line) (o : Op) (heap : Option ℕ) (count : ℕ) (es : List Entry)
+      → against_known loads ps heap es count l ≡ None
+      → ((w : ℕ) → against_known loads ps (Some w) es count l ≡ against_op o es)
+      → ((es : List Entry) → against_known loads ps None es count l ≡ None → ⊥) → against_op o es ≡ None
   op_by l o None count es e some none = absurd (none es e)
   op_by l o (Some w) count es e some none = sym (some w) ∙ e
 
@@ -240,7 +247,8 @@ filter_long : (name : List ℕ) (ls : List Link) → length (without name ls) �
 filter_long name [] = omega arith
 filter_long name (l ∷ ls) =
     let rest = filter_long name ls in
-    cond_both (not (is_link name l)) (l ∷ without name ls) (without name ls) (λ (ks : List Link). length ks ≤ length (l ∷ ls)) (λ is. omega (arith, rest)) (λ isnt. omega (arith, rest))
+    cond_both (not (is_link name l)) (l ∷ without name ls) (without name ls) (λ (ks : List Link). length ks
+    ≤ length (l ∷ ls)) (λ is. omega (arith, rest)) (λ isnt. omega (arith, rest))
 
 add-zero : (n : ℕ) → n + 0 ≡ n
 add-zero n = omega arith
@@ -305,7 +313,8 @@ module _ (loads : ℕ) (d : Declared) (b : Body) (k : IsKept loads d b) where
   same_then l conn other = chain_push policies new_chain b.lines l conn ∙ cond-false (conn_of l == conn) (done (op_in policies l) (chain_at conn)) (chain_at conn) other
 
   done_then : (l : Line) (conn : ℕ) → conn_of l ≡ conn → chain_then l conn ≡ done (op_in policies l) (chain_at conn)
-  done_then l conn same = chain_push policies new_chain b.lines l conn ∙ cond-true (conn_of l == conn) (done (op_in policies l) (chain_at conn)) (chain_at conn) (eq-eqb (conn_of l) conn same)
+  done_then l conn same = chain_push policies new_chain b.lines l conn ∙ cond-true (conn_of l == conn)
+      (done (op_in policies l) (chain_at conn)) (chain_at conn) (eq-eqb (conn_of l) conn same)
 
   -- what is kept of a connection behind a line
   pub record IsThen (l : Line) (connections : List Connection) (conn : ℕ) : Type 0 where
@@ -334,10 +343,13 @@ module _ (loads : ℕ) (d : Declared) (b : Body) (k : IsKept loads d b) where
   plain_then : (l : Line) → is_conn l ≡ false → op_in policies l ≡ None → (conn : ℕ) → 1 ≤ conn → conn ≤ 16 → IsThen l b.connections conn
   plain_then l used none conn from to = untouched l b.connections conn from to refl (heap_push b.lines l conn used) (ap (λ (c : Chain). outline c.entries) (no_step l conn none))
 
-  conn_then : (n words : ℕ) → 1 ≤ n → n ≤ 16 → heap_of b.lines n ≡ None → (conn : ℕ) → 1 ≤ conn → conn ≤ 16 → IsThen (line.Conn n words) (opened b.connections n words) conn
+  conn_then : (n words : ℕ) → 1 ≤ n → n ≤ 16 → heap_of b.lines n ≡ None → (conn : ℕ) → 1 ≤ conn → conn ≤ 16
+      → IsThen (line.Conn n words) (opened b.connections n words) conn
   conn_then n words from to none conn low high = elim (cases_Bool (n == conn)) [
     | inl same ↦ subst (IsThen (line.Conn n words) (opened b.connections n words)) (eqb-true n conn same) here
-    | inr other ↦ untouched (line.Conn n words) (opened b.connections n words) conn low high (at_other b.connections n conn _ from low (eqb-false n conn other)) (heap_elsewhere b.lines n words conn other)
+    | inr other ↦ untouched (line.Conn n words) (opened b.connections n words) conn low high
+        (at_other b.connections n conn _ from low (eqb-false n conn other))
+        (heap_elsewhere b.lines n words conn other)
         (ap (λ (c : Chain). outline c.entries) (no_step (line.Conn n words) conn refl))
   ] where
     here : IsThen (line.Conn n words) (opened b.connections n words) n
@@ -351,7 +363,8 @@ module _ (loads : ℕ) (d : Declared) (b : Body) (k : IsKept loads d b) where
         }
 
   -- a line of an operator that links the chain of its connection anew
-  relinked_then : (l : Line) (n : ℕ) (links : List Link) → is_conn l ≡ false → conn_of l ≡ n → 1 ≤ n → n ≤ 16 → length links ≤ 8 → links ≡ outline (done (op_in policies l) (chain_at n)).entries
+  relinked_then : (l : Line) (n : ℕ) (links : List Link) → is_conn l ≡ false → conn_of l ≡ n → 1 ≤ n → n ≤ 16
+      → length links ≤ 8 → links ≡ outline (done (op_in policies l) (chain_at n)).entries
       → (conn : ℕ) → 1 ≤ conn → conn ≤ 16 → IsThen l (relinked b.connections n links) conn
   relinked_then l n links used of_n from to few is conn low high = elim (cases_Bool (n == conn)) [
     | inl same ↦ subst (IsThen l (relinked b.connections n links)) (eqb-true n conn same) here
@@ -372,7 +385,8 @@ module _ (loads : ℕ) (d : Declared) (b : Body) (k : IsKept loads d b) where
 
   inside_few : (n : ℕ) → 1 ≤ n → n ≤ 16 → length (entries loads policies b.lines n) ≤ 8
   inside_few n from to =
-      (let c = k.connections n from to in let at_most = c.few in let same = ap (length {A = Link}) c.links in let mapped = length-map (entries loads policies b.lines n) link_of in omega (arith, at_most, same, mapped))
+      (let c = k.connections n from to in let at_most = c.few in let same = ap (length {A = Link}) c.links in
+      let mapped = length-map (entries loads policies b.lines n) link_of in omega (arith, at_most, same, mapped))
 
   places : {X : Type 0} (xs : List X) (i : ℕ) → i < length xs → (x : X) × (slice_get xs i ≡ Some x)
   places [] i within = absurd (omega (arith, within))
@@ -397,7 +411,9 @@ module _ (loads : ℕ) (d : Declared) (b : Body) (k : IsKept loads d b) where
       (λ w. ap (λ (o : Option NamedPolicy). against_some_op (option_map (λ r. op.Upgrade name r.name r.policy) o) es) there)
       (λ fs e. (let bad : ◌≡◌ {A = Option ScriptReason} (Some _) None = e in cc))
 
-  pub can_attach : (conn at place : ℕ) (name : List ℕ) → Allows loads policies b.lines (line.Attach conn at name place) → CanAttach loads policies b.lines (entries loads policies b.lines conn) at
+  pub can_attach : (conn at place : ℕ) (name : List ℕ)
+      → Allows loads policies b.lines (line.Attach conn at name place)
+      → CanAttach loads policies b.lines (entries loads policies b.lines conn) at
   can_attach conn at place name allowed =
       let q = places policies place allowed.ranges.1 in
       attach_parts loads policies b.lines (entries loads policies b.lines conn) at name q.0.name q.0.policy (attach_free conn at place name allowed q.0 q.1)
@@ -422,17 +438,21 @@ module _ (loads : ℕ) (d : Declared) (b : Body) (k : IsKept loads d b) where
       (let room = can.room in let long = kept_long n allowed.conn_from allowed.conn_to in let more = insert_long (links_at b.connections n) at new in omega (arith, room, long, more))
       (inserted ∙ stepped) conn low high
 
-  detach_then : (n : ℕ) (name : List ℕ) → 1 ≤ n → n ≤ 16 → (conn : ℕ) → 1 ≤ conn → conn ≤ 16 → IsThen (line.Detach n name) (connections_after d (line.Detach n name) b.connections) conn
+  detach_then : (n : ℕ) (name : List ℕ) → 1 ≤ n → n ≤ 16 → (conn : ℕ) → 1 ≤ conn → conn ≤ 16
+      → IsThen (line.Detach n name) (connections_after d (line.Detach n name) b.connections) conn
   detach_then n name from to conn low high =
       let c = k.connections n from to in
       relinked_then (line.Detach n name) n (without name (links_at b.connections n)) refl refl from to
       (let at_most = c.few in let less = filter_long name (links_at b.connections n) in omega (arith, at_most, less))
       (ap (without name) c.links ∙ sym (outline_without name (chain_at n).entries)) conn low high
 
-  upgrade_then : (n place : ℕ) (name : List ℕ) → Allows loads policies b.lines (line.Upgrade n name place) → (conn : ℕ) → 1 ≤ conn → conn ≤ 16 → IsThen (line.Upgrade n name place) b.connections conn
+  upgrade_then : (n place : ℕ) (name : List ℕ) → Allows loads policies b.lines (line.Upgrade n name place)
+      → (conn : ℕ) → 1 ≤ conn → conn ≤ 16 → IsThen (line.Upgrade n name place) b.connections conn
   upgrade_then n place name allowed conn low high = elim (cases_Bool (n == conn)) [
     | inl same ↦ untouched (line.Upgrade n name place) b.connections conn low high refl (heap_push b.lines (line.Upgrade n name place) conn refl) (here (eqb-true n conn same))
-    | inr other ↦ untouched (line.Upgrade n name place) b.connections conn low high refl (heap_push b.lines (line.Upgrade n name place) conn refl) (ap (λ (c : Chain). outline c.entries) (same_then (line.Upgrade n name place) conn other))
+    | inr other ↦ untouched (line.Upgrade n name place) b.connections conn low high refl
+        (heap_push b.lines (line.Upgrade n name place) conn refl)
+        (ap (λ (c : Chain). outline c.entries) (same_then (line.Upgrade n name place) conn other))
   ] where
     here : n ≡ conn → outline (chain_then (line.Upgrade n name place) conn).entries ≡ outline (chain_at conn).entries
     here same =
@@ -546,7 +566,8 @@ module _ (loads : ℕ) (d : Declared) (b : Body) (k : IsKept loads d b) where
   next_of (change.Line l) d' b' can (declared, added) =
       subst (λ (x : Declared). IsNext (change.Line l) x b') (sym declared) (record {
         kept = kept_line l b' can added;
-        seen_is = ap (λ (ls : List Line). record { declared = d; lines = ls; closed = b'.closed }) added.lines ∙ ap (λ (c : Bool). record { declared = d; lines = b.lines ++ l ∷ []; closed = c }) added.closed;
+        seen_is = ap (λ (ls : List Line). record { declared = d; lines = ls; closed = b'.closed }) added.lines
+            ∙ ap (λ (c : Bool). record { declared = d; lines = b.lines ++ l ∷ []; closed = c }) added.closed;
       })
   next_of change.Close d' b' can (declared, closed) =
       subst (λ (x : Declared). IsNext change.Close x b') (sym declared) (record {
@@ -564,5 +585,6 @@ module _ (loads : ℕ) (d : Declared) (b : Body) (k : IsKept loads d b) where
           work = subst (λ (n : ℕ). n * loads ≤ 16777216) (sym closed.submissions) k.work;
           lines = subst (AreLines (length policies)) (sym closed.lines) k.lines;
         };
-        seen_is = ap (λ (ls : List Line). record { declared = d; lines = ls; closed = b'.closed }) closed.lines ∙ ap (λ (c : Bool). record { declared = d; lines = b.lines; closed = c }) closed.closed;
+        seen_is = ap (λ (ls : List Line). record { declared = d; lines = ls; closed = b'.closed }) closed.lines
+            ∙ ap (λ (c : Bool). record { declared = d; lines = b.lines; closed = c }) closed.closed;
       })

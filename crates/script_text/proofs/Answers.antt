@@ -21,7 +21,9 @@ use Rattle.script_text.specs.declared.script.Script.{Script}
 use Rattle.script_text.proofs.Bounds.{stops_among}
 use Rattle.script_text.proofs.OneScript.{reaches_behind}
 
-pub only_one : (text : List ℕ) (r : Result Script ScriptFault) → ((t : List ℕ) (s u : Script) → Spells t s → Spells t u → s ≡ u) → ((t : List ℕ) (s : Script) (line : ℕ) (reason : ScriptReason) → Spells t s → IsFault t line reason → ⊥)
+pub only_one : (text : List ℕ) (r : Result Script ScriptFault)
+    → ((t : List ℕ) (s u : Script) → Spells t s → Spells t u → s ≡ u)
+    → ((t : List ℕ) (s : Script) (line : ℕ) (reason : ScriptReason) → Spells t s → IsFault t line reason → ⊥)
     → MatchResult r (Spells text) (IsFaultOf text) → (s : Script) → Spells text s → MatchResult r (λ t. t ≡ s) (λ e. e ≡ fault.Memory)
 only_one text (Ok t) one either h s spells = one text t s h spells
 only_one text (Err (fault.At line reason)) one either h s spells = absurd (either text s line reason spells h)
@@ -33,8 +35,11 @@ front_fault text fault.Memory h = tt
 
 front_behind : (text : List ℕ) (loads : ℕ) (T : Table) (behind : List ℕ) → IsFront first_line text loads T behind → (passed : List ℕ) × (text ≡ passed ++ behind)
 front_behind text loads T behind f =
-    let end : List ℕ = codes "end\n" in
-    (f.head ++ (table_text T ++ end), f.text_is ∙ ap (λ (t : List ℕ). f.head ++ t) (sym (append_assoc (table_text T) end behind)) ∙ sym (append_assoc f.head (table_text T ++ end) behind))
+    let end : List ℕ = codes "end\n" in (
+      f.head ++ (table_text T ++ end),
+      f.text_is ∙ ap (λ (t : List ℕ). f.head ++ t) (sym (append_assoc (table_text T) end behind))
+          ∙ sym (append_assoc f.head (table_text T ++ end) behind),
+    )
 
 module _ (laws : Laws) (text : List ℕ) (loads : ℕ) (T : Table) (behind : List ℕ) (front : IsFront first_line text loads T behind) where
   -- the text up to what is left
@@ -71,6 +76,7 @@ module _ (laws : Laws) (text : List ℕ) (loads : ℕ) (T : Table) (behind : Lis
   spelled d lines reaches = record { behind = behind; front = front; reaches = reaches }
 
 -- a fault of what is left stops the reading
-pub stop_is : (loads : ℕ) (T : Table) (text : List ℕ) (b : Before) (rest : List ℕ) (e : ScriptFault) → Reaches loads T text b rest → IsStopOf loads T b rest e → IsStopIn loads T text (stopped rest e)
+pub stop_is : (loads : ℕ) (T : Table) (text : List ℕ) (b : Before) (rest : List ℕ) (e : ScriptFault)
+    → Reaches loads T text b rest → IsStopOf loads T b rest e → IsStopIn loads T text (stopped rest e)
 stop_is loads T text b rest (fault.At at r) reaches h = record { before = b; rest = rest; reaches = reaches; left_is = refl; stops = h }
 stop_is loads T text b rest fault.Memory reaches h = tt

@@ -26,7 +26,8 @@ at_among skips (l ∷ lines) number =
     let more : (n : ℕ) → IsAmong (length (l ∷ lines) + 1) (1 + line_at skips lines n) =
     λ n. let rest = at_among skips lines n in let from = rest.from in let to = rest.to in record { from = omega arith; to = omega (arith, to) } in
     cond_both (is_kept skips l) (if number == 1 then 1 else 1 + line_at skips lines (number - 1)) (1 + line_at skips lines number) (IsAmong (length (l ∷ lines) + 1))
-    (λ kept. cond_both (number == 1) 1 (1 + line_at skips lines (number - 1)) (IsAmong (length (l ∷ lines) + 1)) (λ is. record { from = omega arith; to = omega arith }) (λ isnt. more (number - 1)))
+    (λ kept. cond_both (number == 1) 1 (1 + line_at skips lines (number - 1)) (IsAmong (length (l ∷ lines) + 1))
+    (λ is. record { from = omega arith; to = omega arith }) (λ isnt. more (number - 1)))
     (λ skipped. more number)
 
 onto_more : (c : ℕ) (ps : List (List ℕ)) → length (onto_first c ps) ≤ length ps + 1
@@ -38,7 +39,8 @@ pieces_few [] = omega arith
 pieces_few (c ∷ cs) =
     let rest = pieces_few cs in
     let onto = onto_more c (pieces_of cs) in
-    cond_both (c == 10) ([] ∷ pieces_of cs) (onto_first c (pieces_of cs)) (λ (ps : List (List ℕ)). length ps ≤ length (c ∷ cs) + 1) (λ is. omega (arith, rest)) (λ isnt. omega (arith, rest, onto))
+    cond_both (c == 10) ([] ∷ pieces_of cs) (onto_first c (pieces_of cs)) (λ (ps : List (List ℕ)). length ps
+    ≤ length (c ∷ cs) + 1) (λ is. omega (arith, rest)) (λ isnt. omega (arith, rest, onto))
 
 inner_few : (text : List ℕ) (inner : List (List ℕ)) (rest : List ℕ) → IsBlock text inner rest → length inner ≤ length text
 inner_few text inner rest block =
@@ -53,11 +55,13 @@ whole_few text = (let few = pieces_few text in let long = length-take (length (p
 wider : (least most n : ℕ) → least ≤ most → IsAmong least n → IsAmong most n
 wider least most n h k = (let to = k.to in record { from = k.from; to = omega (arith, h, to) })
 
-breaks_among : (First : List (List ℕ) → ℕ → RuleReason → Type 0) (skips : Bool) (text : List ℕ) (line : ℕ) (reason : ScriptReason) → Breaks First skips text line reason → IsAmong (length text + 1) line
+breaks_among : (First : List (List ℕ) → ℕ → RuleReason → Type 0) (skips : Bool) (text : List ℕ) (line : ℕ)
+    (reason : ScriptReason) → Breaks First skips text line reason → IsAmong (length text + 1) line
 breaks_among First skips text line reason (in_block inner rest number why block first e f) =
     subst (IsAmong (length text + 1)) (sym e) (wider (length inner + 1) (length text + 1) _ (let few = inner_few text inner rest block in omega (arith, few)) (at_among skips inner number))
 breaks_among First skips text line reason (in_open number why shut first within e f) =
-    subst (IsAmong (length text + 1)) (sym e) (wider (length (whole_lines text) + 1) (length text + 1) _ (let few = whole_few text in omega (arith, few)) (at_among skips (whole_lines text) number))
+    subst (IsAmong (length text + 1)) (sym e) (wider (length (whole_lines text) + 1) (length text + 1) _ (let few =
+    whole_few text in omega (arith, few)) (at_among skips (whole_lines text) number))
 breaks_among First skips text line reason (no_end shut none e f) = (let few = whole_few text in record { from = omega (arith, e); to = omega (arith, e, few) })
 
 pub breaks_in : (T : Table) (skips : Bool) (f : ItemForm) (text : List ℕ) (line : ℕ) (reason : ScriptReason) → BreaksIn T skips f text line reason → IsAmong (length text + 1) line

@@ -1,5 +1,6 @@
 -- One line more: a text goes on in one way, or stops for one reason, and never both.
-use Rattle.std.proofs.Common.{◌≡◌, ◌≢◌, ◌⊎◌, ℕ, zero, suc, ◌+◌, ◌<◌, ◌≤◌, true, false, List, [], ◌∷◌, ◌++◌, length, Option, Some, None, Result, Ok, Err, refl, sym, ap, subst, ◌∙◌, arith, inl, inr}
+use Rattle.std.proofs.Common.{◌≡◌, ◌≢◌, ◌⊎◌, ℕ, zero, suc, ◌+◌, ◌<◌, ◌≤◌, true, false, List, [], ◌∷◌, ◌++◌, length}
+use Rattle.std.proofs.Common.{Option, Some, None, Result, Ok, Err, refl, sym, ap, subst, ◌∙◌, arith, inl, inr}
 use Rattle.std.proofs.lemmas.Bool.{false≢true, cases_Bool}
 use Rattle.std.proofs.lemmas.List.{length-append, nil_from_length}
 use Rattle.std.proofs.lemmas.Option.{same_Some}
@@ -45,7 +46,8 @@ module _ (laws : Laws) (loads : ℕ) (T : Table) where
   left_of : (passed x text : List ℕ) → text ≡ passed ++ x → length x ≤ length text
   left_of passed x text e = omega (arith, ap (length {A = ℕ}) e, length-append passed x)
 
-  heads_free : (b : Before) (line : List ℕ) (g : ItemForm) (m : List Meaning) → b.closed ≡ false → item_form_in (words_of line) ≡ Some g → Heads b.declared g line m → Free b line
+  heads_free : (b : Before) (line : List ℕ) (g : ItemForm) (m : List Meaning) → b.closed ≡ false
+      → item_form_in (words_of line) ≡ Some g → Heads b.declared g line m → Free b line
   heads_free b line g m still is heads q offends = elim (faults.head_of laws loads b line g q is offends) [
     | inl against ↦ heads.free q against
     | inr after ↦ false≢true (sym still ∙ after.0)
@@ -73,7 +75,8 @@ module _ (laws : Laws) (loads : ℕ) (T : Table) where
   abbrev pub IsSame : Before → List ℕ → Before → List ℕ → Type 0
   IsSame next rest other left = (next ≡ other) × (rest ≡ left)
 
-  said_item : (d : Declared) (line : List ℕ) (f : Form) (m : List Meaning) (l : Line) (g : ItemForm) → IsSaid f line m → line_in d f m ≡ Some l → item_form_in (words_of line) ≡ Some g → ⊥
+  said_item : (d : Declared) (line : List ℕ) (f : Form) (m : List Meaning) (l : Line) (g : ItemForm) → IsSaid f line m
+      → line_in d f m ≡ Some l → item_form_in (words_of line) ≡ Some g → ⊥
   said_item d line f m l g said is item =
       let none = line_of_item d f m g (sym (item_of (words_of line) f said.has_form) ∙ item) in
       (let bad : None ≡ Some l = sym none ∙ is in cc)
@@ -90,13 +93,16 @@ module _ (laws : Laws) (loads : ℕ) (T : Table) where
   skipped_item : (line : List ℕ) (g : ItemForm) → is_skipped line ≡ true → item_form_in (words_of line) ≡ Some g → ⊥
   skipped_item line g skipped item = let f = item_is (words_of line) g item in skipped_and_form line f.0 skipped f.1
 
-  two_lines : (b : Before) (line : List ℕ) (f g : Form) (m n : List Meaning) (k l : Line) → IsSaid f line m → IsSaid g line n → line_in b.declared f m ≡ Some k → line_in b.declared g n ≡ Some l → k ≡ l
+  two_lines : (b : Before) (line : List ℕ) (f g : Form) (m n : List Meaning) (k l : Line) → IsSaid f line m
+      → IsSaid g line n → line_in b.declared f m ≡ Some k → line_in b.declared g n ≡ Some l → k ≡ l
   two_lines b line f g m n k l said other is here =
       let same : g ≡ f = same_form (words_of line) g f other.has_form said.has_form in
       let meanings : n ≡ m = laws.one_said (sorts_of f) (words_of line) n m (subst (λ (x : Form). AreSaid (sorts_of x) (words_of line) n) same other.said) said.said in
       same_Some k l (sym is ∙ subst (λ (x : Form). line_in b.declared x m ≡ Some l) same (subst (λ (x : List Meaning). line_in b.declared g x ≡ Some l) meanings here))
 
-  one_goes_at : (b : Before) (text line behind : List ℕ) (next other : Before) (x y : List ℕ) → IsLineBefore text line behind → Goes loads T b text next x → Goes loads T b text other y → IsSame next x other y
+  one_goes_at : (b : Before) (text line behind : List ℕ) (next other : Before) (x y : List ℕ)
+      → IsLineBefore text line behind → Goes loads T b text next x → Goes loads T b text other y
+      → IsSame next x other y
   one_goes_at b text line behind next other x y at (skips l h skipped e) (skips m k also f) = (e ∙ sym f, (same_first text l m x y h k).1)
   one_goes_at b text line behind next other x y at (skips l h skipped e) (declares m more g i k still is d f) =
       absurd (skipped_item m g (subst (λ (t : List ℕ). is_skipped t ≡ true) (same_first text l m x more h k).0 skipped) is)
@@ -110,7 +116,9 @@ module _ (laws : Laws) (loads : ℕ) (T : Table) where
       let same = same_first text l m more less h at' in
       let forms : j ≡ g = same_Some j g (sym also ∙ subst (λ (t : List ℕ). item_form_in (words_of t) ≡ Some g) same.0 is) in
       let moved : Declares T true b.declared j m less i x =
-      subst (λ (g : ItemForm). Declares T true b.declared g m less i x) (sym forms) (subst (λ (t : List ℕ). Declares T true b.declared g m t i x) same.1 (subst (λ (t : List ℕ). Declares T true b.declared g t more i x) same.0 d)) in
+      subst (λ (g : ItemForm). Declares T true b.declared g m less i x) (sym forms)
+      (subst (λ (t : List ℕ). Declares T true b.declared g m t i x) same.1
+      (subst (λ (t : List ℕ). Declares T true b.declared g t more i x) same.0 d)) in
       let one = laws.one_item T true b.declared j m less i k x y moved c in
       (e ∙ ap (λ (z : Item). record { declared = with_item b.declared z; lines = b.lines; closed = false }) one.0 ∙ sym f, one.1)
   one_goes_at b text line behind next other x y at (declares l more g i h still is d e) (says m f n c k said here free j) =
@@ -140,7 +148,8 @@ module _ (laws : Laws) (loads : ℕ) (T : Table) where
 
   -- ---- a text that goes on doesn't stop
 
-  pub goes_or_stops : (b : Before) (text : List ℕ) (next : Before) (rest : List ℕ) (at : ℕ) (reason : ScriptReason) → Goes loads T b text next rest → Stops loads T b text at reason → ⊥
+  pub goes_or_stops : (b : Before) (text : List ℕ) (next : Before) (rest : List ℕ) (at : ℕ) (reason : ScriptReason)
+      → Goes loads T b text next rest → Stops loads T b text at reason → ⊥
   goes_or_stops b text next rest at reason goes (in_line line behind before first e) =
       let h = goes_free b text next rest goes in
       let same = same_first text line h.line behind h.behind before h.before in
@@ -151,7 +160,9 @@ module _ (laws : Laws) (loads : ℕ) (T : Table) where
       let same = same_first text l line more behind h before in
       let forms : j ≡ g = same_Some j g (sym (subst (λ (t : List ℕ). item_form_in (words_of t) ≡ Some j) same.0 has) ∙ is) in
       let moved : Declares T true b.declared g line behind i rest =
-      subst (λ (g : ItemForm). Declares T true b.declared g line behind i rest) forms (subst (λ (t : List ℕ). Declares T true b.declared j line t i rest) same.1 (subst (λ (t : List ℕ). Declares T true b.declared j t more i rest) same.0 d)) in
+      subst (λ (g : ItemForm). Declares T true b.declared g line behind i rest) forms
+      (subst (λ (t : List ℕ). Declares T true b.declared j line t i rest) same.1
+      (subst (λ (t : List ℕ). Declares T true b.declared j t more i rest) same.0 d)) in
       laws.item_or_fault T true b.declared g line behind i rest (1 + below) reason moved (items.in_block m below heads breaks refl)
   goes_or_stops b text next rest at reason (says l f n c h said here free j) (in_block line behind g m below before still is heads breaks e) =
       said_item b.declared line f n c g (subst (λ (t : List ℕ). IsSaid f t n) (same_first text l line rest behind h before).0 said) here is
@@ -162,7 +173,8 @@ module _ (laws : Laws) (loads : ℕ) (T : Table) where
 
   -- ---- one stop
 
-  head_in_block : (b : Before) (line : List ℕ) (g : ItemForm) (m : List Meaning) (q : ScriptReason) → b.closed ≡ false → item_form_in (words_of line) ≡ Some g → Heads b.declared g line m → Offends loads b line q → ⊥
+  head_in_block : (b : Before) (line : List ℕ) (g : ItemForm) (m : List Meaning) (q : ScriptReason) → b.closed ≡ false
+      → item_form_in (words_of line) ≡ Some g → Heads b.declared g line m → Offends loads b line q → ⊥
   head_in_block b line g m q still is heads offends = heads_free b line g m still is heads q offends
 
   pub one_stop : (b : Before) (text : List ℕ) (m n : ℕ) (r q : ScriptReason) → Stops loads T b text m r → Stops loads T b text n q → (m ≡ n) × (r ≡ q)
@@ -181,7 +193,9 @@ module _ (laws : Laws) (loads : ℕ) (T : Table) where
       let forms : g ≡ i = same_Some g i (sym (subst (λ (t : List ℕ). item_form_in (words_of t) ≡ Some g) same.0 is) ∙ has) in
       let fault : FailsAt T true b.declared g l x (1 + below) r = items.in_block o below heads breaks refl in
       let moved : FailsAt T true b.declared i k y (1 + below) r =
-      subst (λ (g : ItemForm). FailsAt T true b.declared g k y (1 + below) r) forms (subst (λ (t : List ℕ). FailsAt T true b.declared g k t (1 + below) r) same.1 (subst (λ (t : List ℕ). FailsAt T true b.declared g t x (1 + below) r) same.0 fault)) in
+      subst (λ (g : ItemForm). FailsAt T true b.declared g k y (1 + below) r) forms
+      (subst (λ (t : List ℕ). FailsAt T true b.declared g k t (1 + below) r) same.1
+      (subst (λ (t : List ℕ). FailsAt T true b.declared g t x (1 + below) r) same.0 fault)) in
       let one = laws.one_item_fault T true b.declared i k y (1 + below) (1 + under) r q moved (items.in_block p under heads' breaks' refl) in
       (e ∙ one.0 ∙ sym f, one.1)
   one_stop b text m n r q (in_block k y g o below j still is heads breaks f) (no_feed one some h e) = absurd (has_feed text k y j one)
@@ -202,7 +216,9 @@ module _ (laws : Laws) (loads : ℕ) (T : Table) where
     next_stops : (at : ℕ) (reason : ScriptReason) → Stops loads T b text at reason → Next b text
     next_ends : text ≡ [] → b.closed ≡ true → Next b text
 
-  said_next : (b : Before) (text line behind : List ℕ) (f : Form) (m : List Meaning) (x : Result Line ScriptReason) → IsLineBefore text line behind → IsSaid f line m → item_form f ≡ None → faults.SaidVerdict laws loads b f m x → Next b text
+  said_next : (b : Before) (text line behind : List ℕ) (f : Form) (m : List Meaning) (x : Result Line ScriptReason)
+      → IsLineBefore text line behind → IsSaid f line m → item_form f ≡ None → faults.SaidVerdict laws loads b f m x
+      → Next b text
   said_next b text line behind f m (Ok l) before said item verdict = elim (cases_Bool b.closed) [
     | inl closed ↦ next_stops 1 reason.After (in_line line behind before (faults.closed_first laws loads b line f m said item verdict.1 closed) refl)
     | inr still ↦ next_goes _ behind (says line f m l before said verdict.0 (faults.open_free laws loads b line f m said item verdict.1 still) refl)
@@ -247,7 +263,9 @@ module _ (laws : Laws) (loads : ℕ) (T : Table) where
     | inr first ↦ next_stops 1 first.0 (in_line line behind before (faults.words_first laws loads b line f first.0 has item first.1) refl)
   ]
 
-  item_fault_next : (b : Before) (text line behind : List ℕ) (g : ItemForm) (at : ℕ) (r : ScriptReason) → IsLineBefore text line behind → item_form_in (words_of line) ≡ Some g → FailsAt T true b.declared g line behind at r → Next b text
+  item_fault_next : (b : Before) (text line behind : List ℕ) (g : ItemForm) (at : ℕ) (r : ScriptReason)
+      → IsLineBefore text line behind → item_form_in (words_of line) ≡ Some g
+      → FailsAt T true b.declared g line behind at r → Next b text
   item_fault_next b text line behind g at r before is (items.in_head first e) = next_stops 1 r (in_line line behind before (faults.head_first laws loads b line g r is first) refl)
   item_fault_next b text line behind g at r before is (items.in_block m below heads breaks e) = elim (cases_Bool b.closed) [
     | inl closed ↦ next_stops 1 reason.After (in_line line behind before (faults.head_closed laws loads b line g is heads.free closed) refl)
@@ -263,11 +281,13 @@ module _ (laws : Laws) (loads : ℕ) (T : Table) where
     | inr fault ↦ item_fault_next b text line behind g fault.0 fault.1 before is fault.2
   ]
 
-  form_next : (b : Before) (text line behind : List ℕ) (f : Form) (g : Option ItemForm) → IsLineBefore text line behind → form_in (words_of line) ≡ Some f → item_form f ≡ g → Next b text
+  form_next : (b : Before) (text line behind : List ℕ) (f : Form) (g : Option ItemForm)
+      → IsLineBefore text line behind → form_in (words_of line) ≡ Some f → item_form f ≡ g → Next b text
   form_next b text line behind f None before has item = words_next b text line behind f before has item
   form_next b text line behind f (Some g) before has item = item_next b text line behind g before (item_of (words_of line) f has ∙ item)
 
-  unskipped_next : (b : Before) (text line behind : List ℕ) (found : Option Form) → IsLineBefore text line behind → is_skipped line ≡ false → form_in (words_of line) ≡ found → Next b text
+  unskipped_next : (b : Before) (text line behind : List ℕ) (found : Option Form) → IsLineBefore text line behind
+      → is_skipped line ≡ false → form_in (words_of line) ≡ found → Next b text
   unskipped_next b text line behind None before unskipped none = next_stops 1 reason.Word (in_line line behind before (faults.formless_first laws loads b line unskipped none) refl)
   unskipped_next b text line behind (Some f) before unskipped has = form_next b text line behind f (item_form f) before has refl
 

@@ -7,7 +7,9 @@ use Rattle.engine_core.specs.declared.op.Op.{Op}
 use Rattle.policy_blocks.specs.declared.item.NamedPolicy.{NamedPolicy}
 use Rattle.script_words.specs.declared.fault.ScriptReason.{ScriptReason}
 use Rattle.script_text.specs.Changes.{AreLines}
-use Rattle.script_text.specs.Lines.{conn_of, op_in, done, new_chain, chain_behind, chain_of, IsLine, IsAgainst, is_open, not_open, no_place_there, no_load, no_engine, is_refused, too_much, Allows, AreAllowed}
+use Rattle.script_text.specs.Lines.{conn_of, op_in, done, new_chain, chain_behind, chain_of, IsLine, IsAgainst}
+use Rattle.script_text.specs.Lines.{is_open, not_open, no_place_there, no_load, no_engine, is_refused, too_much}
+use Rattle.script_text.specs.Lines.{Allows, AreAllowed}
 use Rattle.script_text.specs.declared.script.Line.{Line}
 use Rattle.script_text.specs.declared.script.Line.TheVariants as line
 
@@ -42,7 +44,8 @@ module _ (ps qs : List NamedPolicy) where
   pub same_chain : (lines : List Line) (conn : ℕ) → AreLines count lines → chain_of (ps ++ qs) lines conn ≡ chain_of ps lines conn
   same_chain lines conn ranges = same_behind new_chain lines conn ranges
 
-  pub same_against : (loads : ℕ) (before : List Line) (l : Line) (q : ScriptReason) → AreLines count before → IsLine count l → IsAgainst loads (ps ++ qs) before l q → IsAgainst loads ps before l q
+  pub same_against : (loads : ℕ) (before : List Line) (l : Line) (q : ScriptReason) → AreLines count before
+      → IsLine count l → IsAgainst loads (ps ++ qs) before l q → IsAgainst loads ps before l q
   same_against loads before l q lines ranges (is_open words opens is e) = is_open words opens is e
   same_against loads before l q lines ranges (not_open used none e) = not_open used none e
   same_against loads before l q lines ranges (no_place_there place words at is none e) = no_place_there place words at is none e
@@ -90,7 +93,8 @@ module _ (loads : ℕ) where
     allowed_grown ps qs (before ++ l ∷ []) ls (lines_push (length ps) before l lines allowed.0.ranges) allowed.1,
   )
 
-  pub allowed_more : (ps : List NamedPolicy) (before lines : List Line) (l : Line) → AreAllowed loads ps before lines → Allows loads ps (before ++ lines) l → AreAllowed loads ps before (lines ++ l ∷ [])
+  pub allowed_more : (ps : List NamedPolicy) (before lines : List Line) (l : Line) → AreAllowed loads ps before lines
+      → Allows loads ps (before ++ lines) l → AreAllowed loads ps before (lines ++ l ∷ [])
   allowed_more ps before [] l h allowed = (subst (λ (ls : List Line). Allows loads ps ls l) (append-nil before) allowed, tt)
   allowed_more ps before (k ∷ ls) l h allowed =
       (h.0, allowed_more ps (before ++ k ∷ []) ls l h.1 (subst (λ (ks : List Line). Allows loads ps ks l) (sym (append_assoc before (k ∷ []) ls)) allowed))

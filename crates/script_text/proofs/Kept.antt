@@ -1,5 +1,7 @@
 -- What is said behind the lines is what is said by what is kept of them.
-use Rattle.std.proofs.Common.{◌≡◌, ◌≢◌, ℕ, zero, suc, ◌+◌, ◌*◌, ◌^◌, ◌<◌, ◌≤◌, ◌==◌, Bool, true, false, not, ◌&&◌, ◌||◌, List, [], ◌∷◌, length, Option, Some, None, Result, Ok, Err, refl, sym, ap, ◌∙◌, arith, inl, inr}
+use Rattle.std.proofs.Common.{◌≡◌, ◌≢◌, ℕ, zero, suc, ◌+◌, ◌*◌, ◌^◌, ◌<◌, ◌≤◌, ◌==◌, Bool, true, false, not, ◌&&◌}
+use Rattle.std.proofs.Common.{◌||◌, List, [], ◌∷◌, length, Option, Some, None, Result, Ok, Err, refl, sym, ap, ◌∙◌}
+use Rattle.std.proofs.Common.{arith, inl, inr}
 use Rattle.std.specs.Prelude.{nat_lt, nat_le, slice_get, option_map, if◌then◌else◌}
 use Rattle.std.proofs.lemmas.Bool.{cases_Bool, cases_lt, lt-ltb, le-ltb, le-leb, lt-leb, and_right}
 use Rattle.std.proofs.lemmas.List.{length-map}
@@ -21,7 +23,10 @@ use Rattle.script_words.specs.declared.fault.ScriptReason.{ScriptReason}
 use Rattle.script_words.specs.declared.fault.ScriptReason.TheVariants as reason
 use Rattle.script_text.specs.Changes.{link_of, outline, IsConnection, AreLines, IsKept, IsFlawOf}
 use Rattle.script_text.specs.Deciding.{has_name, is_other, has_other, is_place, unless, against_some_op, against_known, against, decided_by, decided, decide}
-use Rattle.script_text.specs.Keeping.{◌>>=◌, words_kept, links_kept, heap_kept, place_kept, load_kept, work_kept, place_or_unknown, kind_in, kind_at, if_closed, store_said, race_said, submit_said, attaching, detaching, upgrading, turn_said, used_said, line_said, IsMade}
+use Rattle.script_text.specs.Keeping.{◌>>=◌, words_kept, links_kept, heap_kept, place_kept, load_kept, work_kept}
+use Rattle.script_text.specs.Keeping.{place_or_unknown, kind_in, kind_at, if_closed, store_said, race_said}
+use Rattle.script_text.specs.Keeping.{submit_said, attaching, detaching, upgrading, turn_said, used_said, line_said}
+use Rattle.script_text.specs.Keeping.{IsMade}
 use Rattle.script_text.specs.Kinds.{kind_of, is_kind, has_entry, has_other_entry, attach_at, attach_in, attach_against, detach_against, upgrade_against, engine_in}
 use Rattle.script_text.specs.Lines.{conn_of, heap_of, chain_of, submissions}
 use Rattle.script_text.specs.Words.{any_size, IsSaid}
@@ -84,19 +89,26 @@ at_small : (make : ℕ → Line) (p : ℕ) (b : Bool) (r : ScriptReason) → ((i
 at_small make p true r = refl
 at_small make p false r = refl
 
-raced : (make : ℕ → ℕ → Line) (load p : ℕ) (b c : Bool) → ((if b then Ok load else Err reason.Place) >>= (λ q. (if c then Ok p else Err reason.Place) >>= (λ p. Ok (make q p)))) ≡ decided_by (make load p) (unless (b && c) reason.Place)
+raced : (make : ℕ → ℕ → Line) (load p : ℕ) (b c : Bool)
+    → ((if b then Ok load else Err reason.Place) >>=
+    (λ q. (if c then Ok p else Err reason.Place) >>= (λ p. Ok (make q p))))
+    ≡ decided_by (make load p) (unless (b && c) reason.Place)
 raced make load p true true = refl
 raced make load p true false = refl
 raced make load p false c = refl
 
-raced_far : (make : ℕ → ℕ → Line) (load p : ℕ) (b c : Bool) → c ≡ false → ((if b then Ok load else Err reason.Place) >>= (λ q. Err reason.Place >>= (λ p. Ok (make q p)))) ≡ decided_by (make load p) (unless (b && c) reason.Place)
+raced_far : (make : ℕ → ℕ → Line) (load p : ℕ) (b c : Bool) → c ≡ false
+    → ((if b then Ok load else Err reason.Place) >>= (λ q. Err reason.Place >>= (λ p. Ok (make q p))))
+    ≡ decided_by (make load p) (unless (b && c) reason.Place)
 raced_far make load p true c e = sym (ap (λ (x : Bool). decided_by (make load p) (unless x reason.Place)) e)
 raced_far make load p false c e = refl
 
 place_large : (words : ℕ) → words ≤ 65536 → is_place words (2 ^ 64) ≡ false
 place_large words most = and_right (nat_le 1 (2 ^ 64)) (nat_lt (2 ^ 64) words) (le-ltb (2 ^ 64) words (omega (arith, most)))
 
-placed : (words : ℕ) → words ≤ 65536 → (make : ℕ → Line) (d : Decimal) → (place_kept words d >>= (λ p. Ok (make p))) ≡ decided_by (make (any_size d)) (unless (is_place words (any_size d)) reason.Place)
+placed : (words : ℕ) → words ≤ 65536 → (make : ℕ → Line) (d : Decimal)
+    → (place_kept words d >>= (λ p. Ok (make p))) ≡ decided_by (make (any_size d))
+    (unless (is_place words (any_size d)) reason.Place)
 placed words most make (Small p) = at_small make p (is_place words p) reason.Place
 placed words most make Large = sym (ap (λ b. decided_by (make (2 ^ 64)) (unless b reason.Place)) (place_large words most))
 
@@ -105,44 +117,66 @@ race_placed : (words : ℕ) → words ≤ 65536 → (make : ℕ → ℕ → Line
 race_placed words most make load (Small p) = raced make load p (nat_le 1 load) (is_place words p)
 race_placed words most make load Large = raced_far make load (2 ^ 64) (nat_le 1 load) (is_place words (2 ^ 64)) (place_large words most)
 
-turned : (es : List Entry) → length es ≤ 8 → (make : ℕ → Line) (d : Decimal) → (engine_in (outline es) d >>= (λ at. Ok (make at))) ≡ decided_by (make (any_size d)) (unless (nat_lt (any_size d) (length es)) reason.At)
-turned es few make (Small at) = ap (λ n. ((if nat_lt at n then Ok at else Err reason.At) >>= (λ x. Ok (make x)))) (length-map es link_of) ∙ at_small make at (nat_lt at (length es)) reason.At
+turned : (es : List Entry) → length es ≤ 8 → (make : ℕ → Line) (d : Decimal)
+    → (engine_in (outline es) d >>= (λ at. Ok (make at))) ≡ decided_by (make (any_size d))
+    (unless (nat_lt (any_size d) (length es)) reason.At)
+turned es few make (Small at) = ap (λ n. ((if nat_lt at n then Ok at else Err reason.At) >>= (λ x. Ok (make x))))
+    (length-map es link_of) ∙ at_small make at (nat_lt at (length es)) reason.At
 turned es few make Large = sym (ap (λ b. decided_by (make (2 ^ 64)) (unless b reason.At)) (le-ltb (2 ^ 64) (length es) (omega (arith, few))))
 
 detached : (es : List Entry) (name : List ℕ) (l : Line) → (detach_against (outline es) name >>= (λ u. Ok l)) ≡ decided_by l (unless (has_name name es) reason.NoSuch)
 detached es name l = ap (λ b. ((if b then Ok tt else Err reason.NoSuch) >>= (λ (u : Unit {0}). Ok l))) (same_has name es) ∙ in_range (has_name name es) l reason.NoSuch
 
-upgraded_by : (make : ℕ → Line) (place : ℕ) (h o : Bool) → (((if not h then Err reason.NoSuch else if o then Err reason.OtherKind else Ok tt) >>= (λ (u : Unit {0}). Ok place)) >>= (λ p. Ok (make p))) ≡ decided_by (make place) (if h then unless (not o) reason.OtherKind else Some reason.NoSuch)
+upgraded_by : (make : ℕ → Line) (place : ℕ) (h o : Bool)
+    → (((if not h then Err reason.NoSuch else if o then Err reason.OtherKind else Ok tt) >>=
+    (λ (u : Unit {0}). Ok place)) >>= (λ p. Ok (make p)))
+    ≡ decided_by (make place) (if h then unless (not o) reason.OtherKind else Some reason.NoSuch)
 upgraded_by make place true true = refl
 upgraded_by make place true false = refl
 upgraded_by make place false o = refl
 
-attached_to : (make : ℕ → ℕ → Line) (place count at : ℕ) → ((attach_at count at >>= (λ n. Ok (both n place))) >>= (λ p. Ok (make p.0 p.1))) ≡ decided_by (make at place) (if nat_lt count at then Some reason.At else if nat_le 8 count then Some reason.ChainFull else None)
+attached_to : (make : ℕ → ℕ → Line) (place count at : ℕ)
+    → ((attach_at count at >>= (λ n. Ok (both n place))) >>= (λ p. Ok (make p.0 p.1))) ≡ decided_by (make at place)
+    (if nat_lt count at then Some reason.At else if nat_le 8 count then Some reason.ChainFull else None)
 attached_to make place count at = elim (cases_lt count at) [
   | inl past ↦ rw (lt-ltb count at past, lt-leb at count past) refl
   | inr within ↦ rw (le-ltb count at within, le-leb at count within) (by (nat_le 8 count))
 ] where
-  by : (b : Bool) → (((if b then Err reason.ChainFull else Ok at) >>= (λ n. Ok (both n place))) >>= (λ p. Ok (make p.0 p.1))) ≡ decided_by (make at place) (if b then Some reason.ChainFull else None)
+  by : (b : Bool) → (((if b then Err reason.ChainFull else Ok at) >>= (λ n. Ok (both n place))) >>=
+      (λ p. Ok (make p.0 p.1))) ≡ decided_by (make at place) (if b then Some reason.ChainFull else None)
   by true = refl
   by false = refl
 
-attached_in : (make : ℕ → ℕ → Line) (place count : ℕ) (d : Decimal) → count ≤ 8 → ((attach_in count d >>= (λ n. Ok (both n place))) >>= (λ p. Ok (make p.0 p.1))) ≡ decided_by (make (any_size d) place) (if nat_lt count (any_size d) then Some reason.At else if nat_le 8 count then Some reason.ChainFull else None)
+attached_in : (make : ℕ → ℕ → Line) (place count : ℕ) (d : Decimal) → count ≤ 8
+    → ((attach_in count d >>= (λ n. Ok (both n place))) >>= (λ p. Ok (make p.0 p.1)))
+    ≡ decided_by (make (any_size d) place) (if nat_lt count (any_size d) then Some reason.At
+    else if nat_le 8 count then Some reason.ChainFull else None)
 attached_in make place count (Small at) few = attached_to make place count at
-attached_in make place count Large few = sym (ap (λ b. decided_by (make (2 ^ 64) place) (if b then Some reason.At else if nat_le 8 count then Some reason.ChainFull else None)) (lt-ltb count (2 ^ 64) (omega (arith, few))))
+attached_in make place count Large few =
+    sym (ap (λ b. decided_by (make (2 ^ 64) place)
+    (if b then Some reason.At else if nat_le 8 count then Some reason.ChainFull else None))
+    (lt-ltb count (2 ^ 64) (omega (arith, few))))
 
 attached : (es : List Entry) → length es ≤ 8 → (make : ℕ → ℕ → Line) (place : ℕ) (d : Decimal) (name : List ℕ)
     → ((attach_against (outline es) d name >>= (λ n. Ok (both n place))) >>= (λ p. Ok (make p.0 p.1)))
-    ≡ decided_by (make (any_size d) place) (if has_name name es then Some reason.Taken else if nat_lt (length es) (any_size d) then Some reason.At else if nat_le 8 (length es) then Some reason.ChainFull else None)
+    ≡ decided_by (make (any_size d) place) (if has_name name es then Some reason.Taken
+    else if nat_lt (length es) (any_size d) then Some reason.At
+    else if nat_le 8 (length es) then Some reason.ChainFull else None)
 attached es few make place d name = elim (cases_Bool (has_name name es)) [
   | inl has ↦ rw (same_has name es, has) refl
   | inr free ↦ rw (same_has name es, free, length-map es link_of) (attached_in make place (length es) d few)
 ]
 
 upgraded_to : (es : List Entry) (make : ℕ → Line) (place : ℕ) (name : List ℕ) (p : Policy)
-    → ((upgrade_against (outline es) name (kind_of p) >>= (λ (u : Unit {0}). Ok place)) >>= (λ q. Ok (make q))) ≡ decided_by (make place) (if has_name name es then unless (not (has_other name p es)) reason.OtherKind else Some reason.NoSuch)
+    → ((upgrade_against (outline es) name (kind_of p) >>= (λ (u : Unit {0}). Ok place)) >>= (λ q. Ok (make q)))
+    ≡ decided_by (make place) (if has_name name es then unless (not (has_other name p es)) reason.OtherKind
+    else Some reason.NoSuch)
 upgraded_to es make place name p =
-    ap (λ h. ((if not h then Err reason.NoSuch else if has_other_entry name (kind_of p) (outline es) then Err reason.OtherKind else Ok tt) >>= (λ (u : Unit {0}). Ok place)) >>= (λ q. Ok (make q))) (same_has name es)
-    ∙ ap (λ o. ((if not (has_name name es) then Err reason.NoSuch else if o then Err reason.OtherKind else Ok tt) >>= (λ (u : Unit {0}). Ok place)) >>= (λ q. Ok (make q))) (same_other name p es)
+    ap (λ h. ((if not h then Err reason.NoSuch else if has_other_entry name (kind_of p)
+    (outline es) then Err reason.OtherKind else Ok tt) >>= (λ (u : Unit {0}). Ok place)) >>= (λ q. Ok (make q)))
+    (same_has name es)
+    ∙ ap (λ o. ((if not (has_name name es) then Err reason.NoSuch else if o then Err reason.OtherKind else Ok tt) >>=
+    (λ (u : Unit {0}). Ok place)) >>= (λ q. Ok (make q))) (same_other name p es)
     ∙ upgraded_by make place (has_name name es) (has_other name p es)
 
 there_is : {X : Type 0} (xs : List X) (i : ℕ) → i < length xs → (x : X) × (slice_get xs i ≡ Some x)
@@ -187,7 +221,9 @@ module _ (loads : ℕ) (d : Declared) (b : Body) (k : IsKept loads d b) where
     heap_is w e = heap_small (length d.policies) b.lines conn k.lines w e
 
     -- what is said by the heap that is kept
-    by_heap : (said : Option ℕ → Result Line ScriptReason) (l : Line) → conn_of l ≡ conn → ((found : Option ℕ) → heap_of b.lines conn ≡ found → said found ≡ Known l found) → said (words_kept b conn) ≡ Decided l
+    by_heap : (said : Option ℕ → Result Line ScriptReason) (l : Line) → conn_of l ≡ conn
+        → ((found : Option ℕ) → heap_of b.lines conn ≡ found → said found ≡ Known l found)
+        → said (words_kept b conn) ≡ Decided l
     by_heap said l same each =
         ap said kept.words ∙ each (heap_of b.lines conn) refl ∙ ap (λ (h : Option ℕ). Known l h) (ap (heap_of b.lines) (sym same))
 
@@ -203,65 +239,113 @@ module _ (loads : ℕ) (d : Declared) (b : Body) (k : IsKept loads d b) where
       of None = refl
       of (Some w) = refl
 
-    store_decided : (at : Decimal) (value : ℕ) → (heap_kept (words_kept b conn) >>= (λ w. place_kept w at >>= (λ p. Ok (line.Store conn p value)))) ≡ Decided (line.Store conn (any_size at) value)
+    store_decided : (at : Decimal) (value : ℕ)
+        → (heap_kept (words_kept b conn) >>= (λ w. place_kept w at >>= (λ p. Ok (line.Store conn p value))))
+        ≡ Decided (line.Store conn (any_size at) value)
     store_decided at value = by_heap (λ h. heap_kept h >>= (λ w. place_kept w at >>= (λ p. Ok (line.Store conn p value)))) (line.Store conn (any_size at) value) refl of where
-      of : (found : Option ℕ) → heap_of b.lines conn ≡ found → (heap_kept found >>= (λ w. place_kept w at >>= (λ p. Ok (line.Store conn p value)))) ≡ Known (line.Store conn (any_size at) value) found
+      of : (found : Option ℕ) → heap_of b.lines conn ≡ found
+          → (heap_kept found >>= (λ w. place_kept w at >>= (λ p. Ok (line.Store conn p value))))
+          ≡ Known (line.Store conn (any_size at) value) found
       of None e = refl
       of (Some w) e = placed w (heap_is w e) (λ p. line.Store conn p value) at
 
-    race_decided : (load : ℕ) (at : Decimal) (value : ℕ) → (heap_kept (words_kept b conn) >>= (λ w. load_kept load >>= (λ q. place_kept w at >>= (λ p. Ok (line.Race conn q p value))))) ≡ Decided (line.Race conn load (any_size at) value)
-    race_decided load at value = by_heap (λ h. heap_kept h >>= (λ w. load_kept load >>= (λ q. place_kept w at >>= (λ p. Ok (line.Race conn q p value))))) (line.Race conn load (any_size at) value) refl of where
-      of : (found : Option ℕ) → heap_of b.lines conn ≡ found → (heap_kept found >>= (λ w. load_kept load >>= (λ q. place_kept w at >>= (λ p. Ok (line.Race conn q p value))))) ≡ Known (line.Race conn load (any_size at) value) found
-      of None e = refl
-      of (Some w) e = race_placed w (heap_is w e) (λ q p. line.Race conn q p value) load at
+    race_decided : (load : ℕ) (at : Decimal) (value : ℕ)
+        → (heap_kept (words_kept b conn) >>=
+        (λ w. load_kept load >>= (λ q. place_kept w at >>= (λ p. Ok (line.Race conn q p value)))))
+        ≡ Decided (line.Race conn load (any_size at) value)
+    race_decided load at value =
+        by_heap (λ h. heap_kept h >>=
+        (λ w. load_kept load >>= (λ q. place_kept w at >>= (λ p. Ok (line.Race conn q p value)))))
+        (line.Race conn load (any_size at) value) refl of where
+          of : (found : Option ℕ) → heap_of b.lines conn ≡ found
+              → (heap_kept found >>=
+              (λ w. load_kept load >>= (λ q. place_kept w at >>= (λ p. Ok (line.Race conn q p value)))))
+              ≡ Known (line.Race conn load (any_size at) value) found
+          of None e = refl
+          of (Some w) e = race_placed w (heap_is w e) (λ q p. line.Race conn q p value) load at
 
-    submit_decided : (method number addr : ℕ) → (heap_kept (words_kept b conn) >>= (λ w. work_kept ((b.submissions + 1) * loads) >>= (λ u. Ok (line.Submit conn method number addr)))) ≡ Decided (line.Submit conn method number addr)
-    submit_decided method number addr = by_heap (λ h. heap_kept h >>= (λ w. work_kept ((b.submissions + 1) * loads) >>= (λ u. Ok (line.Submit conn method number addr)))) (line.Submit conn method number addr) refl of where
-      of : (found : Option ℕ) → heap_of b.lines conn ≡ found → (heap_kept found >>= (λ w. work_kept ((b.submissions + 1) * loads) >>= (λ u. Ok (line.Submit conn method number addr)))) ≡ Known (line.Submit conn method number addr) found
-      of None e = refl
-      of (Some w) e =
-          ap (λ n. work_kept ((n + 1) * loads) >>= (λ u. Ok (line.Submit conn method number addr))) k.submissions
-          ∙ in_range (nat_le ((submissions b.lines + 1) * loads) 16777216) (line.Submit conn method number addr) reason.Work
+    submit_decided : (method number addr : ℕ)
+        → (heap_kept (words_kept b conn) >>=
+        (λ w. work_kept ((b.submissions + 1) * loads) >>= (λ u. Ok (line.Submit conn method number addr))))
+        ≡ Decided (line.Submit conn method number addr)
+    submit_decided method number addr =
+        by_heap (λ h. heap_kept h >>=
+        (λ w. work_kept ((b.submissions + 1) * loads) >>= (λ u. Ok (line.Submit conn method number addr))))
+        (line.Submit conn method number addr) refl of where
+          of : (found : Option ℕ) → heap_of b.lines conn ≡ found
+              → (heap_kept found >>=
+              (λ w. work_kept ((b.submissions + 1) * loads) >>= (λ u. Ok (line.Submit conn method number addr))))
+              ≡ Known (line.Submit conn method number addr) found
+          of None e = refl
+          of (Some w) e =
+              ap (λ n. work_kept ((n + 1) * loads) >>= (λ u. Ok (line.Submit conn method number addr))) k.submissions
+              ∙ in_range (nat_le ((submissions b.lines + 1) * loads) 16777216) (line.Submit conn method number addr) reason.Work
 
-    turn_decided : (at : Decimal) → (heap_kept (words_kept b conn) >>= (λ w. engine_in (links_kept b conn) at >>= (λ p. Ok (line.Turn conn p)))) ≡ Decided (line.Turn conn (any_size at))
+    turn_decided : (at : Decimal)
+        → (heap_kept (words_kept b conn) >>= (λ w. engine_in (links_kept b conn) at >>= (λ p. Ok (line.Turn conn p))))
+        ≡ Decided (line.Turn conn (any_size at))
     turn_decided at = by_heap (λ h. heap_kept h >>= (λ w. engine_in (links_kept b conn) at >>= (λ p. Ok (line.Turn conn p)))) (line.Turn conn (any_size at)) refl of where
-      of : (found : Option ℕ) → heap_of b.lines conn ≡ found → (heap_kept found >>= (λ w. engine_in (links_kept b conn) at >>= (λ p. Ok (line.Turn conn p)))) ≡ Known (line.Turn conn (any_size at)) found
+      of : (found : Option ℕ) → heap_of b.lines conn ≡ found
+          → (heap_kept found >>= (λ w. engine_in (links_kept b conn) at >>= (λ p. Ok (line.Turn conn p))))
+          ≡ Known (line.Turn conn (any_size at)) found
       of None e = refl
       of (Some w) e = ap (λ (ls : List Link). engine_in ls at >>= (λ p. Ok (line.Turn conn p))) kept.links ∙ turned entries few (λ p. line.Turn conn p) at
 
-    detach_decided : (name : List ℕ) → ((heap_kept (words_kept b conn) >>= (λ w. detach_against (links_kept b conn) name)) >>= (λ u. Ok (line.Detach conn name))) ≡ Decided (line.Detach conn name)
+    detach_decided : (name : List ℕ)
+        → ((heap_kept (words_kept b conn) >>= (λ w. detach_against (links_kept b conn) name)) >>=
+        (λ u. Ok (line.Detach conn name))) ≡ Decided (line.Detach conn name)
     detach_decided name = by_heap (λ h. (heap_kept h >>= (λ w. detach_against (links_kept b conn) name)) >>= (λ u. Ok (line.Detach conn name))) (line.Detach conn name) refl of where
-      of : (found : Option ℕ) → heap_of b.lines conn ≡ found → ((heap_kept found >>= (λ w. detach_against (links_kept b conn) name)) >>= (λ u. Ok (line.Detach conn name))) ≡ Known (line.Detach conn name) found
+      of : (found : Option ℕ) → heap_of b.lines conn ≡ found
+          → ((heap_kept found >>= (λ w. detach_against (links_kept b conn) name)) >>=
+          (λ u. Ok (line.Detach conn name))) ≡ Known (line.Detach conn name) found
       of None e = refl
       of (Some w) e = ap (λ (ls : List Link). detach_against ls name >>= (λ u. Ok (line.Detach conn name))) kept.links ∙ detached entries name (line.Detach conn name)
 
     attach_decided : (at : Decimal) (name : List ℕ) (policy : Option ℕ) → ((p : ℕ) → policy ≡ Some p → p < length d.policies)
-        → ((heap_kept (words_kept b conn) >>= (λ w. place_or_unknown policy >>= (λ p. attach_against (links_kept b conn) at name >>= (λ n. Ok (both n p))))) >>= (λ p. Ok (line.Attach conn p.0 name p.1)))
+        → ((heap_kept (words_kept b conn) >>=
+        (λ w. place_or_unknown policy >>=
+        (λ p. attach_against (links_kept b conn) at name >>= (λ n. Ok (both n p))))) >>=
+        (λ p. Ok (line.Attach conn p.0 name p.1)))
         ≡ decided loads d.policies b.lines (option_map (line.Attach conn (any_size at) name) policy)
     attach_decided at name None within = none (words_kept b conn) where
-      none : (found : Option ℕ) → ((heap_kept found >>= (λ w. place_or_unknown None >>= (λ p. attach_against (links_kept b conn) at name >>= (λ n. Ok (both n p))))) >>= (λ p. Ok (line.Attach conn p.0 name p.1))) ≡ Err reason.Unknown
+      none : (found : Option ℕ)
+          → ((heap_kept found >>=
+          (λ w. place_or_unknown None >>= (λ p. attach_against (links_kept b conn) at name >>= (λ n. Ok (both n p)))))
+          >>= (λ p. Ok (line.Attach conn p.0 name p.1))) ≡ Err reason.Unknown
       none None = refl
       none (Some w) = refl
     attach_decided at name (Some p) within =
-        by_heap (λ h. (heap_kept h >>= (λ w. attach_against (links_kept b conn) at name >>= (λ n. Ok (both n p)))) >>= (λ p. Ok (line.Attach conn p.0 name p.1))) (line.Attach conn (any_size at) name p) refl of where
-          of : (found : Option ℕ) → heap_of b.lines conn ≡ found → ((heap_kept found >>= (λ w. attach_against (links_kept b conn) at name >>= (λ n. Ok (both n p)))) >>= (λ p. Ok (line.Attach conn p.0 name p.1))) ≡ Known (line.Attach conn (any_size at) name p) found
+        by_heap (λ h. (heap_kept h >>= (λ w. attach_against (links_kept b conn) at name >>= (λ n. Ok (both n p)))) >>=
+        (λ p. Ok (line.Attach conn p.0 name p.1))) (line.Attach conn (any_size at) name p) refl of where
+          of : (found : Option ℕ) → heap_of b.lines conn ≡ found
+              → ((heap_kept found >>= (λ w. attach_against (links_kept b conn) at name >>= (λ n. Ok (both n p)))) >>=
+              (λ p. Ok (line.Attach conn p.0 name p.1))) ≡ Known (line.Attach conn (any_size at) name p) found
           of None e = refl
           of (Some w) e =
               let q = there_is d.policies p (within p refl) in
               ap (λ (ls : List Link). (attach_against ls at name >>= (λ n. Ok (both n p))) >>= (λ p. Ok (line.Attach conn p.0 name p.1))) kept.links
               ∙ attached entries few (λ n p. line.Attach conn n name p) p at name
-              ∙ sym (ap (λ (o : Option NamedPolicy). decided_by (line.Attach conn (any_size at) name p) (against_some_op (option_map (λ r. op.Attach (any_size at) name r.name r.policy) o) entries)) q.1)
+              ∙ sym (ap (λ (o : Option NamedPolicy). decided_by (line.Attach conn (any_size at) name p)
+              (against_some_op (option_map (λ r. op.Attach (any_size at) name r.name r.policy) o) entries)) q.1)
 
     upgrade_decided : (name : List ℕ) (policy : Option ℕ) → ((p : ℕ) → policy ≡ Some p → p < length d.policies)
-        → ((heap_kept (words_kept b conn) >>= (λ w. place_or_unknown policy >>= (λ p. upgrade_against (links_kept b conn) name (kind_at d p) >>= (λ u. Ok p)))) >>= (λ p. Ok (line.Upgrade conn name p)))
+        → ((heap_kept (words_kept b conn) >>=
+        (λ w. place_or_unknown policy >>= (λ p. upgrade_against (links_kept b conn) name (kind_at d p) >>=
+        (λ u. Ok p)))) >>= (λ p. Ok (line.Upgrade conn name p)))
         ≡ decided loads d.policies b.lines (option_map (line.Upgrade conn name) policy)
     upgrade_decided name None within = none (words_kept b conn) where
-      none : (found : Option ℕ) → ((heap_kept found >>= (λ w. place_or_unknown None >>= (λ p. upgrade_against (links_kept b conn) name (kind_at d p) >>= (λ u. Ok p)))) >>= (λ p. Ok (line.Upgrade conn name p))) ≡ Err reason.Unknown
+      none : (found : Option ℕ)
+          → ((heap_kept found >>=
+          (λ w. place_or_unknown None >>= (λ p. upgrade_against (links_kept b conn) name (kind_at d p) >>=
+          (λ u. Ok p)))) >>= (λ p. Ok (line.Upgrade conn name p))) ≡ Err reason.Unknown
       none None = refl
       none (Some w) = refl
     upgrade_decided name (Some p) within =
-        by_heap (λ h. (heap_kept h >>= (λ w. upgrade_against (links_kept b conn) name (kind_at d p) >>= (λ u. Ok p))) >>= (λ p. Ok (line.Upgrade conn name p))) (line.Upgrade conn name p) refl of where
-          of : (found : Option ℕ) → heap_of b.lines conn ≡ found → ((heap_kept found >>= (λ w. upgrade_against (links_kept b conn) name (kind_at d p) >>= (λ u. Ok p))) >>= (λ p. Ok (line.Upgrade conn name p))) ≡ Known (line.Upgrade conn name p) found
+        by_heap (λ h. (heap_kept h >>= (λ w. upgrade_against (links_kept b conn) name (kind_at d p) >>= (λ u. Ok p)))
+        >>= (λ p. Ok (line.Upgrade conn name p))) (line.Upgrade conn name p) refl of where
+          of : (found : Option ℕ) → heap_of b.lines conn ≡ found
+              → ((heap_kept found >>= (λ w. upgrade_against (links_kept b conn) name (kind_at d p) >>= (λ u. Ok p)))
+              >>= (λ p. Ok (line.Upgrade conn name p))) ≡ Known (line.Upgrade conn name p) found
           of None e = refl
           of (Some w) e =
               let q = there_is d.policies p (within p refl) in
@@ -270,7 +354,9 @@ module _ (loads : ℕ) (d : Declared) (b : Body) (k : IsKept loads d b) where
               ∙ upgraded_to entries (λ p. line.Upgrade conn name p) p name q.0.policy
               ∙ sym (ap (λ (o : Option NamedPolicy). decided_by (line.Upgrade conn name p) (against_some_op (option_map (λ r. op.Upgrade name r.name r.policy) o) entries)) q.1)
 
-    used_decided : (l : Line) → conn_of l ≡ conn → ((heap : Option ℕ) → (heap_kept heap >>= (λ w. Ok l)) ≡ Known l heap) → (heap_kept (words_kept b conn) >>= (λ w. Ok l)) ≡ Decided l
+    used_decided : (l : Line) → conn_of l ≡ conn
+        → ((heap : Option ℕ) → (heap_kept heap >>= (λ w. Ok l)) ≡ Known l heap)
+        → (heap_kept (words_kept b conn) >>= (λ w. Ok l)) ≡ Decided l
     used_decided l same each = by_heap (λ h. heap_kept h >>= (λ w. Ok l)) l same (λ found e. each found)
 
   pub said_decided : (f : Form) (m : List Meaning) → IsIn 1 16 (number_at m 1) → f ≢ form.Close → item_form f ≡ None → line_said loads d b f m ≡ decide loads d b.lines f m
@@ -308,6 +394,7 @@ module _ (loads : ℕ) (d : Declared) (b : Body) (k : IsKept loads d b) where
   pub said_by : (f : Form) (text : List ℕ) (m : List Meaning) → IsSaid f text m → item_form f ≡ None → f ≢ form.Close → line_said loads d b f m ≡ decide loads d b.lines f m
   said_by f text m said item still = said_decided f m (conn_inside f text m said item still) still item
 
-  pub flaw_of : (f : Form) (m : List Meaning) → f ≢ form.Close → line_said loads d b f m ≡ decide loads d b.lines f m → (e : Flaw) → IsMade (line_said loads d b f m) (Err e) → IsFlawOf loads d b f m e
+  pub flaw_of : (f : Form) (m : List Meaning) → f ≢ form.Close → line_said loads d b f m ≡ decide loads d b.lines f m
+      → (e : Flaw) → IsMade (line_said loads d b f m) (Err e) → IsFlawOf loads d b f m e
   flaw_of f m still same (flaw.Reason r) made = (still, sym same ∙ made)
   flaw_of f m still same flaw.Memory made = tt

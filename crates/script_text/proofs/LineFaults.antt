@@ -95,10 +95,12 @@ module _ (laws : Laws) (loads : ℕ) (b : Before) where
   clash : (f : Form) (m : List Meaning) (l : Line) → line_in b.declared f m ≡ None → line_in b.declared f m ≡ Some l → ⊥
   clash f m l none some = (let bad : None ≡ Some l = sym none ∙ some in cc)
 
-  undeclared_line : (f : Form) (m : List Meaning) (l : Line) (name : List ℕ) → line_in b.declared f m ≡ Some l → policy_in f m ≡ Some name → policy_place b.declared name ≡ None → ⊥
+  undeclared_line : (f : Form) (m : List Meaning) (l : Line) (name : List ℕ) → line_in b.declared f m ≡ Some l
+      → policy_in f m ≡ Some name → policy_place b.declared name ≡ None → ⊥
   undeclared_line f m l name is named none = clash f m l (undeclared b.declared f m name named none) is
 
-  by_line : (f : Form) (m : List Meaning) (l : Line) (x : Option ScriptReason) → line_in b.declared f m ≡ Some l → Verdict loads b.declared.policies b.lines l x → SaidVerdict f m (decided_by l x)
+  by_line : (f : Form) (m : List Meaning) (l : Line) (x : Option ScriptReason) → line_in b.declared f m ≡ Some l
+      → Verdict loads b.declared.policies b.lines l x → SaidVerdict f m (decided_by l x)
   by_line f m l None is none = (
     is,
     λ q core. elim core [
@@ -114,7 +116,8 @@ module _ (laws : Laws) (loads : ℕ) (b : Before) where
     ];
   }
 
-  by_found : (f : Form) (m : List Meaning) (found : Option Line) → item_form f ≡ None → f ≢ form.Close → line_in b.declared f m ≡ found → SaidVerdict f m (decided loads b.declared.policies b.lines found)
+  by_found : (f : Form) (m : List Meaning) (found : Option Line) → item_form f ≡ None → f ≢ form.Close
+      → line_in b.declared f m ≡ found → SaidVerdict f m (decided loads b.declared.policies b.lines found)
   by_found f m None item still is =
       let none = no_line b.declared f m item still is in
       record {
@@ -130,13 +133,15 @@ module _ (laws : Laws) (loads : ℕ) (b : Before) where
   said_verdict f m item still = by_found f m (line_in b.declared f m) item still refl
 
   -- nothing stands against it, but perhaps `close` before it
-  pub open_free : (line : List ℕ) (f : Form) (m : List Meaning) → IsSaid f line m → item_form f ≡ None → ((q : ScriptReason) → Core f m q → ⊥) → b.closed ≡ false → (q : ScriptReason) → Offends loads b line q → ⊥
+  pub open_free : (line : List ℕ) (f : Form) (m : List Meaning) → IsSaid f line m → item_form f ≡ None
+      → ((q : ScriptReason) → Core f m q → ⊥) → b.closed ≡ false → (q : ScriptReason) → Offends loads b line q → ⊥
   open_free line f m said item none still q offends = elim (core_of line f m q said item offends) [
     | inl core ↦ none q core
     | inr closed ↦ false≢true (sym still ∙ closed.0)
   ]
 
-  pub closed_first : (line : List ℕ) (f : Form) (m : List Meaning) → IsSaid f line m → item_form f ≡ None → ((q : ScriptReason) → Core f m q → ⊥) → b.closed ≡ true → IsFirst (Offends loads b line) reason.After
+  pub closed_first : (line : List ℕ) (f : Form) (m : List Meaning) → IsSaid f line m → item_form f ≡ None
+      → ((q : ScriptReason) → Core f m q → ⊥) → b.closed ≡ true → IsFirst (Offends loads b line) reason.After
   closed_first line f m said item none closed = record {
     stands = behind_close closed (unskipped line f said.has_form) refl;
     first = λ q offends. elim (core_of line f m q said item offends) [
@@ -145,7 +150,8 @@ module _ (laws : Laws) (loads : ℕ) (b : Before) where
     ];
   }
 
-  pub core_first : (line : List ℕ) (f : Form) (m : List Meaning) (r : ScriptReason) → IsSaid f line m → item_form f ≡ None → IsFirst (Core f m) r → IsFirst (Offends loads b line) r
+  pub core_first : (line : List ℕ) (f : Form) (m : List Meaning) (r : ScriptReason) → IsSaid f line m
+      → item_form f ≡ None → IsFirst (Core f m) r → IsFirst (Offends loads b line) r
   core_first line f m r said item first = record {
     stands = offends_by line f m r said first.stands;
     first = λ q offends. elim (core_of line f m q said item offends) [
@@ -160,7 +166,9 @@ module _ (laws : Laws) (loads : ℕ) (b : Before) where
 
   -- ---- a line whose words don't say anything
 
-  pub words_first : (line : List ℕ) (f : Form) (r : ScriptReason) → form_in (words_of line) ≡ Some f → item_form f ≡ None → IsFirst (words.IsAgainst (sorts_of f) (words_of line)) r → IsFirst (Offends loads b line) r
+  pub words_first : (line : List ℕ) (f : Form) (r : ScriptReason) → form_in (words_of line) ≡ Some f
+      → item_form f ≡ None → IsFirst (words.IsAgainst (sorts_of f) (words_of line)) r
+      → IsFirst (Offends loads b line) r
   words_first line f r has item first = record {
     stands = in_words f has item first.stands;
     first = λ q offends. elim offends [
@@ -192,7 +200,8 @@ module _ (laws : Laws) (loads : ℕ) (b : Before) where
 
   -- ---- a line that begins an item
 
-  pub head_of : (line : List ℕ) (g : ItemForm) (q : ScriptReason) → item_form_in (words_of line) ≡ Some g → Offends loads b line q → IsAgainstHead b.declared g (words_of line) q ⊎ IsAfter q
+  pub head_of : (line : List ℕ) (g : ItemForm) (q : ScriptReason) → item_form_in (words_of line) ≡ Some g
+      → Offends loads b line q → IsAgainstHead b.declared g (words_of line) q ⊎ IsAfter q
   head_of line g q is (no_form u none e) = (let f = item_is (words_of line) g is in absurd (no_form_and_form line f.0 none f.1))
   head_of line g q is (in_head h other against) = inl (subst (λ (x : ItemForm). IsAgainstHead b.declared x (words_of line) q) (same_Some h g (sym other ∙ is)) against)
   head_of line g q is (in_words f has none against) = absurd (item_and_other (words_of line) f g has none is)
@@ -203,7 +212,8 @@ module _ (laws : Laws) (loads : ℕ) (b : Before) where
       absurd (clash f n l (line_of_item b.declared f n g (sym (item_of (words_of line) f said.has_form) ∙ is)) some)
   head_of line g q is (behind_close closed u e) = inr (closed, e)
 
-  pub head_first : (line : List ℕ) (g : ItemForm) (r : ScriptReason) → item_form_in (words_of line) ≡ Some g → IsFirst (IsAgainstHead b.declared g (words_of line)) r → IsFirst (Offends loads b line) r
+  pub head_first : (line : List ℕ) (g : ItemForm) (r : ScriptReason) → item_form_in (words_of line) ≡ Some g
+      → IsFirst (IsAgainstHead b.declared g (words_of line)) r → IsFirst (Offends loads b line) r
   head_first line g r is first = record {
     stands = in_head g is first.stands;
     first = λ q offends. elim (head_of line g q is offends) [
@@ -212,7 +222,9 @@ module _ (laws : Laws) (loads : ℕ) (b : Before) where
     ];
   }
 
-  pub head_closed : (line : List ℕ) (g : ItemForm) → item_form_in (words_of line) ≡ Some g → ((q : ScriptReason) → IsAgainstHead b.declared g (words_of line) q → ⊥) → b.closed ≡ true → IsFirst (Offends loads b line) reason.After
+  pub head_closed : (line : List ℕ) (g : ItemForm) → item_form_in (words_of line) ≡ Some g
+      → ((q : ScriptReason) → IsAgainstHead b.declared g (words_of line) q → ⊥) → b.closed ≡ true
+      → IsFirst (Offends loads b line) reason.After
   head_closed line g is free closed =
       let f = item_is (words_of line) g is in
       record {

@@ -1,5 +1,6 @@
 -- The first reason against a line, by the lines before it.
-use Rattle.std.proofs.Common.{◌≡◌, ℕ, ◌+◌, ◌*◌, ◌<◌, ◌≤◌, Bool, true, false, ◌&&◌, ◌⊎◌, inl, inr, List, length, Option, Some, None, refl, ap, sym, subst, ◌∙◌, arith}
+use Rattle.std.proofs.Common.{◌≡◌, ℕ, ◌+◌, ◌*◌, ◌<◌, ◌≤◌, Bool, true, false, ◌&&◌, ◌⊎◌, inl, inr, List, length}
+use Rattle.std.proofs.Common.{Option, Some, None, refl, ap, sym, subst, ◌∙◌, arith}
 use Rattle.std.specs.Prelude.{nat_lt, nat_le}
 use Rattle.std.proofs.lemmas.Bool.{cond_both, ltb-true, ltb-false, leb-true, leb-false, and_parts, and_cases, false≢true, cases_lt}
 use Rattle.std.proofs.lemmas.Option.{same_Some}
@@ -11,7 +12,9 @@ use Rattle.script_words.specs.Reasons.{order_of, IsFirst}
 use Rattle.script_words.specs.declared.fault.ScriptReason.{ScriptReason}
 use Rattle.script_words.specs.declared.fault.ScriptReason.TheVariants as reason
 use Rattle.script_text.specs.Deciding.{is_place, against_op, against_some_op, against_open, against_known, against}
-use Rattle.script_text.specs.Lines.{conn_of, is_conn, is_submit, place_in, op_in, heap_of, chain_of, submissions, IsPlace, reason_of, IsAgainst, is_open, not_open, no_place_there, no_load, no_engine, is_refused, too_much}
+use Rattle.script_text.specs.Lines.{conn_of, is_conn, is_submit, place_in, op_in, heap_of, chain_of, submissions}
+use Rattle.script_text.specs.Lines.{IsPlace, reason_of, IsAgainst, is_open, not_open, no_place_there, no_load}
+use Rattle.script_text.specs.Lines.{no_engine, is_refused, too_much}
 use Rattle.script_text.specs.declared.script.Line.{Line}
 use Rattle.script_text.specs.declared.script.Line.TheVariants as line
 use Rattle.script_text.proofs.Refusals.{OpVerdict, op_verdict}
@@ -121,11 +124,18 @@ module _ (loads : ℕ) (policies : List NamedPolicy) (before : List Line) where
   store_verdict words conn place value there =
       let l : Line = line.Store conn place value in
       cond_both (is_place words place) None (Some reason.Place) (Verdict l)
-      (λ is. free words l refl there (record { place = λ none. none (is_place-true words place is); past = λ none. none; op = λ o refusal none r. no_op o ⊥ none; work = λ none much. false≢true none }))
+      (λ is. free words l refl there (record {
+        place = λ none. none (is_place-true words place is);
+        past = λ none. none;
+        op = λ o refusal none r. no_op o ⊥ none;
+        work = λ none much. false≢true none;
+      }))
       (λ isnt. first_of words l reason.Place refl there (no_place_there place words refl there (is_place-false words place isnt) refl)
       (record { place = λ m. refl; past = λ none. absurd none; op = λ o refusal none r. no_op o _ none; work = λ none much. absurd (false≢true none) }))
 
-  race_against : (words conn load place value : ℕ) → heap (line.Race conn load place value) ≡ Some words → (nat_le 1 load ≡ false) ⊎ (is_place words place ≡ false) → IsAgainst loads policies before (line.Race conn load place value) reason.Place
+  race_against : (words conn load place value : ℕ) → heap (line.Race conn load place value) ≡ Some words
+      → (nat_le 1 load ≡ false) ⊎ (is_place words place ≡ false)
+      → IsAgainst loads policies before (line.Race conn load place value) reason.Place
   race_against words conn load place value there (inl none) =
       no_load conn place value (let less = leb-false 1 load none in let zero_is : load ≡ 0 = omega (arith, less) in ap (λ (n : ℕ). line.Race conn n place value) zero_is) refl
   race_against words conn load place value there (inr isnt) = no_place_there place words refl there (is_place-false words place isnt) refl
@@ -134,21 +144,34 @@ module _ (loads : ℕ) (policies : List NamedPolicy) (before : List Line) where
   race_right words load place some is (inl none) = (let from = leb-true 1 load some in omega (arith, from, none))
   race_right words load place some is (inr isnt) = isnt (is_place-true words place is)
 
-  race_verdict : (words conn load place value : ℕ) → heap (line.Race conn load place value) ≡ Some words → Verdict (line.Race conn load place value) (Against words (line.Race conn load place value))
+  race_verdict : (words conn load place value : ℕ) → heap (line.Race conn load place value) ≡ Some words
+      → Verdict (line.Race conn load place value) (Against words (line.Race conn load place value))
   race_verdict words conn load place value there =
       let l : Line = line.Race conn load place value in
       cond_both (nat_le 1 load && is_place words place) None (Some reason.Place) (Verdict l)
       (λ is. (let parts = and_parts (nat_le 1 load) (is_place words place) is in
-      free words l refl there (record { place = λ m. race_right words load place parts.0 parts.1 m; past = λ none. none; op = λ o refusal none r. no_op o ⊥ none; work = λ none much. false≢true none })))
+      free words l refl there (record {
+        place = λ m. race_right words load place parts.0 parts.1 m;
+        past = λ none. none;
+        op = λ o refusal none r. no_op o ⊥ none;
+        work = λ none much. false≢true none;
+      })))
       (λ isnt. first_of words l reason.Place refl there (race_against words conn load place value there (and_cases (nat_le 1 load) (is_place words place) isnt))
       (record { place = λ m. refl; past = λ none. absurd none; op = λ o refusal none r. no_op o _ none; work = λ none much. absurd (false≢true none) }))
 
-  submit_verdict : (words conn method number addr : ℕ) → heap (line.Submit conn method number addr) ≡ Some words → Verdict (line.Submit conn method number addr) (Against words (line.Submit conn method number addr))
+  submit_verdict : (words conn method number addr : ℕ) → heap (line.Submit conn method number addr) ≡ Some words
+      → Verdict (line.Submit conn method number addr) (Against words (line.Submit conn method number addr))
   submit_verdict words conn method number addr there =
       let l : Line = line.Submit conn method number addr in
       let total : ℕ = (submissions before + 1) * loads in
       cond_both (nat_le total 16777216) None (Some reason.Work) (Verdict l)
-      (λ is. free words l refl there (record { place = λ none. none; past = λ none. none; op = λ o refusal none r. no_op o ⊥ none; work = λ m much. (let few = leb-true total 16777216 is in omega (arith, few, much)) }))
+      (λ is. free words l refl there (record {
+        place = λ none. none;
+        past = λ none. none;
+        op = λ o refusal none r. no_op o ⊥ none;
+        work = λ m much. (let few = leb-true total 16777216 is in
+            omega (arith, few, much));
+      }))
       (λ isnt. first_of words l reason.Work refl there (too_much refl (leb-false total 16777216 isnt) refl)
       (record { place = λ none. absurd none; past = λ none. absurd none; op = λ o refusal none r. no_op o _ none; work = λ m much. refl }))
 
@@ -157,7 +180,12 @@ module _ (loads : ℕ) (policies : List NamedPolicy) (before : List Line) where
       let l : Line = line.Turn conn at in
       let count : ℕ = length (chain l).entries in
       cond_both (nat_lt at count) None (Some reason.At) (Verdict l)
-      (λ is. free words l refl there (record { place = λ none. none; past = λ few. (let less = ltb-true at count is in omega (arith, few, less)); op = λ o refusal none r. no_op o ⊥ none; work = λ none much. false≢true none }))
+      (λ is. free words l refl there (record {
+        place = λ none. none;
+        past = λ few. (let less = ltb-true at count is in omega (arith, few, less));
+        op = λ o refusal none r. no_op o ⊥ none;
+        work = λ none much. false≢true none;
+      }))
       (λ isnt. first_of words l reason.At refl there (no_engine conn at refl (ltb-false at count isnt) refl)
       (record { place = λ none. absurd none; past = λ m. refl; op = λ o refusal none r. no_op o _ none; work = λ none much. absurd (false≢true none) }))
 
@@ -185,9 +213,15 @@ module _ (loads : ℕ) (policies : List NamedPolicy) (before : List Line) where
     pub past : (engines : ℕ) → IsPastEngines engines l → ⊥
     pub work : is_submit l ≡ true → ⊥
 
-  op_line_verdict : (words : ℕ) (l : Line) (found : Option Op) → op_in policies l ≡ found → IsPlain l → heap l ≡ Some words → Verdict l (against_some_op found (chain l).entries)
+  op_line_verdict : (words : ℕ) (l : Line) (found : Option Op) → op_in policies l ≡ found → IsPlain l
+      → heap l ≡ Some words → Verdict l (against_some_op found (chain l).entries)
   op_line_verdict words l None is plain there =
-      free words l plain.used there (record { place = λ m. plain.place words m; past = λ m. plain.past _ m; op = λ o refusal some r. no_op o ⊥ (sym is ∙ some); work = λ m much. plain.work m })
+      free words l plain.used there (record {
+        place = λ m. plain.place words m;
+        past = λ m. plain.past _ m;
+        op = λ o refusal some r. no_op o ⊥ (sym is ∙ some);
+        work = λ m much. plain.work m;
+      })
   op_line_verdict words l (Some o) is plain there = by (against_op o (chain l).entries) (op_verdict (chain l) o) where
     by : (x : Option ScriptReason) → OpVerdict (chain l) o x → Verdict l x
     by None none =
@@ -201,7 +235,10 @@ module _ (loads : ℕ) (policies : List NamedPolicy) (before : List Line) where
         first_of words l r plain.used there (is_refused o refusal is refuses e) (record {
           place = λ m. absurd (plain.place words m);
           past = λ m. absurd (plain.past _ m);
-          op = λ p other some s. (let first = reason_order refusal other (refused_first (chain l) o p refusal other (same_Some o p (sym is ∙ some)) refuses s) in let same = ap order_of e in omega (arith, first, same));
+          op = λ p other some s.
+              (let first = reason_order refusal other
+              (refused_first (chain l) o p refusal other (same_Some o p (sym is ∙ some)) refuses s) in
+              let same = ap order_of e in omega (arith, first, same));
           work = λ m much. absurd (plain.work m);
         })
 
@@ -216,15 +253,36 @@ module _ (loads : ℕ) (policies : List NamedPolicy) (before : List Line) where
   used_verdict words (line.Race conn load place value) used there = race_verdict words conn load place value there
   used_verdict words (line.Submit conn method number addr) used there = submit_verdict words conn method number addr there
   used_verdict words (line.Attach conn at name policy) used there =
-      op_line_verdict words (line.Attach conn at name policy) (op_in policies (line.Attach conn at name policy)) refl (record { used = refl; place = λ w m. m; past = λ n m. m; work = λ m. no_submit m }) there
+      op_line_verdict words (line.Attach conn at name policy) (op_in policies (line.Attach conn at name policy)) refl
+      (record { used = refl; place = λ w m. m; past = λ n m. m; work = λ m. no_submit m }) there
   used_verdict words (line.Detach conn name) used there =
-      op_line_verdict words (line.Detach conn name) (op_in policies (line.Detach conn name)) refl (record { used = refl; place = λ w m. m; past = λ n m. m; work = λ m. no_submit m }) there
+      op_line_verdict words (line.Detach conn name) (op_in policies (line.Detach conn name)) refl
+      (record { used = refl; place = λ w m. m; past = λ n m. m; work = λ m. no_submit m }) there
   used_verdict words (line.Upgrade conn name policy) used there =
-      op_line_verdict words (line.Upgrade conn name policy) (op_in policies (line.Upgrade conn name policy)) refl (record { used = refl; place = λ w m. m; past = λ n m. m; work = λ m. no_submit m }) there
-  used_verdict words (line.Moment conn ms) used there = op_line_verdict words (line.Moment conn ms) None refl (record { used = refl; place = λ w m. m; past = λ n m. m; work = λ m. no_submit m }) there
+      op_line_verdict words (line.Upgrade conn name policy) (op_in policies (line.Upgrade conn name policy)) refl
+      (record { used = refl; place = λ w m. m; past = λ n m. m; work = λ m. no_submit m }) there
+  used_verdict words (line.Moment conn ms) used there =
+      op_line_verdict words (line.Moment conn ms) None refl (record {
+        used = refl;
+        place = λ w m. m;
+        past = λ n m. m;
+        work = λ m. no_submit m;
+      }) there
   used_verdict words (line.Turn conn at) used there = turn_verdict words conn at there
-  used_verdict words (line.Send conn) used there = op_line_verdict words (line.Send conn) None refl (record { used = refl; place = λ w m. m; past = λ n m. m; work = λ m. no_submit m }) there
-  used_verdict words (line.Drain conn) used there = op_line_verdict words (line.Drain conn) None refl (record { used = refl; place = λ w m. m; past = λ n m. m; work = λ m. no_submit m }) there
+  used_verdict words (line.Send conn) used there =
+      op_line_verdict words (line.Send conn) None refl (record {
+        used = refl;
+        place = λ w m. m;
+        past = λ n m. m;
+        work = λ m. no_submit m;
+      }) there
+  used_verdict words (line.Drain conn) used there =
+      op_line_verdict words (line.Drain conn) None refl (record {
+        used = refl;
+        place = λ w m. m;
+        past = λ n m. m;
+        work = λ m. no_submit m;
+      }) there
 
   reason_late : (x : Refusal) → 14 ≤ order_of (reason_of x)
   reason_late (no_such name) = omega arith
@@ -247,7 +305,9 @@ module _ (loads : ℕ) (policies : List NamedPolicy) (before : List Line) where
     ];
   }
 
-  opens_verdict : (conn words : ℕ) (found : Option ℕ) → heap (line.Conn conn words) ≡ found → Verdict (line.Conn conn words) (against_known loads policies found (chain (line.Conn conn words)).entries (submissions before) (line.Conn conn words))
+  opens_verdict : (conn words : ℕ) (found : Option ℕ) → heap (line.Conn conn words) ≡ found
+      → Verdict (line.Conn conn words) (against_known loads policies found (chain (line.Conn conn words)).entries
+      (submissions before) (line.Conn conn words))
   opens_verdict conn words None none = λ q h. elim h [
     | is_open other opens is e ↦ (let clash : None ≡ Some other = sym none ∙ is in absurd cc)
     | not_open u n e ↦ false≢true (sym u)

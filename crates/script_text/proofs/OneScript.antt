@@ -1,5 +1,6 @@
 -- A text spells one script, or it has one fault.
-use Rattle.std.proofs.Common.{◌≡◌, ◌⊎◌, ℕ, zero, suc, ◌+◌, ◌<◌, Bool, true, List, [], ◌∷◌, ◌++◌, codes, length, refl, sym, ap, subst, ◌∙◌, append_assoc, arith, inl, inr, Result, Ok, Err}
+use Rattle.std.proofs.Common.{◌≡◌, ◌⊎◌, ℕ, zero, suc, ◌+◌, ◌<◌, Bool, true, List, [], ◌∷◌, ◌++◌, codes, length, refl}
+use Rattle.std.proofs.Common.{sym, ap, subst, ◌∙◌, append_assoc, arith, inl, inr, Result, Ok, Err}
 use Rattle.std.specs.Prelude.{MatchResult}
 use Rattle.std.proofs.lemmas.Bool.{false≢true}
 use Rattle.std.proofs.lemmas.List.{append_cancel_right}
@@ -12,7 +13,9 @@ use Rattle.script_words.specs.declared.fault.ScriptFault.{ScriptFault}
 use Rattle.script_words.specs.declared.fault.ScriptFault.TheVariants as fault
 use Rattle.script_words.specs.declared.fault.ScriptReason.{ScriptReason}
 use Rattle.script_text.specs.Offences.{Before}
-use Rattle.script_text.specs.Texts.{IsLineBefore, first_line, nothing, Goes, skips, declares, says, closes, Reaches, starts, goes_on, Spells, Stops, in_line, in_block, no_feed, no_close, IsFault, in_front, in_lines, IsFaultOf}
+use Rattle.script_text.specs.Texts.{IsLineBefore, first_line, nothing, Goes, skips, declares, says, closes, Reaches}
+use Rattle.script_text.specs.Texts.{starts, goes_on, Spells, Stops, in_line, in_block, no_feed, no_close, IsFault}
+use Rattle.script_text.specs.Texts.{in_front, in_lines, IsFaultOf}
 use Rattle.script_text.specs.declared.script.Line.{Line}
 use Rattle.script_text.specs.declared.script.Script.{Script}
 use Rattle.script_text.proofs.Going as going
@@ -23,8 +26,11 @@ use Rattle.script_text.proofs.TextLines.{some_line}
 pub record FrontLaws : Type 0 where
   pub front : (first text : List ℕ) (m n : ℕ) (T U : Table) (x y : List ℕ) → IsFront first text m T x → IsFront first text n U y → (m ≡ n) × (T ≡ U) × (x ≡ y)
   pub fault : (first text : List ℕ) (m n : ℕ) (r q : ScriptReason) → IsFrontFault first text m r → IsFrontFault first text n q → (m ≡ n) × (r ≡ q)
-  pub either : (first text : List ℕ) (loads : ℕ) (T : Table) (behind : List ℕ) (line : ℕ) (r : ScriptReason) → IsFront first text loads T behind → IsFrontFault first text line r → ⊥
-  pub some : (first text : List ℕ) → ((loads : ℕ) × (T : Table) × (behind : List ℕ) × IsFront first text loads T behind) ⊎ ((line : ℕ) × (r : ScriptReason) × IsFrontFault first text line r)
+  pub either : (first text : List ℕ) (loads : ℕ) (T : Table) (behind : List ℕ) (line : ℕ) (r : ScriptReason)
+      → IsFront first text loads T behind → IsFrontFault first text line r → ⊥
+  pub some : (first text : List ℕ)
+      → ((loads : ℕ) × (T : Table) × (behind : List ℕ) × IsFront first text loads T behind)
+      ⊎ ((line : ℕ) × (r : ScriptReason) × IsFrontFault first text line r)
 
 -- the script is spelled to its end
 abbrev pub end_of : Declared → List Line → Before
@@ -62,7 +68,8 @@ module _ (laws : Laws) (loads : ℕ) (T : Table) where
   at_end b x c y end (stays e f) = (e, f)
   at_end b x c y end (further m k goes on) = absurd (end m k goes)
 
-  pub one_end : (text : List ℕ) (b : Before) (x : List ℕ) (c : Before) (y : List ℕ) → Reaches loads T text b x → Reaches loads T text c y → IsEnd b x → IsEnd c y → (b ≡ c) × (x ≡ y)
+  pub one_end : (text : List ℕ) (b : Before) (x : List ℕ) (c : Before) (y : List ℕ) → Reaches loads T text b x
+      → Reaches loads T text c y → IsEnd b x → IsEnd c y → (b ≡ c) × (x ≡ y)
   one_end text b x c y r s here there = at_end b x c y here (all_lead text b x c y r (from_start text c y s) there)
 
   pub ended : (b : Before) → IsEnd b []
@@ -77,7 +84,9 @@ module _ (laws : Laws) (loads : ℕ) (T : Table) where
   no_stop b x at r none closed (no_feed one some e f) = some none
   no_stop b x at r none closed (no_close also still e f) = false≢true (sym still ∙ closed)
 
-  pub ends_or_stops : (text : List ℕ) (d : Declared) (lines : List Line) (b : Before) (x : List ℕ) (at : ℕ) (r : ScriptReason) → Reaches loads T text (end_of d lines) [] → Reaches loads T text b x → Stops loads T b x at r → ⊥
+  pub ends_or_stops : (text : List ℕ) (d : Declared) (lines : List Line) (b : Before) (x : List ℕ) (at : ℕ)
+      (r : ScriptReason) → Reaches loads T text (end_of d lines) [] → Reaches loads T text b x
+      → Stops loads T b x at r → ⊥
   ends_or_stops text d lines b x at r whole reaches stop =
       let same = one_end text (end_of d lines) [] b x whole reaches (ended (end_of d lines)) (stopped b x at r stop) in
       no_stop b x at r (sym same.1) (ap (λ (p : Before). p.closed) (sym same.0)) stop
@@ -130,7 +139,8 @@ module _ (laws : Laws) (fronts : FrontLaws) where
   same_end : (d e : Declared) (ls ms : List Line) → end_of d ls ≡ end_of e ms → (d ≡ e) × (ls ≡ ms)
   same_end d e ls ms h = (ap (λ (b : Before). b.declared) h, ap (λ (b : Before). b.lines) h)
 
-  reaches_same : (loads other : ℕ) (T U : Table) (x y : List ℕ) (b : Before) (rest : List ℕ) → (loads ≡ other) × (T ≡ U) × (x ≡ y) → Reaches loads T x b rest → Reaches other U y b rest
+  reaches_same : (loads other : ℕ) (T U : Table) (x y : List ℕ) (b : Before) (rest : List ℕ)
+      → (loads ≡ other) × (T ≡ U) × (x ≡ y) → Reaches loads T x b rest → Reaches other U y b rest
   reaches_same loads other T U x y b rest same r =
       subst (λ (n : ℕ). Reaches n U y b rest) same.0 (subst (λ (t : Table). Reaches loads t y b rest) same.1 (subst (λ (t : List ℕ). Reaches loads T t b rest) same.2 r))
 
@@ -138,7 +148,9 @@ module _ (laws : Laws) (fronts : FrontLaws) where
   one_script text s t h k =
       let same = fronts.front first_line text s.loads t.loads s.table t.table h.behind k.behind h.front k.front in
       let moved = reaches_same s.loads t.loads s.table t.table h.behind k.behind (end_of s.declared s.lines) [] same h.reaches in
-      let end = one_end laws t.loads t.table k.behind (end_of s.declared s.lines) [] (end_of t.declared t.lines) [] moved k.reaches (ended laws t.loads t.table (end_of s.declared s.lines)) (ended laws t.loads t.table (end_of t.declared t.lines)) in
+      let end = one_end laws t.loads t.table k.behind (end_of s.declared s.lines) [] (end_of t.declared t.lines) []
+      moved k.reaches (ended laws t.loads t.table (end_of s.declared s.lines))
+      (ended laws t.loads t.table (end_of t.declared t.lines)) in
       let parts = same_end s.declared t.declared s.lines t.lines end.0 in
       ap (λ (n : ℕ). record { loads = n; table = s.table; declared = s.declared; lines = s.lines }) same.0
       ∙ ap (λ (x : Table). record { loads = t.loads; table = x; declared = s.declared; lines = s.lines }) same.1
@@ -173,8 +185,11 @@ module _ (laws : Laws) (fronts : FrontLaws) where
   -- the front of a text, up to what is behind it
   front_behind : (text : List ℕ) (loads : ℕ) (T : Table) (behind : List ℕ) → IsFront first_line text loads T behind → (passed : List ℕ) × (text ≡ passed ++ behind)
   front_behind text loads T behind f =
-      let end : List ℕ = codes "end\n" in
-      (f.head ++ (table_text T ++ end), f.text_is ∙ ap (λ (t : List ℕ). f.head ++ t) (sym (append_assoc (table_text T) end behind)) ∙ sym (append_assoc f.head (table_text T ++ end) behind))
+      let end : List ℕ = codes "end\n" in (
+        f.head ++ (table_text T ++ end),
+        f.text_is ∙ ap (λ (t : List ℕ). f.head ++ t) (sym (append_assoc (table_text T) end behind))
+            ∙ sym (append_assoc f.head (table_text T ++ end) behind),
+      )
 
   run_answer : (text : List ℕ) (loads : ℕ) (T : Table) (behind : List ℕ) → IsFront first_line text loads T behind → Run laws loads T behind → HasAnswer text
   run_answer text loads T behind f (ran d lines reaches) = inl (record { loads = loads; table = T; declared = d; lines = lines }, record { behind = behind; front = f; reaches = reaches })
@@ -194,7 +209,8 @@ module _ (laws : Laws) (fronts : FrontLaws) where
     | inr bad ↦ inr (bad.0, bad.1, in_front bad.2)
   ]
 
-  pub only_one : (text : List ℕ) (r : Result Script ScriptFault) → MatchResult r (Spells text) (IsFaultOf text) → (s : Script) → Spells text s → MatchResult r (λ t. t ≡ s) (λ e. e ≡ fault.Memory)
+  pub only_one : (text : List ℕ) (r : Result Script ScriptFault) → MatchResult r (Spells text) (IsFaultOf text)
+      → (s : Script) → Spells text s → MatchResult r (λ t. t ≡ s) (λ e. e ≡ fault.Memory)
   only_one text (Ok t) h s spells = one_script text t s h spells
   only_one text (Err (fault.At line reason)) h s spells = absurd (not_both text s line reason spells h)
   only_one text (Err fault.Memory) h s spells = refl

@@ -1,5 +1,6 @@
 -- The numbers and names of a line are in the ranges of their words.
-use Rattle.std.proofs.Common.{◌≡◌, ◌≢◌, ℕ, zero, suc, ◌+◌, ◌-◌, ◌^◌, ◌<◌, ◌≤◌, Bool, true, false, cond, List, [], ◌∷◌, length, Option, Some, None, refl, sym, subst, arith}
+use Rattle.std.proofs.Common.{◌≡◌, ◌≢◌, ℕ, zero, suc, ◌+◌, ◌-◌, ◌^◌, ◌<◌, ◌≤◌, Bool, true, false, cond, List, [], ◌∷◌}
+use Rattle.std.proofs.Common.{length, Option, Some, None, refl, sym, subst, arith}
 use Rattle.std.specs.Prelude.{slice_get, nat_lt, nat_le, option_map}
 use Rattle.std.specs.List.{list_all, position_or_len}
 use Rattle.std.specs.Char.{digit_value}
@@ -53,7 +54,8 @@ value_small w (hexadecimal digits) is fits = sixteen_digits digits is.1
 
 -- ---- what words say
 
-pub number_said : (sorts : List Sort) (ws : List (List ℕ)) (ms : List Meaning) (k least most : ℕ) → slice_get sorts k ≡ Some (sort.Number least most) → AreSaid sorts ws ms → IsIn least most (number_at ms k)
+pub number_said : (sorts : List Sort) (ws : List (List ℕ)) (ms : List Meaning) (k least most : ℕ)
+    → slice_get sorts k ≡ Some (sort.Number least most) → AreSaid sorts ws ms → IsIn least most (number_at ms k)
 number_said [] ws ms k least most at said = absurd cc
 number_said (s ∷ ss) [] ms k least most at said = absurd said
 number_said (s ∷ ss) (w ∷ ws) [] k least most at said = absurd said
@@ -123,7 +125,8 @@ below n most h = omega (arith, h)
 pub conn_said : (f : Form) (text : List ℕ) (m : List Meaning) → IsSaid f text m → slice_get (sorts_of f) 1 ≡ Some (sort.Number 1 16) → IsIn 1 16 (number_at m 1)
 conn_said f text m said at = number_said (sorts_of f) (words_of text) m 1 1 16 at said.said
 
-pub number_of : (f : Form) (text : List ℕ) (m : List Meaning) (k least most : ℕ) → IsSaid f text m → slice_get (sorts_of f) k ≡ Some (sort.Number least most) → IsIn least most (number_at m k)
+pub number_of : (f : Form) (text : List ℕ) (m : List Meaning) (k least most : ℕ) → IsSaid f text m
+    → slice_get (sorts_of f) k ≡ Some (sort.Number least most) → IsIn least most (number_at m k)
 number_of f text m k least most said at = number_said (sorts_of f) (words_of text) m k least most at said.said
 
 name_of : (f : Form) (text : List ℕ) (m : List Meaning) (k : ℕ) → IsSaid f text m → slice_get (sorts_of f) k ≡ Some sort.Name → IsName (name_at m k)
@@ -144,18 +147,33 @@ line_ranges d text form.Race m l said e =
     let conn = conn_said form.Race text m said refl in
     let load = number_of form.Race text m 2 0 (2 ^ 64 - 1) said refl in
     let most = load.1 in
-    ranged_is _ (line.Race (number_at m 1) (number_at m 2) _ (number_at m 4)) l (same_Some _ l e) (record { conn_from = conn.0; conn_to = conn.1; ranges = (omega (arith, most), value_of form.Race text m 4 said refl) })
+    ranged_is _ (line.Race (number_at m 1) (number_at m 2) _ (number_at m 4)) l (same_Some _ l e)
+    (record {
+      conn_from = conn.0;
+      conn_to = conn.1;
+      ranges = (omega (arith, most), value_of form.Race text m 4 said refl);
+    })
 line_ranges d text form.Submit m l said e =
     let conn = conn_said form.Submit text m said refl in
     let method = (number_of form.Submit text m 2 0 65535 said refl).1 in
     let addr = (number_of form.Submit text m 3 0 (2 ^ 64 - 1) said refl).1 in
-    ranged_is _ (line.Submit (number_at m 1) (number_at m 2) 0 (number_at m 3)) l (same_Some _ l e) (record { conn_from = conn.0; conn_to = conn.1; ranges = (omega (arith, method), omega arith, omega (arith, addr)) })
+    ranged_is _ (line.Submit (number_at m 1) (number_at m 2) 0 (number_at m 3)) l (same_Some _ l e)
+    (record {
+      conn_from = conn.0;
+      conn_to = conn.1;
+      ranges = (omega (arith, method), omega arith, omega (arith, addr));
+    })
 line_ranges d text form.Reply m l said e =
     let conn = conn_said form.Reply text m said refl in
     let method = (number_of form.Reply text m 2 0 65535 said refl).1 in
     let addr = (number_of form.Reply text m 3 0 (2 ^ 64 - 1) said refl).1 in
     let request = (number_of form.Reply text m 4 1 (2 ^ 32 - 1) said refl).1 in
-    ranged_is _ (line.Submit (number_at m 1) (number_at m 2) (number_at m 4) (number_at m 3)) l (same_Some _ l e) (record { conn_from = conn.0; conn_to = conn.1; ranges = (omega (arith, method), omega (arith, request), omega (arith, addr)) })
+    ranged_is _ (line.Submit (number_at m 1) (number_at m 2) (number_at m 4) (number_at m 3)) l (same_Some _ l e)
+    (record {
+      conn_from = conn.0;
+      conn_to = conn.1;
+      ranges = (omega (arith, method), omega (arith, request), omega (arith, addr));
+    })
 line_ranges d text form.Attach m l said e =
     let conn = conn_said form.Attach text m said refl in
     let place = mapped (line.Attach (number_at m 1) _ (name_at m 3)) (policy_place d (name_at m 4)) l e in

@@ -1,10 +1,13 @@
 -- What stands against a step of an operator, and what comes first.
-use Rattle.std.proofs.Common.{◌≡◌, ℕ, ◌<◌, ◌≤◌, zero, suc, true, false, not, ◌⊎◌, inl, inr, List, [], ◌∷◌, length, Contains, Option, Some, None, refl, ap, sym, ◌∙◌, arith}
+use Rattle.std.proofs.Common.{◌≡◌, ℕ, ◌<◌, ◌≤◌, zero, suc, true, false, not, ◌⊎◌, inl, inr, List, [], ◌∷◌, length}
+use Rattle.std.proofs.Common.{Contains, Option, Some, None, refl, ap, sym, ◌∙◌, arith}
 use Rattle.std.specs.Prelude.{nat_lt, nat_le, if◌then◌else◌}
 use Rattle.std.proofs.lemmas.Bool.{cases_Bool, cond_both, ltb-true, ltb-false, leb-true, leb-false, and_parts, and_from, or_left, or_right, false≢true, not-true, not_from_false, not-false}
 use Rattle.std.proofs.lemmas.Slice.Eq.{bytes_eq-Decides}
 use Rattle.engine_core.specs.Policies.{is_same_kind}
-use Rattle.engine_core.specs.Chains.{Entry, Chain, Refusal, no_such, taken, no_place, full, other_kind, order_of, IsAgainst, detaches_none, upgrades_none, is_taken, is_past, is_full, is_other, Refuses, names_of, is_named}
+use Rattle.engine_core.specs.Chains.{Entry, Chain, Refusal, no_such, taken, no_place, full, other_kind, order_of}
+use Rattle.engine_core.specs.Chains.{IsAgainst, detaches_none, upgrades_none, is_taken, is_past, is_full, is_other}
+use Rattle.engine_core.specs.Chains.{Refuses, names_of, is_named}
 use Rattle.engine_core.specs.declared.policy.Policy.{Policy}
 use Rattle.engine_core.specs.declared.op.Op.{Op}
 use Rattle.engine_core.specs.declared.op.Op.TheVariants.{Attach, Detach, Upgrade}
@@ -136,7 +139,8 @@ named-has name (y ∷ ys) (suc k, within, same) = or_right (is_named name y) (ha
 pub has-false : (name : List ℕ) (es : List Entry) → has_name name es ≡ false → Contains (names_of es) name → ⊥
 has-false name es e has = false≢true (sym e ∙ named-has name es has)
 
-pub other-true : (name : List ℕ) (policy : Policy) (es : List Entry) → has_other name policy es ≡ true → (e : Entry) × Contains es e × (e.name ≡ name) × (is_same_kind e.policy policy ≡ false)
+pub other-true : (name : List ℕ) (policy : Policy) (es : List Entry) → has_other name policy es ≡ true
+    → (e : Entry) × Contains es e × (e.name ≡ name) × (is_same_kind e.policy policy ≡ false)
 other-true name policy [] e = absurd (false≢true e)
 other-true name policy (x ∷ xs) e = elim (cases_Bool (is_other_entry name policy x)) [
   | inl is ↦
@@ -147,15 +151,19 @@ other-true name policy (x ∷ xs) e = elim (cases_Bool (is_other_entry name poli
       (rest.0, (suc rest.1.0, (let within = rest.1.1 in omega (arith, within)), rest.1.2), rest.2, rest.3)
 ]
 
-pub other-has : (name : List ℕ) (policy : Policy) (es : List Entry) (e : Entry) → Contains es e → e.name ≡ name → is_same_kind e.policy policy ≡ false → has_other name policy es ≡ true
+pub other-has : (name : List ℕ) (policy : Policy) (es : List Entry) (e : Entry) → Contains es e → e.name ≡ name
+    → is_same_kind e.policy policy ≡ false → has_other name policy es ≡ true
 other-has name policy [] e (k, within, same) is kind = absurd (omega (arith, within))
 other-has name policy (y ∷ ys) e (zero, within, same) is kind =
     or_left (is_other_entry name policy y) (has_other name policy ys)
     (and_from (is_named name y) (not (is_same_kind y.policy policy)) ((bytes_eq-Decides y.name name).1 (ap (λ (e : Entry). e.name) same ∙ is))
     (not_from_false (is_same_kind y.policy policy) (ap (λ (e : Entry). is_same_kind e.policy policy) same ∙ kind)))
-other-has name policy (y ∷ ys) e (suc k, within, same) is kind = or_right (is_other_entry name policy y) (has_other name policy ys) (other-has name policy ys e (k, omega (arith, within), same) is kind)
+other-has name policy (y ∷ ys) e (suc k, within, same) is kind =
+    or_right (is_other_entry name policy y) (has_other name policy ys)
+    (other-has name policy ys e (k, omega (arith, within), same) is kind)
 
-pub free-upgrade : (es : List Entry) (name label : List ℕ) (policy : Policy) (r : Refusal) → Contains (names_of es) name → has_other name policy es ≡ false → IsAgainst es (Upgrade name label policy) r → ⊥
+pub free-upgrade : (es : List Entry) (name label : List ℕ) (policy : Policy) (r : Refusal)
+    → Contains (names_of es) name → has_other name policy es ≡ false → IsAgainst es (Upgrade name label policy) r → ⊥
 free-upgrade es name label policy r has none against =
     let found = (upgrade-other es name label policy r has against).1 in
     false≢true (sym none ∙ other-has name policy es found.0 found.1 found.2 found.3)
@@ -191,5 +199,6 @@ op_verdict c (Upgrade name label policy) =
     (λ has.
     cond_both (not (has_other name policy es)) None (Some reason.OtherKind) (OpVerdict c o)
     (λ none. (λ refusal against. free-upgrade es name label policy refusal (has-true name es has) (not-true (has_other name policy es) none) against))
-    (λ some. (let e = other-true name policy es (not-false (has_other name policy es) some) in (other_kind name, refuses-kind c name label policy e.0 (has-true name es has) e.1 e.2 e.3, refl))))
+    (λ some. (let e = other-true name policy es (not-false (has_other name policy es) some) in
+    (other_kind name, refuses-kind c name label policy e.0 (has-true name es has) e.1 e.2 e.3, refl))))
     (λ none. (no_such name, refuses-upgrade c name label policy (has-false name es none), refl))

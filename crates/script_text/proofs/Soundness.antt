@@ -21,13 +21,16 @@ use Rattle.script_text.proofs.Growing.{allowed_grown, allowed_more}
 use Rattle.script_text.proofs.Ranges.{line_ranges}
 
 -- a line that is said and against which nothing stands may stand there
-pub allows_said : (loads : ℕ) (b : Before) (text : List ℕ) (f : Form) (m : List Meaning) (l : Line) → IsSaid f text m → line_in b.declared f m ≡ Some l → ((q : ScriptReason) → Offends loads b text q → ⊥)
+pub allows_said : (loads : ℕ) (b : Before) (text : List ℕ) (f : Form) (m : List Meaning) (l : Line) → IsSaid f text m
+    → line_in b.declared f m ≡ Some l → ((q : ScriptReason) → Offends loads b text q → ⊥)
     → Allows loads b.declared.policies b.lines l
 allows_said loads b text f m l said is free =
     let ranged = line_ranges b.declared text f m l said is in
     record { conn_from = ranged.conn_from; conn_to = ranged.conn_to; ranges = ranged.ranges; free = λ q against. free q (behind_lines f m l said is against) }
 
-module _ (stays : (T : Table) (skips : Bool) (d : Declared) (f : ItemForm) (line text : List ℕ) (i : Item) (x : List ℕ) → IsSound d → Declares T skips d f line text i x → IsSound (with_item d i)) (loads : ℕ) (T : Table) where
+module _ (stays : (T : Table) (skips : Bool) (d : Declared) (f : ItemForm) (line text : List ℕ) (i : Item)
+    (x : List ℕ) → IsSound d → Declares T skips d f line text i x → IsSound (with_item d i)) (loads : ℕ)
+    (T : Table) where
   pub record IsSoundBefore (b : Before) : Type 0 where
     pub declared : IsSound b.declared
     pub lines : AreAllowed loads b.declared.policies [] b.lines
@@ -66,7 +69,8 @@ pub head_limit : (first head : List ℕ) (loads : ℕ) → IsHead first head loa
 head_limit first head loads (usual is e) = (omega (arith, e), omega (arith, e))
 head_limit first head loads (limited word is number limit) = limit
 
-pub sound_script : ((T : Table) (skips : Bool) (d : Declared) (f : ItemForm) (line text : List ℕ) (i : Item) (x : List ℕ) → IsSound d → Declares T skips d f line text i x → IsSound (with_item d i))
+pub sound_script : ((T : Table) (skips : Bool) (d : Declared) (f : ItemForm) (line text : List ℕ) (i : Item)
+    (x : List ℕ) → IsSound d → Declares T skips d f line text i x → IsSound (with_item d i))
     → (text : List ℕ) (s : Script) → Spells text s → IsScript s
 sound_script stays text s h =
     let limit = head_limit first_line h.front.head s.loads h.front.is_head in

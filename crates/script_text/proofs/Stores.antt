@@ -1,5 +1,7 @@
 -- The words of lines with short numbers.
-use Rattle.std.proofs.Common.{◌≡◌, ℕ, suc, ◌+◌, ◌-◌, ◌*◌, ◌^◌, ◌==◌, ◌<◌, ◌≤◌, true, false, nat_le, All, List, [], ◌∷◌, length, take, get_or, Some, ap, sym, subst, ◌∙◌, refl, arith, leb-true, le-ltb, lt-ltb, append-nil}
+use Rattle.std.proofs.Common.{◌≡◌, ℕ, suc, ◌+◌, ◌-◌, ◌*◌, ◌^◌, ◌==◌, ◌<◌, ◌≤◌, true, false, nat_le, All, List, []}
+use Rattle.std.proofs.Common.{◌∷◌, length, take, get_or, Some, ap, sym, subst, ◌∙◌, refl, arith, leb-true, le-ltb}
+use Rattle.std.proofs.Common.{◌++◌, lt-ltb, append-nil, append_assoc}
 use Rattle.std.specs.Char.{digit_value, is_ascii_digit}
 use Rattle.std.specs.List.{list_all, AllByRecursion}
 use Rattle.std.specs.Str.Parse.{digits_value}
@@ -15,11 +17,12 @@ use Rattle.script_words.specs.Forms.{form_in, sorts_of}
 use Rattle.script_words.specs.Lines.{AreSaid}
 use Rattle.script_words.specs.Values.{plain}
 use Rattle.script_words.specs.declared.form.Form.TheVariants as form
-use Rattle.script_text.specs.Stores.{store_words, submit_words, turn_words, IsNumberBefore}
+use Rattle.script_text.specs.Stores.{store_words, submit_words, turn_words, IsNumberBefore, SaysInFront}
 use Rattle.script_text.specs.Words.{IsSaid}
 use Rattle.script_text.specs.declared.short.Submit.{Submit}
 use Rattle.script_text.specs.declared.short.Turn.{Turn}
 use Rattle.script_text.specs.declared.store.Store.{Store}
+use Rattle.script_text.proofs.TextLines.{one_line}
 
 -- ---- digits
 
@@ -87,7 +90,7 @@ last_word w = ap words_of (w.parts ∙ append-nil w.digits) ∙ slice_split_none
 small_is : (n : ℕ) → n < 2 ^ 64 → Small n ≡ in_64_bits n
 small_is n small = rw (lt-ltb n (2 ^ 64) small) refl
 
-pub is_store : (line first second third : List ℕ) (conn place value : ℕ)
+is_store : (line first second third : List ℕ) (conn place value : ℕ)
     → line ≡ 115 ∷ 116 ∷ 111 ∷ 114 ∷ 101 ∷ 32 ∷ first → IsNumberBefore first conn (32 ∷ second)
     → IsNumberBefore second place (32 ∷ third) → IsNumberBefore third value [] → 1 ≤ conn → conn ≤ 16
     → IsSaid form.Store line (store_words (record { conn = conn; place = Small place; value = value }))
@@ -103,7 +106,7 @@ is_store line first second third conn place value begins c p v low high =
           ((refl, refl), ((c.spells, (low, high)), ((place, p.spells, small_is place p.small), ((plain value, v.spells, v.small, refl), tt))));
     }
 
-pub is_submit : (line first second third : List ℕ) (conn method addr : ℕ)
+is_submit : (line first second third : List ℕ) (conn method addr : ℕ)
     → line ≡ 115 ∷ 117 ∷ 98 ∷ 109 ∷ 105 ∷ 116 ∷ 32 ∷ first → IsNumberBefore first conn (32 ∷ second)
     → IsNumberBefore second method (32 ∷ third) → IsNumberBefore third addr [] → 1 ≤ conn → conn ≤ 16 → method ≤ 65535
     → IsSaid form.Submit line (submit_words (record { conn = conn; method = method; addr = addr }))
@@ -122,7 +125,7 @@ is_submit line first second third conn method addr begins c m a low high few =
           ((refl, refl), ((c.spells, (low, high)), ((m.spells, (none, few)), ((a.spells, (least, most)), tt))));
     }
 
-pub is_turn : (line first second : List ℕ) (conn at : ℕ)
+is_turn : (line first second : List ℕ) (conn at : ℕ)
     → line ≡ 116 ∷ 117 ∷ 114 ∷ 110 ∷ 32 ∷ first → IsNumberBefore first conn (32 ∷ second)
     → IsNumberBefore second at [] → 1 ≤ conn → conn ≤ 16
     → IsSaid form.Turn line (turn_words (record { conn = conn; at = Small at }))
@@ -136,4 +139,105 @@ is_turn line first second conn at begins c a low high =
       has_form = subst (λ (ws : List (List ℕ)). form_in ws ≡ Some form.Turn) (sym words) refl;
       said = subst (λ (ws : List (List ℕ)). AreSaid (sorts_of form.Turn) ws (turn_words t)) (sym words)
           ((refl, refl), ((c.spells, (low, high)), ((at, a.spells, small_is at a.small), tt)));
+    }
+
+-- ---- lines with which a text begins
+
+no_feed : (c : ℕ) → is_ascii_digit c ≡ true → (c == 10) ≡ false
+no_feed c e =
+    let low = (digit_is c e).0 in
+    ne_eqb c 10 (λ same. omega (arith, low, same))
+
+abbrev AreUnfed : List ℕ → Type 0
+AreUnfed l = AllByRecursion (λ c. (c == 10) ≡ false) l
+
+each_unfed : (digits : List ℕ) → list_all is_ascii_digit digits ≡ true → AreUnfed digits
+each_unfed [] e = tt
+each_unfed (c ∷ cs) e =
+    let parts = and_parts (is_ascii_digit c) (list_all is_ascii_digit cs) e in
+    (no_feed c parts.0, each_unfed cs parts.1)
+
+both_unfed : (xs ys : List ℕ) → AreUnfed xs → AreUnfed ys → AreUnfed (xs ++ ys)
+both_unfed [] ys a b = b
+both_unfed (x ∷ xs) ys a b = (a.0, both_unfed xs ys a.1 b)
+
+-- the bytes of a text up to a line feed, and what stands behind it
+record Fed (text rest : List ℕ) : Type 0 where
+  line : List ℕ
+  parts : text ≡ line ++ 10 ∷ rest
+  unfed : AreUnfed line
+
+fed_end : {text rest : List ℕ} {n : ℕ} → IsNumberBefore text n (10 ∷ rest) → Fed text rest
+fed_end w = record { line = w.digits; parts = w.parts; unfed = each_unfed w.digits w.are_digits }
+
+fed_more : {text behind rest : List ℕ} {n : ℕ} → IsNumberBefore text n (32 ∷ behind) → Fed behind rest → Fed text rest
+fed_more {rest = rest} w f = record {
+  line = w.digits ++ 32 ∷ f.line;
+  parts = w.parts ∙ ap (λ (t : List ℕ). w.digits ++ 32 ∷ t) f.parts ∙ sym (append_assoc w.digits (32 ∷ f.line) (10 ∷ rest));
+  unfed = both_unfed w.digits (32 ∷ f.line) (each_unfed w.digits w.are_digits) (refl, f.unfed);
+}
+
+alone : {text rest : List ℕ} {n : ℕ} → (w : IsNumberBefore text n rest) → IsNumberBefore w.digits n []
+alone w = record { digits = w.digits; parts = sym (append-nil w.digits); are_digits = w.are_digits; spells = w.spells; small = w.small }
+
+with_rest : {text rest : List ℕ} {n : ℕ} → (w : IsNumberBefore text n rest) → (line : List ℕ) → IsNumberBefore (w.digits ++ line) n line
+with_rest w line = record { digits = w.digits; parts = refl; are_digits = w.are_digits; spells = w.spells; small = w.small }
+
+pub store_in_front : (text first second third rest : List ℕ) (conn place value : ℕ)
+    → text ≡ 115 ∷ 116 ∷ 111 ∷ 114 ∷ 101 ∷ 32 ∷ first → IsNumberBefore first conn (32 ∷ second)
+    → IsNumberBefore second place (32 ∷ third) → IsNumberBefore third value (10 ∷ rest) → 1 ≤ conn → conn ≤ 16
+    → SaysInFront form.Store text (store_words (record { conn = conn; place = Small place; value = value })) rest
+unfolding fed_more fed_end
+store_in_front text first second third rest conn place value begins c p v low high =
+    let end = fed_end v in
+    let mid = fed_more p end in
+    let all = fed_more c mid in
+    let line : List ℕ = 115 ∷ 116 ∷ 111 ∷ 114 ∷ 101 ∷ 32 ∷ all.line in
+    let unfed : AreUnfed line = (refl, (refl, (refl, (refl, (refl, (refl, all.unfed)))))) in
+    record {
+      line = line;
+      before = record {
+        one_line = one_line line (All-from_recursion (λ c. (c == 10) ≡ false) line unfed);
+        text_is = begins ∙ ap (λ (t : List ℕ). 115 ∷ 116 ∷ 111 ∷ 114 ∷ 101 ∷ 32 ∷ t) all.parts;
+      };
+      said = is_store line all.line mid.line end.line conn place value refl (with_rest c (32 ∷ mid.line)) (with_rest p (32 ∷ end.line)) (alone v) low high;
+    }
+
+pub submit_in_front : (text first second third rest : List ℕ) (conn method addr : ℕ)
+    → text ≡ 115 ∷ 117 ∷ 98 ∷ 109 ∷ 105 ∷ 116 ∷ 32 ∷ first → IsNumberBefore first conn (32 ∷ second)
+    → IsNumberBefore second method (32 ∷ third) → IsNumberBefore third addr (10 ∷ rest) → 1 ≤ conn → conn ≤ 16 → method ≤ 65535
+    → SaysInFront form.Submit text (submit_words (record { conn = conn; method = method; addr = addr })) rest
+unfolding fed_more fed_end
+submit_in_front text first second third rest conn method addr begins c m a low high few =
+    let end = fed_end a in
+    let mid = fed_more m end in
+    let all = fed_more c mid in
+    let line : List ℕ = 115 ∷ 117 ∷ 98 ∷ 109 ∷ 105 ∷ 116 ∷ 32 ∷ all.line in
+    let unfed : AreUnfed line = (refl, (refl, (refl, (refl, (refl, (refl, (refl, all.unfed))))))) in
+    record {
+      line = line;
+      before = record {
+        one_line = one_line line (All-from_recursion (λ c. (c == 10) ≡ false) line unfed);
+        text_is = begins ∙ ap (λ (t : List ℕ). 115 ∷ 117 ∷ 98 ∷ 109 ∷ 105 ∷ 116 ∷ 32 ∷ t) all.parts;
+      };
+      said = is_submit line all.line mid.line end.line conn method addr refl (with_rest c (32 ∷ mid.line)) (with_rest m (32 ∷ end.line)) (alone a) low high few;
+    }
+
+pub turn_in_front : (text first second rest : List ℕ) (conn at : ℕ)
+    → text ≡ 116 ∷ 117 ∷ 114 ∷ 110 ∷ 32 ∷ first → IsNumberBefore first conn (32 ∷ second)
+    → IsNumberBefore second at (10 ∷ rest) → 1 ≤ conn → conn ≤ 16
+    → SaysInFront form.Turn text (turn_words (record { conn = conn; at = Small at })) rest
+unfolding fed_more fed_end
+turn_in_front text first second rest conn at begins c a low high =
+    let end = fed_end a in
+    let all = fed_more c end in
+    let line : List ℕ = 116 ∷ 117 ∷ 114 ∷ 110 ∷ 32 ∷ all.line in
+    let unfed : AreUnfed line = (refl, (refl, (refl, (refl, (refl, all.unfed))))) in
+    record {
+      line = line;
+      before = record {
+        one_line = one_line line (All-from_recursion (λ c. (c == 10) ≡ false) line unfed);
+        text_is = begins ∙ ap (λ (t : List ℕ). 116 ∷ 117 ∷ 114 ∷ 110 ∷ 32 ∷ t) all.parts;
+      };
+      said = is_turn line all.line end.line conn at refl (with_rest c (32 ∷ end.line)) (alone a) low high;
     }

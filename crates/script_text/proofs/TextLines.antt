@@ -1,5 +1,6 @@
 -- A text is cut at its first line feed, and a line at its first space.
-use Rattle.std.proofs.Common.{◌≡◌, ℕ, ◌<◌, ◌==◌, Bool, true, false, cond, List, [], ◌∷◌, ◌++◌, length, drop, get_or, All, refl, sym, ap, subst, ◌∙◌, arith, eq-eqb}
+use Rattle.std.proofs.Common.{◌≡◌, ℕ, ◌<◌, ◌==◌, Bool, true, false, cond, List, [], ◌∷◌, ◌++◌, length, drop, get_or}
+use Rattle.std.proofs.Common.{All, refl, sym, ap, subst, ◌∙◌, arith, eq-eqb}
 use Rattle.std.specs.Prelude.{Contains}
 use Rattle.std.specs.List.{AllByRecursion, onto_first, join_with_byte}
 use Rattle.std.proofs.lemmas.Bool.{false≢true, ne_eqb}
@@ -36,7 +37,7 @@ IsUnfed l = All (λ c. (c == 10) ≡ false) l
 unfed : (l : List ℕ) → IsOneLine l → IsUnfed l
 unfed l none k d within = ne_eqb (get_or l k d) 10 (λ same. none (k, within, get_or_default l k 10 d within ∙ same))
 
-one_line : (l : List ℕ) → IsUnfed l → IsOneLine l
+pub one_line : (l : List ℕ) → IsUnfed l → IsOneLine l
 one_line l one c = false≢true (sym (one c.0 10 c.1) ∙ eq-eqb (get_or l c.0 10) 10 c.2)
 
 split_step : (c : ℕ) (parts : List (List ℕ)) (b : Bool) → (c == 10) ≡ b → AllByRecursion IsUnfed parts → AllByRecursion IsUnfed (cond b ([] ∷ parts) (onto_first c parts))

@@ -40,19 +40,23 @@ no_more (w ∷ ws) ms h = absurd h
 behind : (w : List ℕ) (xs ys : List (List ℕ)) → xs ≡ ys → w ∷ xs ≡ w ∷ ys
 behind w xs ys e = ap (λ (ws : List (List ℕ)). w ∷ ws) e
 
-two : (a b : Sort) (ws : List (List ℕ)) (ms : List Meaning) → AreSaid (a ∷ b ∷ []) ws ms → (u : List ℕ) × (v : List ℕ) × (m : Meaning) × Says a u m × (ws ≡ u ∷ v ∷ [])
+two : (a b : Sort) (ws : List (List ℕ)) (ms : List Meaning) → AreSaid (a ∷ b ∷ []) ws ms
+    → (u : List ℕ) × (v : List ℕ) × (m : Meaning) × Says a u m × (ws ≡ u ∷ v ∷ [])
 two a b ws ms h =
     let p = split a (b ∷ []) ws ms h in
     let q = split b [] p.others p.meanings p.said in
     (p.first, q.first, p.meaning, p.says, p.parts ∙ behind p.first p.others _ (q.parts ∙ behind q.first q.others _ (no_more q.others q.meanings q.said)))
 
-three : (a b c : Sort) (ws : List (List ℕ)) (ms : List Meaning) → AreSaid (a ∷ b ∷ c ∷ []) ws ms → (u : List ℕ) × (v : List ℕ) × (w : List ℕ) × (m : Meaning) × Says a u m × (ws ≡ u ∷ v ∷ w ∷ [])
+three : (a b c : Sort) (ws : List (List ℕ)) (ms : List Meaning) → AreSaid (a ∷ b ∷ c ∷ []) ws ms
+    → (u : List ℕ) × (v : List ℕ) × (w : List ℕ) × (m : Meaning) × Says a u m × (ws ≡ u ∷ v ∷ w ∷ [])
 three a b c ws ms h =
     let p = split a (b ∷ c ∷ []) ws ms h in
     let q = two b c p.others p.meanings p.said in
     (p.first, q.0, q.1, p.meaning, p.says, p.parts ∙ behind p.first p.others _ q.4)
 
-four : (a b c d : Sort) (ws : List (List ℕ)) (ms : List Meaning) → AreSaid (a ∷ b ∷ c ∷ d ∷ []) ws ms → (u : List ℕ) × (v : List ℕ) × (w : List ℕ) × (x : List ℕ) × (m : Meaning) × Says a u m × (ws ≡ u ∷ v ∷ w ∷ x ∷ [])
+four : (a b c d : Sort) (ws : List (List ℕ)) (ms : List Meaning) → AreSaid (a ∷ b ∷ c ∷ d ∷ []) ws ms
+    → (u : List ℕ) × (v : List ℕ) × (w : List ℕ) × (x : List ℕ) × (m : Meaning) × Says a u m
+    × (ws ≡ u ∷ v ∷ w ∷ x ∷ [])
 four a b c d ws ms h =
     let p = split a (b ∷ c ∷ d ∷ []) ws ms h in
     let q = three b c d p.others p.meanings p.said in
@@ -64,13 +68,16 @@ by_words f ws vs e is = subst (λ (xs : List (List ℕ)). form_in xs ≡ Some f)
 is_drain : (ws : List (List ℕ)) (ms : List Meaning) → AreSaid (sorts_of form.Drain) ws ms → form_in ws ≡ Some form.Drain
 is_drain ws ms h =
     let t = two (sort.Key keyword.Drain) conn ws ms h in
-    by_words form.Drain ws (t.0 ∷ t.1 ∷ []) t.4 (by_words form.Drain (t.0 ∷ t.1 ∷ []) (spelling keyword.Drain ∷ t.1 ∷ []) (ap (λ (u : List ℕ). u ∷ t.1 ∷ []) (key_word keyword.Drain t.0 t.2 t.3)) refl)
+    by_words form.Drain ws (t.0 ∷ t.1 ∷ []) t.4
+    (by_words form.Drain (t.0 ∷ t.1 ∷ []) (spelling keyword.Drain ∷ t.1 ∷ [])
+    (ap (λ (u : List ℕ). u ∷ t.1 ∷ []) (key_word keyword.Drain t.0 t.2 t.3)) refl)
 
 is_upgrade : (ws : List (List ℕ)) (ms : List Meaning) → AreSaid (sorts_of form.Upgrade) ws ms → form_in ws ≡ Some form.Upgrade
 is_upgrade ws ms h =
     let t = four (sort.Key keyword.Upgrade) conn sort.Name sort.Name ws ms h in
     by_words form.Upgrade ws (t.0 ∷ t.1 ∷ t.2 ∷ t.3 ∷ []) t.6
-    (by_words form.Upgrade (t.0 ∷ t.1 ∷ t.2 ∷ t.3 ∷ []) (spelling keyword.Upgrade ∷ t.1 ∷ t.2 ∷ t.3 ∷ []) (ap (λ (u : List ℕ). u ∷ t.1 ∷ t.2 ∷ t.3 ∷ []) (key_word keyword.Upgrade t.0 t.4 t.5)) refl)
+    (by_words form.Upgrade (t.0 ∷ t.1 ∷ t.2 ∷ t.3 ∷ []) (spelling keyword.Upgrade ∷ t.1 ∷ t.2 ∷ t.3 ∷ [])
+    (ap (λ (u : List ℕ). u ∷ t.1 ∷ t.2 ∷ t.3 ∷ []) (key_word keyword.Upgrade t.0 t.4 t.5)) refl)
 
 moved : (f g : Form) → f ≡ g → (ws : List (List ℕ)) (ms : List Meaning) → AreSaid (sorts_of f) ws ms
     → ((xs : List (List ℕ)) (ns : List Meaning) → AreSaid (sorts_of g) xs ns → form_in xs ≡ Some g) → form_in ws ≡ Some f

@@ -5,6 +5,9 @@ use Rattle.std.specs.List.{list_all}
 use Rattle.script_words.specs.Sorts.{Meaning, word, number, unbounded}
 use Rattle.script_words.specs.Values.{IsNumber}
 use Rattle.script_words.specs.declared.keyword.Keyword.TheVariants as keyword
+use Rattle.script_words.specs.declared.form.Form.{Form}
+use Rattle.script_text.specs.Texts.{IsLineBefore}
+use Rattle.script_text.specs.Words.{IsSaid}
 use Rattle.script_text.specs.declared.short.Submit.{Submit}
 use Rattle.script_text.specs.declared.short.Turn.{Turn}
 use Rattle.script_text.specs.declared.store.Store.{Store}
@@ -26,3 +29,9 @@ pub record IsNumberBefore (text : List ℕ) (n : ℕ) (rest : List ℕ) : Type 0
   pub are_digits : list_all is_ascii_digit digits ≡ true
   pub spells : IsNumber digits n
   pub small : n < 2 ^ 64
+
+-- the first line of a text says this, and this stands behind it
+pub record SaysInFront (f : Form) (text : List ℕ) (meanings : List Meaning) (rest : List ℕ) : Type 0 where
+  pub line : List ℕ
+  pub before : IsLineBefore text line rest
+  pub said : IsSaid f line meanings

@@ -58,7 +58,7 @@ impl From<ScriptReason> for Flaw {
     }
 }
 
-/// The place, where it is one of a heap of so many words, and not 0.
+// The place, where it is one of a heap of so many words, and not 0.
 fn place_in(words: u32, place: Decimal) -> Result<u32, ScriptReason>
     ensures { result ≡ place_kept words place }
 {
@@ -68,7 +68,7 @@ fn place_in(words: u32, place: Decimal) -> Result<u32, ScriptReason>
     }
 }
 
-/// The number of a load, where it isn't 0.
+// The number of a load, where it isn't 0.
 fn load_of(load: u64) -> Result<u64, ScriptReason>
     ensures { result ≡ load_kept load }
 {
@@ -79,7 +79,7 @@ fn load_of(load: u64) -> Result<u64, ScriptReason>
     }
 }
 
-/// Where the policy of a name stands among the declared ones.
+// Where the policy of a name stands among the declared ones.
 fn policy_in(declared: &Declarations, name: &[u8]) -> Result<usize, ScriptReason>
     ensures { result ≡ policy_kept declared.now name.now }
 {
@@ -89,7 +89,7 @@ fn policy_in(declared: &Declarations, name: &[u8]) -> Result<usize, ScriptReason
     }
 }
 
-/// The line, or the flaw that a reason is.
+// The line, or the flaw that a reason is.
 fn made(said: Result<Line, ScriptReason>) -> Result<Line, Flaw>
     ensures { IsMade said result }
 {
@@ -99,7 +99,7 @@ fn made(said: Result<Line, ScriptReason>) -> Result<Line, Flaw>
     }
 }
 
-/// The kind of the policy at a place among the declared ones.
+// The kind of the policy at a place among the declared ones.
 fn kind_at(declared: &Declarations, place: usize) -> Kind
     ensures { result ≡ kind_at declared.now place }
 {
@@ -110,7 +110,7 @@ fn kind_at(declared: &Declarations, place: usize) -> Kind
 }
 
 impl Body {
-    /// The words of the heap of a connection that has to be open.
+    // The words of the heap of a connection that has to be open.
     fn heap(&self, conn: u64) -> Result<u32, ScriptReason>
         requires { IsIn 1 16 conn }
         ensures { result ≡ heap_kept (words_kept self.now conn) }
@@ -180,7 +180,7 @@ impl Body {
         })
     }
 
-    /// With one call more the calls load no more words than they may.
+    // With one call more the calls load no more words than they may.
     fn has_room(&self, loads: u64) -> Result<(), ScriptReason>
         requires small { loads ≤ MAX_LOADS }
         requires few { self.now.submissions ≤ MAX_WORK }
@@ -236,7 +236,7 @@ impl Body {
         self.submitted(loads, submit, number)
     }
 
-    /// The position at which a policy is attached, and its place among the declared ones.
+    // The position at which a policy is attached, and its place among the declared ones.
     #[tactic(auto, unfolding(crate::specs::Keeping::attaching))]
     fn attaching(
         &self,
@@ -296,7 +296,7 @@ impl Body {
         })
     }
 
-    /// The place among the declared policies of the one that an entry gets.
+    // The place among the declared policies of the one that an entry gets.
     #[tactic(auto, unfolding(crate::specs::Keeping::upgrading))]
     fn upgrading(&self, declared: &Declarations, words: &[Said<'_>]) -> Result<usize, ScriptReason>
         requires { IsIn 1 16 (number_at (meanings_of words.now) 1) }

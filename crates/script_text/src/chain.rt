@@ -82,14 +82,14 @@ impl Links {
         }
     }
 
-    /// Whether an entry has the name.
+    // Whether an entry has the name.
     fn has(&self, name: &[u8]) -> bool
         ensures { result ≡ has_entry name.now self.now }
     {
         self.links.iter().any(|link| link.name.as_slice() == name)
     }
 
-    /// Whether an entry has the name, and a policy of another kind.
+    // Whether an entry has the name, and a policy of another kind.
     fn has_other(&self, name: &[u8], kind: Kind) -> bool
         ensures { result ≡ has_other_entry name.now kind self.now }
     {

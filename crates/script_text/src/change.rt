@@ -19,8 +19,8 @@ ghost use Rattle.script_text.specs.declared.limits.TheConstants.{MAX_WORK};
 use crate::body::{Body, Flaw};
 use crate::laws::one_laws;
 use crate::script::Line;
-use crate::short::{Submit, Turn, short_submit, short_turn};
-use crate::store::{Store, short_store};
+use crate::short::{Submit, Turn, front_submit, front_turn};
+use crate::store::{Store, front_store};
 use memchr::memchr;
 use mrpc_table::Table;
 use policy_blocks::{Declarations, Item, ItemForm, ItemLines, read_item};
@@ -40,8 +40,8 @@ pub(crate) enum Change {
     Close,
 }
 
-/// The first line of a text, without its line feed, and what stands behind it; none where no line ends in the text.
-/// (As `cut` does it for words, which are short; the search for a line feed looks at many bytes at once.)
+// The first line of a text, without its line feed, and what stands behind it; none where no line ends in the text.
+// (As `cut` does it for words, which are short; the search for a line feed looks at many bytes at once.)
 fn cut_line(text: &[u8]) -> Option<(&[u8], &[u8])>
     ensures parts { MatchOption result (pieces_of text.now ≡ text.now ∷ [])
         (λ p. pieces_of text.now ≡ p.0.now ∷ pieces_of p.1.now) }
@@ -51,21 +51,21 @@ fn cut_line(text: &[u8]) -> Option<(&[u8], &[u8])>
     Some((&text[..at], &text[at + 1..]))
 }
 
-/// Whether a line is empty, or begins with `#`.
+// Whether a line is empty, or begins with `#`.
 fn is_skipped(line: &[u8]) -> bool
     ensures { result ≡ is_skipped line.now }
 {
     matches!(line, [] | [b'#', ..])
 }
 
-/// The fault of the first line of what is left.
+// The fault of the first line of what is left.
 fn fault(reason: ScriptReason) -> ScriptFault
     ensures { result ≡ ScriptFault.At 1 reason }
 {
     ScriptFault::At { line: 1, reason }
 }
 
-/// What words of a form say that begin no item, or what stands against them, but for `close` before them.
+// What words of a form say that begin no item, or what stands against them, but for `close` before them.
 fn change_of(
     alloc: Global,
     loads: u64,
@@ -91,7 +91,7 @@ fn change_of(
     }
 }
 
-/// What a line says whose words say this, of a form that begins no item, or what stands against it.
+// What a line says whose words say this, of a form that begins no item, or what stands against it.
 fn worded(
     alloc: Global,
     loads: u64,
@@ -122,7 +122,7 @@ fn worded(
     }
 }
 
-/// What a line of a form says that begins no item, or what stands against it.
+// What a line of a form says that begins no item, or what stands against it.
 fn said(
     alloc: Global,
     loads: u64,
@@ -146,7 +146,7 @@ fn said(
     }
 }
 
-/// The form that a line of many a script has which begins with this byte. It may have another one.
+// The form that a line of many a script has which begins with this byte. It may have another one.
 fn usual_form(first: u8) -> Option<Form>
     ensures { IfSome result IsUsual }
 {
@@ -157,8 +157,8 @@ fn usual_form(first: u8) -> Option<Form>
     }
 }
 
-/// What a line of a usual form says, or what stands against it. None for each other line, and where a word isn't as it
-/// has to be: the form of such a line is looked up.
+// What a line of a usual form says, or what stands against it. None for each other line, and where a word isn't as it
+// has to be: the form of such a line is looked up.
 fn usual_said(
     alloc: Global,
     loads: u64,
@@ -179,17 +179,12 @@ fn usual_said(
     }
 }
 
-/// The line that words say which say that a word is stored, where nothing stands against it.
-fn stored(
-    loads: u64,
-    declared: &Declarations,
-    body: &Body,
-    line: &[u8],
-    store: Store,
-) -> Option<Line>
+// The line that words say which say that a word is stored, where nothing stands against it.
+fn stored(loads: u64, declared: &Declarations, body: &Body, store: Store) -> Option<Line>
     requires kept { IsKept loads declared.now body.now }
-    requires said { IsSaid StoreForm line.now (store_words store) }
-    ensures { IfSome result (λ made. IsSaidChange loads (seen declared.now body.now) line.now (Change.Line made)) }
+    requires said { (line : List ℕ) × IsSaid StoreForm line (store_words store) }
+    ensures { (line : List ℕ) → IsSaid StoreForm line (store_words store)
+        → IfSome result (λ made. IsSaidChange loads (seen declared.now body.now) line (Change.Line made)) }
 {
     one_laws();
     if body.closed {
@@ -201,19 +196,14 @@ fn stored(
     }
 }
 
-/// The line that words say which say that a call is submitted, where nothing stands against it.
-fn submitted(
-    loads: u64,
-    declared: &Declarations,
-    body: &Body,
-    line: &[u8],
-    submit: Submit,
-) -> Option<Line>
+// The line that words say which say that a call is submitted, where nothing stands against it.
+fn submitted(loads: u64, declared: &Declarations, body: &Body, submit: Submit) -> Option<Line>
     requires small { loads ≤ MAX_LOADS }
     requires kept { IsKept loads declared.now body.now }
     requires few { body.now.submissions ≤ MAX_WORK }
-    requires said { IsSaid SubmitForm line.now (submit_words submit) }
-    ensures { IfSome result (λ made. IsSaidChange loads (seen declared.now body.now) line.now (Change.Line made)) }
+    requires said { (line : List ℕ) × IsSaid SubmitForm line (submit_words submit) }
+    ensures { (line : List ℕ) → IsSaid SubmitForm line (submit_words submit)
+        → IfSome result (λ made. IsSaidChange loads (seen declared.now body.now) line (Change.Line made)) }
 {
     one_laws();
     if body.closed {
@@ -225,11 +215,12 @@ fn submitted(
     }
 }
 
-/// The line that words say which say that an engine has a turn, where nothing stands against it.
-fn turned(loads: u64, declared: &Declarations, body: &Body, line: &[u8], turn: Turn) -> Option<Line>
+// The line that words say which say that an engine has a turn, where nothing stands against it.
+fn turned(loads: u64, declared: &Declarations, body: &Body, turn: Turn) -> Option<Line>
     requires kept { IsKept loads declared.now body.now }
-    requires said { IsSaid TurnForm line.now (turn_words turn) }
-    ensures { IfSome result (λ made. IsSaidChange loads (seen declared.now body.now) line.now (Change.Line made)) }
+    requires said { (line : List ℕ) × IsSaid TurnForm line (turn_words turn) }
+    ensures { (line : List ℕ) → IsSaid TurnForm line (turn_words turn)
+        → IfSome result (λ made. IsSaidChange loads (seen declared.now body.now) line (Change.Line made)) }
 {
     one_laws();
     if body.closed {
@@ -241,25 +232,8 @@ fn turned(loads: u64, declared: &Declarations, body: &Body, line: &[u8], turn: T
     }
 }
 
-/// What a line says that stores a word, submits a request or gives an engine a turn, where its numbers are short, and
-/// nothing stands against it. None for each other line.
-fn short_line(loads: u64, declared: &Declarations, body: &Body, line: &[u8]) -> Option<Line>
-    requires small { loads ≤ MAX_LOADS }
-    requires kept { IsKept loads declared.now body.now }
-    requires few { body.now.submissions ≤ MAX_WORK }
-    ensures { IfSome result (λ made. IsSaidChange loads (seen declared.now body.now) line.now (Change.Line made)) }
-{
-    if let Some(store) = short_store(line) {
-        return stored(loads, declared, body, line, store);
-    }
-    if let Some(turn) = short_turn(line) {
-        return turned(loads, declared, body, line, turn);
-    }
-    submitted(loads, declared, body, line, short_submit(line)?)
-}
-
-/// The line that a text begins with, and what stands behind it, where that line is short (`short_line`). None for each
-/// other line.
+/// The line that a text begins with, and what stands behind it, where that line stores a word, submits a request or
+/// gives an engine a turn, its numbers are short, and nothing stands against it. None for each other line.
 pub(crate) fn front_line<'a>(
     loads: u64,
     declared: &Declarations,
@@ -273,12 +247,20 @@ pub(crate) fn front_line<'a>(
         (Change.Line r.0) r.1.now) }
 {
     one_laws();
-    let (line, behind) = cut_line(text)?;
-    let made = short_line(loads, declared, body, line)?;
+    if let Some((store, behind)) = front_store(text) {
+        let made = stored(loads, declared, body, store)?;
+        return Some((made, behind));
+    }
+    if let Some((turn, behind)) = front_turn(text) {
+        let made = turned(loads, declared, body, turn)?;
+        return Some((made, behind));
+    }
+    let (submit, behind) = front_submit(text)?;
+    let made = submitted(loads, declared, body, submit)?;
     Some((made, behind))
 }
 
-/// The item that lines begin, and the text that is left behind it; behind `close`, its first line is at fault.
+// The item that lines begin, and the text that is left behind it; behind `close`, its first line is at fault.
 fn item<'a>(
     alloc: Global,
     table: &Table,

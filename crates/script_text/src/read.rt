@@ -21,14 +21,14 @@ use script_head::{Front, read_front};
 use script_words::{ScriptFault, ScriptReason};
 use std::alloc::Global;
 
-/// The line with which each script begins.
+// The line with which each script begins.
 const FIRST_LINE: &[u8] = b"mrpc-replay 1\n";
 
-/// The bytes of the shortest line that stores a word, `store 1 1 0`. So many lines at most are worth a room of their
-/// own: nearly all lines of a long script store a word, and a text of nothing but line feeds gets no more.
+// The bytes of the shortest line that stores a word, `store 1 1 0`. So many lines at most are worth a room of their
+// own: nearly all lines of a long script store a word, and a text of nothing but line feeds gets no more.
 const SHORTEST_STORE: usize = 12;
 
-/// Why the lines of a text weren't read to their end.
+// Why the lines of a text weren't read to their end.
 #[derive(Clone, Copy)]
 enum Stop {
     /// Of the lines from which on so many bytes are left this one is at fault, counted from 1.
@@ -91,7 +91,7 @@ fn read_text(alloc: Global, text: &[u8]) -> Result<Script, ScriptFault>
     }
 }
 
-/// The fault of a line, counted from 1 where so many bytes of the text are left.
+// The fault of a line, counted from 1 where so many bytes of the text are left.
 fn fault_at(text: &[u8], left: usize, line: u64, reason: ScriptReason) -> ScriptFault
     requires within { left ≤ length text.now }
     requires line { line ≤ left + 2 }
@@ -103,7 +103,7 @@ fn fault_at(text: &[u8], left: usize, line: u64, reason: ScriptReason) -> Script
     }
 }
 
-/// What the lines of a text declare and do up to its end, `close` among them.
+// What the lines of a text declare and do up to its end, `close` among them.
 fn read_lines(
     alloc: Global,
     loads: u64,
@@ -148,7 +148,7 @@ fn read_lines(
     Ok((declared, body.lines))
 }
 
-/// What is declared and kept behind a change.
+// What is declared and kept behind a change.
 fn changed(
     alloc: Global,
     declared: Declarations,
@@ -167,7 +167,7 @@ fn changed(
     Ok(declared)
 }
 
-/// The stop at a fault of what is left.
+// The stop at a fault of what is left.
 fn stopped(rest: &[u8], fault: ScriptFault) -> Stop
     ensures { result ≡ stopped rest.now fault }
 {

@@ -1,11 +1,11 @@
-//! Lines that submit a call or give an engine a turn, read in one pass over their bytes.
+//! Lines that submit a call or give an engine a turn, read in one pass over their bytes,
+//! with their line feeds.
 
 ghost use Rattle.std.specs.Prelude.{◌≡◌, ◌∷◌, IfSome};
 ghost use Rattle.script_words.specs.declared.form.Form.TheVariants.{Submit as SubmitForm, Turn as TurnForm};
-ghost use Rattle.script_text.specs.Stores.{submit_words, turn_words};
-ghost use Rattle.script_text.specs.Words.{IsSaid};
+ghost use Rattle.script_text.specs.Stores.{submit_words, turn_words, SaysInFront};
 
-use crate::store::{behind_space, front_number};
+use crate::store::{behind_feed, behind_space, front_number};
 use mrpc_table::Decimal;
 
 /// What the words of a `submit` line say, but for the number of a request.
@@ -23,32 +23,32 @@ pub(crate) struct Turn {
     pub at: Decimal,
 }
 
-/// What stands behind the first word of a `submit` line.
-fn behind_submit(line: &[u8]) -> Option<&[u8]>
-    ensures { IfSome result (λ r. line.now ≡ 115 ∷ 117 ∷ 98 ∷ 109 ∷ 105 ∷ 116 ∷ 32 ∷ r.now) }
+// What stands behind the first word of a `submit` line.
+fn behind_submit(text: &[u8]) -> Option<&[u8]>
+    ensures { IfSome result (λ r. text.now ≡ 115 ∷ 117 ∷ 98 ∷ 109 ∷ 105 ∷ 116 ∷ 32 ∷ r.now) }
 {
-    match line {
+    match text {
         [b's', b'u', b'b', b'm', b'i', b't', b' ', rest @ ..] => Some(rest),
         _ => None,
     }
 }
 
-/// What stands behind the first word of a `turn` line.
-fn behind_turn(line: &[u8]) -> Option<&[u8]>
-    ensures { IfSome result (λ r. line.now ≡ 116 ∷ 117 ∷ 114 ∷ 110 ∷ 32 ∷ r.now) }
+// What stands behind the first word of a `turn` line.
+fn behind_turn(text: &[u8]) -> Option<&[u8]>
+    ensures { IfSome result (λ r. text.now ≡ 116 ∷ 117 ∷ 114 ∷ 110 ∷ 32 ∷ r.now) }
 {
-    match line {
+    match text {
         [b't', b'u', b'r', b'n', b' ', rest @ ..] => Some(rest),
         _ => None,
     }
 }
 
-/// What a `submit` line of a request says whose numbers are short. None for each other line, which is to be read word
-/// by word.
-pub(crate) fn short_submit(line: &[u8]) -> Option<Submit>
-    ensures { IfSome result (λ s. IsSaid SubmitForm line.now (submit_words s)) }
+/// What a `submit` line of a request with which a text begins says, where its numbers are short, and what stands behind
+/// the line. None for each other line, which is to be read word by word.
+pub(crate) fn front_submit(text: &[u8]) -> Option<(Submit, &[u8])>
+    ensures { IfSome result (λ r. SaysInFront SubmitForm text.now (submit_words r.0) r.1.now) }
 {
-    let words = behind_submit(line)?;
+    let words = behind_submit(text)?;
     let (conn, behind) = front_number(words)?;
     if conn < 1 || conn > 16 {
         return None;
@@ -58,27 +58,25 @@ pub(crate) fn short_submit(line: &[u8]) -> Option<Submit>
         return None;
     }
     let (addr, behind) = front_number(behind_space(behind)?)?;
-    if !behind.is_empty() {
-        return None;
-    }
-    Some(Submit { conn, method, addr })
+    let left = behind_feed(behind)?;
+    Some((Submit { conn, method, addr }, left))
 }
 
-/// What a `turn` line says whose numbers are short. None for each other line, which is to be read word by word.
-pub(crate) fn short_turn(line: &[u8]) -> Option<Turn>
-    ensures { IfSome result (λ t. IsSaid TurnForm line.now (turn_words t)) }
+/// What a `turn` line with which a text begins says, where its numbers are short, and what stands behind the line. None
+/// for each other line, which is to be read word by word.
+pub(crate) fn front_turn(text: &[u8]) -> Option<(Turn, &[u8])>
+    ensures { IfSome result (λ r. SaysInFront TurnForm text.now (turn_words r.0) r.1.now) }
 {
-    let words = behind_turn(line)?;
+    let words = behind_turn(text)?;
     let (conn, behind) = front_number(words)?;
     if conn < 1 || conn > 16 {
         return None;
     }
     let (at, behind) = front_number(behind_space(behind)?)?;
-    if !behind.is_empty() {
-        return None;
-    }
-    Some(Turn {
+    let left = behind_feed(behind)?;
+    let turn = Turn {
         conn,
         at: Decimal::Small(at),
-    })
+    };
+    Some((turn, left))
 }

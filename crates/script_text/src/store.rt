@@ -1,16 +1,16 @@
-//! Lines that store a word, read in one pass over their bytes: nearly all lines of a long script are such.
+//! Lines that store a word, read in one pass over their bytes, with their line feeds: nearly all lines of a long script
+//! are such.
 
 ghost use Rattle.std.specs.Prelude.{◌≡◌, ◌∷◌, true, IfSome};
 ghost use Rattle.std.specs.Char.{is_ascii_digit};
 ghost use Rattle.std.specs.List.{list_all};
 ghost use Rattle.mrpc_table.specs.Lines.{is_decimal};
 ghost use Rattle.script_words.specs.declared.form.Form.TheVariants.{Store as StoreForm};
-ghost use Rattle.script_text.specs.Stores.{store_words, IsNumberBefore};
-ghost use Rattle.script_text.specs.Words.{IsSaid};
+ghost use Rattle.script_text.specs.Stores.{store_words, IsNumberBefore, SaysInFront};
 
 use mrpc_table::Decimal;
 
-/// So many digits spell a number of 64 bits, whichever they are.
+// So many digits spell a number of 64 bits, whichever they are.
 const FEW_DIGITS: usize = 19;
 
 /// What the words of a `store` line say.
@@ -39,7 +39,7 @@ pub(crate) fn front_number(text: &[u8]) -> Option<(u64, &[u8])>
     Some((number, &text[count..]))
 }
 
-/// Whether digits are a number: there are some, and no zero stands in front of others.
+// Whether digits are a number: there are some, and no zero stands in front of others.
 fn is_number(digits: &[u8]) -> bool
     requires { list_all is_ascii_digit digits.now ≡ true }
     ensures { result ≡ is_decimal digits.now }
@@ -60,34 +60,43 @@ pub(crate) fn behind_space(text: &[u8]) -> Option<&[u8]>
     }
 }
 
-/// What stands behind the first word of a `store` line.
-fn behind_store(line: &[u8]) -> Option<&[u8]>
-    ensures { IfSome result (λ r. line.now ≡ 115 ∷ 116 ∷ 111 ∷ 114 ∷ 101 ∷ 32 ∷ r.now) }
+/// What stands behind the line feed with which a text begins.
+pub(crate) fn behind_feed(text: &[u8]) -> Option<&[u8]>
+    ensures { IfSome result (λ r. text.now ≡ 10 ∷ r.now) }
 {
-    match line {
+    match text {
+        [b'\n', rest @ ..] => Some(rest),
+        _ => None,
+    }
+}
+
+// What stands behind the first word of a `store` line.
+fn behind_store(text: &[u8]) -> Option<&[u8]>
+    ensures { IfSome result (λ r. text.now ≡ 115 ∷ 116 ∷ 111 ∷ 114 ∷ 101 ∷ 32 ∷ r.now) }
+{
+    match text {
         [b's', b't', b'o', b'r', b'e', b' ', rest @ ..] => Some(rest),
         _ => None,
     }
 }
 
-/// What a `store` line says whose numbers are decimal, and short. None for each other line, which is to be read word by
-/// word.
-pub(crate) fn short_store(line: &[u8]) -> Option<Store>
-    ensures { IfSome result (λ s. IsSaid StoreForm line.now (store_words s)) }
+/// What a `store` line with which a text begins says, where its numbers are decimal, and short, and what stands behind
+/// the line. None for each other line, which is to be read word by word.
+pub(crate) fn front_store(text: &[u8]) -> Option<(Store, &[u8])>
+    ensures { IfSome result (λ r. SaysInFront StoreForm text.now (store_words r.0) r.1.now) }
 {
-    let words = behind_store(line)?;
+    let words = behind_store(text)?;
     let (conn, behind) = front_number(words)?;
     if conn < 1 || conn > 16 {
         return None;
     }
     let (place, behind) = front_number(behind_space(behind)?)?;
     let (value, behind) = front_number(behind_space(behind)?)?;
-    if !behind.is_empty() {
-        return None;
-    }
-    Some(Store {
+    let left = behind_feed(behind)?;
+    let store = Store {
         conn,
         place: Decimal::Small(place),
         value,
-    })
+    };
+    Some((store, left))
 }

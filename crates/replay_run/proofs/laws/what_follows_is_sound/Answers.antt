@@ -32,7 +32,9 @@ pub returns-clause-legal_so_far : goal.returns-clause-legal_so_far
 returns-clause-legal_so_far c = λ s lines others st script order leads. legal-of (laws c) s script lines st (front-stands (laws c) s script lines others st order leads)
 
 pub returns-clause-sound_so_far : goal.returns-clause-sound_so_far
-returns-clause-sound_so_far c = λ s lines others st script order leads. All-from_recursion (IsSoundOn s st.history) st.opened (front-stands (laws c) s script lines others st order leads).each
+returns-clause-sound_so_far c = λ s lines others st script order leads.
+    All-from_recursion (IsSoundOn s st.history) st.opened
+    (front-stands (laws c) s script lines others st order leads).each
 
 pub returns-clause-allowed : goal.returns-clause-allowed
 returns-clause-allowed c = λ s tried end script f. tried-allowed (laws c) s script tried end f.until

@@ -11,7 +11,8 @@ use Rattle.replay_run.proofs.running.run_lines.Goals as goal
 
 pub loop-line-init : goal.loop-line-init
 loop-line-init g c = record {
-  ran = subst (λ (cs : List Connection). After c.args.script.now [] cs c.args.run.now.tickets (g.K.Sink.written c.args.out.now) (g.K.Sink.written c.args.out.now) (g.W.Sink.written c.args.wire.now)
+  ran = subst (λ (cs : List Connection). After c.args.script.now [] cs c.args.run.now.tickets
+      (g.K.Sink.written c.args.out.now) (g.K.Sink.written c.args.out.now) (g.W.Sink.written c.args.wire.now)
       (g.W.Sink.written c.args.wire.now)) (sym c.requires.none)
       (c.run_follows.ensures.begins c.args.script.now c.args.run.now.tickets (g.K.Sink.written c.args.out.now) (g.W.Sink.written c.args.wire.now) c.requires.tenants c.requires.undrawn);
   tenants = refl;
@@ -20,7 +21,9 @@ loop-line-init g c = record {
 }
 
 pub run_line-requires-clause-before : goal.run_line-requires-clause-before
-run_line-requires-clause-before g c = before-line c.args.script.now c.as_slice-line-items.result.now c.loop-line.line-index c.line-item.result c.loop-line.run.connections.items c.loop-line.run.tickets
+run_line-requires-clause-before g c =
+    before-line c.args.script.now c.as_slice-line-items.result.now c.loop-line.line-index c.line-item.result
+    c.loop-line.run.connections.items c.loop-line.run.tickets
     (g.K.Sink.written c.args.out.now) (g.K.Sink.written c.loop-line.out) (g.W.Sink.written c.args.wire.now) (g.W.Sink.written c.loop-line.wire)
     c.as_slice-line-items.ensures c.loop-line-test.true c.line-item.is c.loop-line.invariant.ran
 
@@ -31,7 +34,9 @@ returns-in_err-run_line-clause-ran g c =
     before-line c.args.script.now c.as_slice-line-items.result.now c.loop-line.line-index c.line-item.result c.loop-line.run.connections.items c.loop-line.run.tickets
     (g.K.Sink.written c.args.out.now) (g.K.Sink.written c.loop-line.out) (g.W.Sink.written c.args.wire.now) (g.W.Sink.written c.loop-line.wire)
     c.as_slice-line-items.ensures c.loop-line-test.true c.line-item.is c.loop-line.invariant.ran in
-    let ended = c.in_err-run_line.ensures.ran (before-line c.args.script.now c.as_slice-line-items.result.now c.loop-line.line-index c.line-item.result c.loop-line.run.connections.items c.loop-line.run.tickets
+    let ended = c.in_err-run_line.ensures.ran
+    (before-line c.args.script.now c.as_slice-line-items.result.now c.loop-line.line-index c.line-item.result
+    c.loop-line.run.connections.items c.loop-line.run.tickets
     (g.K.Sink.written c.args.out.now) (g.K.Sink.written c.loop-line.out) (g.W.Sink.written c.args.wire.now) (g.W.Sink.written c.loop-line.wire)
     c.as_slice-line-items.ensures c.loop-line-test.true c.line-item.is c.loop-line.invariant.ran) in
     rw p.1 (subst (λ (stop : Stop). OnRan {T = Unit {0}} (Err stop)
@@ -49,7 +54,9 @@ loop-line-preserved g c =
     record {
       ran = subst (λ (ls : List Line). After c.args.script.now ls c.run_line.new.run.connections.items c.run_line.new.run.tickets (g.K.Sink.written c.args.out.now)
           (g.K.Sink.written c.run_line.new.out) (g.W.Sink.written c.args.wire.now) (g.W.Sink.written c.run_line.new.wire)) more
-          (c.in_ok-run_line.ensures.ran (before-line c.args.script.now c.as_slice-line-items.result.now c.loop-line.line-index c.line-item.result c.loop-line.run.connections.items c.loop-line.run.tickets
+          (c.in_ok-run_line.ensures.ran
+          (before-line c.args.script.now c.as_slice-line-items.result.now c.loop-line.line-index
+          c.line-item.result c.loop-line.run.connections.items c.loop-line.run.tickets
           (g.K.Sink.written c.args.out.now) (g.K.Sink.written c.loop-line.out) (g.W.Sink.written c.args.wire.now) (g.W.Sink.written c.loop-line.wire)
           c.as_slice-line-items.ensures c.loop-line-test.true c.line-item.is c.loop-line.invariant.ran));
       tenants = c.in_ok-run_line.ensures.tenants ∙ c.loop-line.invariant.tenants;

@@ -23,7 +23,8 @@ returns-in_err-write_line-clause-front g c =
     let count : c.len-place-end.result ≡ length c.args.connection.now.calls.chain.calls =
     c.len-place-end.ensures.count ∙ ap length (c.calls.ensures ∙ ap (λ (ch : ChainParts). ch.calls) c.chain.ensures) in
     let low : suc c.loop-place.place ≤ length c.args.connection.now.calls.chain.row = omega arith in
-    let one : (call : ℕ × ℕ) × (slice_get c.args.connection.now.calls.chain.row c.loop-place.place ≡ Some call) = there c.args.connection.now.calls.chain.row c.loop-place.place low in
+    let one : (call : ℕ × ℕ) × (slice_get c.args.connection.now.calls.chain.row c.loop-place.place ≡ Some call) =
+    there c.args.connection.now.calls.chain.row c.loop-place.place low in
     on-err _ (item-some (told_call c.args.connection.now.calls.conn (course c.args.connection.now.calls)) c.args.connection.now.calls.chain.row (g.K.Sink.written c.args.out.now)
     (g.K.Sink.written c.loop-place.out) (stands_on (opened_of c.args.connection.now)) (g.K.Sink.written c.write_line.new.out) c.loop-place.place one.0 c.as_slice.result.now
     c.loop-place.invariant.rest one.1 (c.as_slice.ensures ∙ c.in_ok-line.ensures one.0 one.1)
@@ -36,7 +37,8 @@ loop-place-preserved g c =
     let count : c.len-place-end.result ≡ length c.args.connection.now.calls.chain.calls =
     c.len-place-end.ensures.count ∙ ap length (c.calls.ensures ∙ ap (λ (ch : ChainParts). ch.calls) c.chain.ensures) in
     let low : suc c.loop-place.place ≤ length c.args.connection.now.calls.chain.row = omega arith in
-    let one : (call : ℕ × ℕ) × (slice_get c.args.connection.now.calls.chain.row c.loop-place.place ≡ Some call) = there c.args.connection.now.calls.chain.row c.loop-place.place low in
+    let one : (call : ℕ × ℕ) × (slice_get c.args.connection.now.calls.chain.row c.loop-place.place ≡ Some call) =
+    there c.args.connection.now.calls.chain.row c.loop-place.place low in
     record {
       rest = item-one (told_call c.args.connection.now.calls.conn (course c.args.connection.now.calls)) c.args.connection.now.calls.chain.row (g.K.Sink.written c.args.out.now)
           (g.K.Sink.written c.loop-place.out) (stands_on (opened_of c.args.connection.now)) (g.K.Sink.written c.write_line.new.out) c.loop-place.place _ one.0 c.as_slice.result.now

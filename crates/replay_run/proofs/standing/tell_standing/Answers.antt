@@ -8,7 +8,9 @@ use Rattle.replay_run.proofs.standing.tell_standing.Goals as goal
 use Rattle.replay_run.proofs.standing.tell_standing.Goals.{in-Some+in_ok-tell_on, in_default}
 
 pub returns-in_err-tell_on-clause-front : goal.returns-in_err-tell_on-clause-front
-returns-in_err-tell_on-clause-front g c = on-err _ (stands-some c.args.connections.now (g.K.Sink.written c.args.out.now) (g.K.Sink.written c.loop-conn.out) (g.K.Sink.written c.tell_on.new.out)
+returns-in_err-tell_on-clause-front g c =
+    on-err _ (stands-some c.args.connections.now (g.K.Sink.written c.args.out.now) (g.K.Sink.written c.loop-conn.out)
+    (g.K.Sink.written c.tell_on.new.out)
     c.loop-conn.conn (stands_on (opened_of c.index-connections-place.result)) (all_stands (map opened_of c.args.connections.now)) c.loop-conn-test.true c.loop-conn.invariant.rest
     (stands-found c.args.connections.now c.loop-conn.conn c.in-Some.place c.index-connections-place.result (sym c.place_of.ensures ∙ c.in-Some.is) c.index-connections-place.is)
     c.in_err-tell_on.ensures.front)

@@ -1,12 +1,31 @@
 use Rattle.script_text.specs.Changes.{seen}
 use Rattle.script_text.specs.declared.change.Change.TheVariants as change
 use Rattle.script_text.proofs.Changing.{said_change}
-use Rattle.script_text.proofs.TextLines.{cut_is}
 use Rattle.script_text.proofs.change.front_line.Goals as goal
+
+pub stored-requires-clause-said : goal.stored-requires-clause-said
+stored-requires-clause-said c = (c.in-Some.ensures.line, c.in-Some.ensures.said)
+
+pub turned-requires-clause-said : goal.turned-requires-clause-said
+turned-requires-clause-said c = (c.in-Some-front_turn.ensures.line, c.in-Some-front_turn.ensures.said)
+
+pub submitted-requires-clause-said : goal.submitted-requires-clause-said
+submitted-requires-clause-said c = (c.in_ok-submit.ensures.line, c.in_ok-submit.ensures.said)
+
+pub returns-in-Some : goal.returns-in-Some
+returns-in-Some c T =
+    let front = c.in-Some.ensures in
+    said_change c.one_laws.ensures c.args.loads T (seen c.args.declared.now c.args.body.now) c.args.text.now front.line
+    c.in-Some.behind.now (change.Line c.in_ok-made.made) front.before (c.in_ok-made.ensures front.line front.said)
+
+pub returns-in-Some-front_turn : goal.returns-in-Some-front_turn
+returns-in-Some-front_turn c T =
+    let front = c.in-Some-front_turn.ensures in
+    said_change c.one_laws.ensures c.args.loads T (seen c.args.declared.now c.args.body.now) c.args.text.now front.line
+    c.in-Some-front_turn.behind.now (change.Line c.in_ok-made-2.made) front.before (c.in_ok-made-2.ensures front.line front.said)
 
 pub returns : goal.returns
 returns c T =
-    let text = c.args.text.now in
-    let line = c.in_ok-line.line.now in
-    let behind = c.in_ok-line.behind.now in
-    said_change c.one_laws.ensures c.args.loads T (seen c.args.declared.now c.args.body.now) text line behind (change.Line c.in_ok-made.made) (cut_is text line behind c.in_ok-line.ensures.parts) c.in_ok-made.ensures
+    let front = c.in_ok-submit.ensures in
+    said_change c.one_laws.ensures c.args.loads T (seen c.args.declared.now c.args.body.now) c.args.text.now front.line
+    c.in_ok-submit.behind.now (change.Line c.in_ok-made-3.made) front.before (c.in_ok-made-3.ensures front.line front.said)

@@ -13,7 +13,13 @@ use Rattle.script_text.proofs.change.said.Goals as goal
 pub worded-requires-clause-said : goal.worded-requires-clause-said
 worded-requires-clause-said c =
     let line = c.args.line.now in
-    record { has_form = c.requires.form; said = subst (λ (xs : List Said). AreSaid (sorts_of c.args.form) (words_of line) (meanings_of xs)) (sym c.as_slice.ensures.value) (subst (λ (s : List Sort). AreSaid s (words_of line) (meanings_of c.in-Ok.words.items)) c.sorts.ensures.sorts c.in-Ok.ensures) }
+    record {
+      has_form = c.requires.form;
+      said = subst (λ (xs : List Said). AreSaid (sorts_of c.args.form) (words_of line) (meanings_of xs))
+          (sym c.as_slice.ensures.value)
+          (subst (λ (s : List Sort). AreSaid s (words_of line) (meanings_of c.in-Ok.words.items)) c.sorts.ensures.sorts
+          c.in-Ok.ensures);
+    }
 
 pub returns-in-Err : goal.returns-in-Err
 returns-in-Err c =

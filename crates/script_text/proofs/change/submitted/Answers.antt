@@ -11,16 +11,16 @@ goes_on : form.Submit ≢ form.Close
 goes_on e = cc
 
 pub submitted-requires-clause-conn : goal.submitted-requires-clause-conn
-submitted-requires-clause-conn c = number_of form.Submit c.args.line.now (submit_words c.args.submit) 1 1 16 c.requires.said refl
+submitted-requires-clause-conn c = number_of form.Submit c.requires.said.0 (submit_words c.args.submit) 1 1 16 c.requires.said.1 refl
 
 pub submitted-requires-clause-method : goal.submitted-requires-clause-method
-submitted-requires-clause-method c = (number_of form.Submit c.args.line.now (submit_words c.args.submit) 2 0 65535 c.requires.said refl).1
+submitted-requires-clause-method c = (number_of form.Submit c.requires.said.0 (submit_words c.args.submit) 2 0 65535 c.requires.said.1 refl).1
 
 pub returns-in-Ok : goal.returns-in-Ok
-returns-in-Ok c =
+returns-in-Ok c line said =
     let d = c.args.declared.now in
     let body = c.args.body.now in
-    let line = c.args.line.now in
     let m = submit_words c.args.submit in
-    let same = said_by c.args.loads d body c.requires.kept form.Submit line m c.requires.said refl goes_on in
-    open_change c.one_laws.ensures c.args.loads d body line form.Submit m (change.Line c.in-Ok.made) c.requires.said refl c.if-body.false (goes_on, sym same ∙ sym c.submitted.ensures ∙ c.in-Ok.is)
+    let same = said_by c.args.loads d body c.requires.kept form.Submit line m said refl goes_on in
+    open_change c.one_laws.ensures c.args.loads d body line form.Submit m (change.Line c.in-Ok.made) said
+    refl c.if-body.false (goes_on, sym same ∙ sym c.submitted.ensures ∙ c.in-Ok.is)

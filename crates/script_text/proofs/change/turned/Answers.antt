@@ -11,13 +11,13 @@ goes_on : form.Turn ≢ form.Close
 goes_on e = cc
 
 pub turned-requires : goal.turned-requires
-turned-requires c = number_of form.Turn c.args.line.now (turn_words c.args.turn) 1 1 16 c.requires.said refl
+turned-requires c = number_of form.Turn c.requires.said.0 (turn_words c.args.turn) 1 1 16 c.requires.said.1 refl
 
 pub returns-in-Ok : goal.returns-in-Ok
-returns-in-Ok c =
+returns-in-Ok c line said =
     let d = c.args.declared.now in
     let body = c.args.body.now in
-    let line = c.args.line.now in
     let m = turn_words c.args.turn in
-    let same = said_by c.args.loads d body c.requires.kept form.Turn line m c.requires.said refl goes_on in
-    open_change c.one_laws.ensures c.args.loads d body line form.Turn m (change.Line c.in-Ok.made) c.requires.said refl c.if-body.false (goes_on, sym same ∙ sym c.turned.ensures ∙ c.in-Ok.is)
+    let same = said_by c.args.loads d body c.requires.kept form.Turn line m said refl goes_on in
+    open_change c.one_laws.ensures c.args.loads d body line form.Turn m (change.Line c.in-Ok.made) said
+    refl c.if-body.false (goes_on, sym same ∙ sym c.turned.ensures ∙ c.in-Ok.is)

@@ -12,5 +12,8 @@ pub worded-requires-clause-said : goal.worded-requires-clause-said
 worded-requires-clause-said c =
     let words = words_of c.args.line.now in
     let form = c.in_ok-form.form in
-    let said = subst (λ (xs : List Said). AreSaid (sorts_of form) words (meanings_of xs)) (sym c.as_slice.ensures.value) (subst (λ (s : List Sort). AreSaid s words (meanings_of c.in-Ok.words.items)) c.sorts.ensures.sorts c.in-Ok.ensures) in
+    let said = subst (λ (xs : List Said). AreSaid (sorts_of form) words (meanings_of xs))
+    (sym c.as_slice.ensures.value)
+    (subst (λ (s : List Sort). AreSaid s words (meanings_of c.in-Ok.words.items)) c.sorts.ensures.sorts
+    c.in-Ok.ensures) in
     record { has_form = form_is form c.in_ok-form.ensures words (meanings_of c.as_slice.result.now) said; said = said }

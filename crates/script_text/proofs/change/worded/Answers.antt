@@ -17,7 +17,8 @@ returns-then-body c =
 pub returns-else-body : goal.returns-else-body
 returns-else-body c =
     let m = meanings_of c.args.words.now in
-    open_change c.one_laws.ensures c.args.loads c.args.declared.now c.args.body.now c.args.line.now c.args.form m c.in-Ok.change c.requires.said c.requires.item c.if-body.false c.in-Ok.ensures
+    open_change c.one_laws.ensures c.args.loads c.args.declared.now c.args.body.now c.args.line.now c.args.form m
+    c.in-Ok.change c.requires.said c.requires.item c.if-body.false c.in-Ok.ensures
 
 pub returns-in-Err-Reason : goal.returns-in-Err-Reason
 returns-in-Err-Reason c =
@@ -25,5 +26,9 @@ returns-in-Err-Reason c =
     let body = c.args.body.now in
     let line = c.args.line.now in
     let m = meanings_of c.args.words.now in
-    subst (IsLineFault c.args.loads (seen d body) line) (sym c.fault-in-Err-Reason.ensures)
-    (refl, flawed c.one_laws.ensures c.args.loads d body line c.args.form m c.in-Err-Reason.reason c.requires.said c.requires.item (subst (λ (e : Flaw). IsFlawOf c.args.loads d body c.args.form m e) c.in-Err-Reason.field-0-is c.in-Err-Reason.ensures))
+    subst (IsLineFault c.args.loads (seen d body) line) (sym c.fault-in-Err-Reason.ensures) (
+      refl,
+      flawed c.one_laws.ensures c.args.loads d body line c.args.form m c.in-Err-Reason.reason c.requires.said
+          c.requires.item (subst (λ (e : Flaw). IsFlawOf c.args.loads d body c.args.form m e) c.in-Err-Reason.field-0-is
+          c.in-Err-Reason.ensures),
+    )

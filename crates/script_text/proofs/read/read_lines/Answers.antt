@@ -54,7 +54,8 @@ loop-alloc-init c =
     let f = c.in-Ok.ensures in
     record {
       reaches = starts
-          (ap (λ d. record { declared = d; lines = b.lines; closed = b.closed }) c.new-declared.ensures ∙ ap (λ ls. record { declared = nothing_declared; lines = ls; closed = b.closed }) f.lines
+          (ap (λ d. record { declared = d; lines = b.lines; closed = b.closed }) c.new-declared.ensures
+          ∙ ap (λ ls. record { declared = nothing_declared; lines = ls; closed = b.closed }) f.lines
           ∙ ap (λ x. record { declared = nothing_declared; lines = []; closed = x }) f.closed) refl;
       kept = subst (λ d. IsKept c.args.loads d b) (sym c.new-declared.ensures) (kept_fresh c.args.loads b f);
     }
