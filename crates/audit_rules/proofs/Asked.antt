@@ -1,11 +1,14 @@
 -- What a turn of an entry for a call tells of the answer of the entry, by what is behind.
-use Rattle.std.proofs.Common.{◌≡◌, ◌≢◌, ℕ, add-one, ◌+◌, ◌<◌, ◌≤◌, zero, suc, List, [], ◌∷◌, map, take, set, slice_get, refl, sym, ap, ◌∙◌, subst, arith}
+use Rattle.std.proofs.Common.{◌≡◌, ◌≢◌, ℕ, add-one, ◌+◌, ◌<◌, ◌≤◌, zero, suc, List, [], ◌∷◌, map, take, set}
+use Rattle.std.proofs.Common.{slice_get, refl, sym, ap, ◌∙◌, subst, arith}
 use Rattle.std.specs.Prelude.{All, IsSomeAnd, Option, Some, None}
 use Rattle.std.proofs.lemmas.List.Elements.{All-cons, All-head, All-nil, All-set, All-tail}
 use Rattle.mrpc_table.specs.Calls.{IsCallOf}
 use Rattle.mrpc_table.specs.declared.call.Call.{Call}
 use Rattle.mrpc_table.specs.declared.table.Table.{Table}
-use Rattle.engine_core.specs.Answers.{Past, drawn, Answer, pass, note, ticket_in, Answers, allows, denies, was_charged, charges, holds, refuses, is_within, is_over, draws, was_counted, counts, is_clear, redacts}
+use Rattle.engine_core.specs.Answers.{Past, drawn, Answer, pass, note, ticket_in, Answers, allows, denies}
+use Rattle.engine_core.specs.Answers.{was_charged, charges, holds, refuses, is_within, is_over, draws, was_counted}
+use Rattle.engine_core.specs.Answers.{counts, is_clear, redacts}
 use Rattle.engine_core.specs.Chains.{Chain, Entry}
 use Rattle.engine_core.specs.Engines.{EngineParts}
 use Rattle.engine_core.specs.Marks.{IsTrueFor, StandingCall, note_of, past_of}
@@ -106,7 +109,8 @@ undrawn policy level moment tenant per cap form past a quota none (holds r is no
 undrawn policy level moment tenant per cap form past a quota none (refuses r is nothing_yet less mode answer) no_ticket = cc
 undrawn policy level moment tenant per cap form past a quota none (is_within t p c ticket is some less answer) no_ticket = none ticket some
 undrawn policy level moment tenant per cap form past a quota none (is_over t p c ticket is some more answer) no_ticket = none ticket some
-undrawn policy level moment tenant per cap form past a quota none (draws t p c ticket is none_yet answer) no_ticket = let wrong : Some ticket ≡ None = sym (ap ticket_in answer) ∙ no_ticket in cc
+undrawn policy level moment tenant per cap form past a quota none (draws t p c ticket is none_yet answer) no_ticket =
+    let wrong : Some ticket ≡ None = sym (ap ticket_in answer) ∙ no_ticket in cc
 undrawn policy level moment tenant per cap form past a quota none (was_counted is some answer) no_ticket = cc
 undrawn policy level moment tenant per cap form past a quota none (counts is nothing_yet answer) no_ticket = cc
 undrawn policy level moment tenant per cap form past a quota none (is_clear clears is left answer) no_ticket = cc
@@ -122,7 +126,8 @@ no-draw policy level moment form past a b gives no_ticket (holds r is none less 
 no-draw policy level moment form past a b gives no_ticket (refuses r is none less mode answer) = ap ticket_in answer
 no-draw policy level moment form past a b gives no_ticket (is_within t p c ticket is some less answer) = ap ticket_in answer
 no-draw policy level moment form past a b gives no_ticket (is_over t p c ticket is some more answer) = ap ticket_in answer
-no-draw policy level moment form past a b gives no_ticket (draws tenant per cap ticket is none answer) = absurd (undrawn policy level moment tenant per cap form past a is none gives no_ticket)
+no-draw policy level moment form past a b gives no_ticket (draws tenant per cap ticket is none answer) =
+    absurd (undrawn policy level moment tenant per cap form past a is none gives no_ticket)
 no-draw policy level moment form past a b gives no_ticket (was_counted is some answer) = ap ticket_in answer
 no-draw policy level moment form past a b gives no_ticket (counts is none answer) = ap ticket_in answer
 no-draw policy level moment form past a b gives no_ticket (is_clear clears is left answer) = ap ticket_in answer
@@ -198,7 +203,9 @@ module _ (es : List EngineParts) (calls : List StandingCall) (p j now : ℕ) (ou
       (subst (λ (q : Past). Answers w.engine.entry.policy w.engine.level now w.call.call q (answer_of outcome)) noted_is
       (subst (λ (call : Call). Answers w.engine.entry.policy w.engine.level now call (past_of w.met.marks w.engine.entry.attach) (answer_of outcome)) w.keeps.call answers))) in
       subst (λ (s : ℕ). Gives u past w.engine.entry s (answer_of outcome)) number
-      (subst (λ (f : Option Call). IsSomeAnd f (λ call. Answers w.engine.entry.policy (level w.engine.entry.name past) (moment past) call (noted w.engine.entry.name w.call.call.seq past) (answer_of outcome)))
+      (subst (λ (f : Option Call).
+      IsSomeAnd f (λ call. Answers w.engine.entry.policy (level w.engine.entry.name past) (moment past) call
+      (noted w.engine.entry.name w.call.call.seq past) (answer_of outcome)))
       (sym own.is_form) behind)
 
   pub turn-ties : WorksOn → (u : Under) (past : Behind) (n : ℕ) → IsPrefix u past → AreTied u.conn past es n calls → AreNumbersApart calls → outcome ≡ Passed Nothing

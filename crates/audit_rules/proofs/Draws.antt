@@ -3,7 +3,9 @@ use Rattle.std.proofs.Common.{◌≡◌, ◌≢◌, ℕ, zero, suc, Bool, cond, 
 use Rattle.std.specs.Prelude.{Contains, IsSomeAnd, Option, None, Some, find, option_map}
 use Rattle.mrpc_table.specs.Valid.{AreDistinct}
 use Rattle.mrpc_table.specs.declared.call.Call.{Call}
-use Rattle.engine_core.specs.Answers.{Answer, Answers, Past, note, ticket_in, allows, denies, was_charged, charges, holds, refuses, is_within, is_over, draws, was_counted, counts, is_clear, redacts}
+use Rattle.engine_core.specs.Answers.{Answer, Answers, Past, note, ticket_in, allows, denies, was_charged, charges}
+use Rattle.engine_core.specs.Answers.{holds, refuses, is_within, is_over, draws, was_counted, counts, is_clear}
+use Rattle.engine_core.specs.Answers.{redacts}
 use Rattle.engine_core.specs.Chains.{Entry, is_named, names_of}
 use Rattle.engine_core.specs.Engines.{EngineParts}
 use Rattle.engine_core.specs.Marks.{StandingCall}
@@ -60,7 +62,8 @@ module _ (u : Under) (past : Behind) (attached seq : ℕ) (name : List ℕ) (a :
   due-drawn one window ticket m =
       let same : m.entry ≡ asked.entry = asked.only m.entry m.at in
       let due : Gives u past asked.entry seq (note (Drawn window ticket)) = subst (λ (e : Entry). Gives u past e seq (note (Drawn window ticket))) same m.gives in
-      let is : IsDraw window (answer_of a.outcome) = draw-by one asked.entry.policy (level asked.entry.name past) (moment past) (form u.conn seq past) (noted asked.entry.name seq past) window ticket
+      let is : IsDraw window (answer_of a.outcome) = draw-by one asked.entry.policy (level asked.entry.name past)
+      (moment past) (form u.conn seq past) (noted asked.entry.name seq past) window ticket
       (answer_of a.outcome) due asked.gives in
       (is.0, answer-noted a.outcome (Drawn window is.0) is.1)
 

@@ -125,7 +125,8 @@ denied-by : ByARule → (policy : Policy) (level moment rule : ℕ) (form : Opti
 denied-by law policy level moment rule None past p is gives = absurd gives
 denied-by law policy level moment rule (Some call) past p is gives = law p level moment rule call past (subst (λ (q : Policy). Answers q level moment call past (deny rule)) is gives)
 
-pub denied-few : ByARule → (u : Under) (past : Behind) (e : Entry) (seq : ℕ) (p : AccessPolicy) (rule : ℕ) → e.policy ≡ Access p → Gives u past e seq (deny rule) → rule ≤ length p.rules
+pub denied-few : ByARule → (u : Under) (past : Behind) (e : Entry) (seq : ℕ) (p : AccessPolicy) (rule : ℕ)
+    → e.policy ≡ Access p → Gives u past e seq (deny rule) → rule ≤ length p.rules
 denied-few law u past e seq p rule is gives = denied-by law e.policy (level e.name past) (moment past) rule (form u.conn seq past) (noted e.name seq past) p is gives
 
 -- ---- the greatest number

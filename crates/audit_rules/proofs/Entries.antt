@@ -1,5 +1,7 @@
 -- The entry of a name on a chain, and what stands before it.
-use Rattle.std.proofs.Common.{◌≡◌, ◌≢◌, ℕ, ◌+◌, ◌<◌, ◌≤◌, zero, suc, Bool, true, false, cond, nat_lt, if◌then◌else◌, List, [], ◌∷◌, ◌++◌, length, map, take, drop, set, get_or, slice_get, refl, sym, ap, ◌∙◌, subst, arith}
+use Rattle.std.proofs.Common.{◌≡◌, ◌≢◌, ℕ, ◌+◌, ◌<◌, ◌≤◌, zero, suc, Bool, true, false, cond, nat_lt, if◌then◌else◌}
+use Rattle.std.proofs.Common.{List, [], ◌∷◌, ◌++◌, length, map, take, drop, set, get_or, slice_get, refl, sym, ap}
+use Rattle.std.proofs.Common.{◌∙◌, subst, arith}
 use Rattle.std.specs.Prelude.{All, Contains, Some, None}
 use Rattle.std.specs.List.{AllZip, position, position_or_len}
 use Rattle.std.proofs.lemmas.Bool.Decides.{nat_tests}
@@ -141,13 +143,17 @@ module _ (u : Under) (past : Behind) (es : List EngineParts) (n : ℕ) (calls : 
 
   pub not-named : (name : List ℕ) (seq : ℕ) (e : Entry) → position (λ e. is_named name e.entry) es ≡ None → IsAt u past seq name e → ⊥
   not-named name seq e is at = none-found name es is
-      (subst (λ (xs : List Entry). Contains (names_of xs) name) (sym at.entries ∙ sym entries) (subst (λ (m : List ℕ). Contains (names_of (at.front ++ e ∷ at.back)) m) at.named (names-middle at.front at.back e)))
+      (subst (λ (xs : List Entry). Contains (names_of xs) name) (sym at.entries ∙ sym entries)
+      (subst (λ (m : List ℕ). Contains (names_of (at.front ++ e ∷ at.back)) m) at.named
+      (names-middle at.front at.back e)))
 
   -- the entry of a name is that at its place
   pub there-split : (name : List ℕ) (seq p : ℕ) (x : Entry) (e : EngineParts) → slice_get es p ≡ Some e → e.entry.name ≡ name → (at : IsAt u past seq name x)
       → IsSplit (chain past).entries at.front p e.entry x
   there-split name seq p x e is named at =
-      let there : slice_get (chain past).entries p ≡ Some e.entry = subst (λ (xs : List Entry). slice_get xs p ≡ Some e.entry) entries (map-at (λ (e : EngineParts). e.entry) es p e is) in
+      let there : slice_get (chain past).entries p ≡ Some e.entry =
+      subst (λ (xs : List Entry). slice_get xs p ≡ Some e.entry) entries
+      (map-at (λ (e : EngineParts). e.entry) es p e is) in
       subst (λ (xs : List Entry). IsSplit xs at.front p e.entry x) (sym at.entries)
       (split-there at.front at.back x e.entry p (subst (λ (xs : List Entry). AreDistinct (names_of xs)) at.entries apart)
       (subst (λ (xs : List Entry). slice_get xs p ≡ Some e.entry) at.entries there) (named ∙ sym at.named))
@@ -184,7 +190,8 @@ zip-at R (x' ∷ xs) [] j x d all is = absurd all
 zip-at R (x' ∷ xs) (y ∷ ys) zero x d all is = let there : x' ≡ x = cc in rw (sym there) all.0
 zip-at R (x' ∷ xs) (y ∷ ys) (suc j) x d all is = zip-at R xs ys j x d all.1 is
 
-pub zip-set : {X Y : Type 0} (R : X → Y → Type 0) (xs : List X) (ys : List Y) (j : ℕ) (x : X) (y : Y) → AllZip R xs ys → slice_get xs j ≡ Some x → R x y → AllZip R xs (set ys j y)
+pub zip-set : {X Y : Type 0} (R : X → Y → Type 0) (xs : List X) (ys : List Y) (j : ℕ) (x : X) (y : Y) → AllZip R xs ys
+    → slice_get xs j ≡ Some x → R x y → AllZip R xs (set ys j y)
 zip-set R [] [] j x y all is own = absurd cc
 zip-set R [] (y' ∷ ys) j x y all is own = absurd all
 zip-set R (x' ∷ xs) [] j x y all is own = absurd all

@@ -123,20 +123,24 @@ module _ (u : Under) (past : Behind) (what : Happening) where
   pub breaks-numbers : (IsNumbered u past what → ⊥) → BreaksFirst u past what A
   breaks-numbers fails = record {
     broken = fails;
-    earlier = below 0 (omega arith) (λ less. absurd (omega arith)) (λ less. absurd (omega arith)) (λ less. absurd (omega arith)) (λ less. absurd (omega arith)) (λ less. absurd (omega arith)) (λ less. absurd (omega arith));
+    earlier = below 0 (omega arith) (λ less. absurd (omega arith)) (λ less. absurd (omega arith))
+        (λ less. absurd (omega arith)) (λ less. absurd (omega arith)) (λ less. absurd (omega arith))
+        (λ less. absurd (omega arith));
   }
 
   pub breaks-malformed : IsNumbered u past what → (RefusesMalformed past what → ⊥) → BreaksFirst u past what B
   breaks-malformed a fails = record {
     broken = fails;
-    earlier = below 1 (omega arith) (λ less. a) (λ less. absurd (omega arith)) (λ less. absurd (omega arith)) (λ less. absurd (omega arith)) (λ less. absurd (omega arith)) (λ less. absurd (omega arith));
+    earlier = below 1 (omega arith) (λ less. a) (λ less. absurd (omega arith)) (λ less. absurd (omega arith))
+        (λ less. absurd (omega arith)) (λ less. absurd (omega arith)) (λ less. absurd (omega arith));
   }
 
   module _ (a : IsNumbered u past what) (b : RefusesMalformed past what) where
     breaks-chain : (KeepsChain past what → ⊥) → BreaksFirst u past what C
     breaks-chain fails = record {
       broken = fails;
-      earlier = below 2 (omega arith) (λ less. a) (λ less. b) (λ less. absurd (omega arith)) (λ less. absurd (omega arith)) (λ less. absurd (omega arith)) (λ less. absurd (omega arith));
+      earlier = below 2 (omega arith) (λ less. a) (λ less. b) (λ less. absurd (omega arith))
+          (λ less. absurd (omega arith)) (λ less. absurd (omega arith)) (λ less. absurd (omega arith));
     }
 
     breaks-notes : KeepsChain past what → (NotesWhatIsDue u past what × RefusesDrawn past what → ⊥) → BreaksFirst u past what D
@@ -151,13 +155,15 @@ module _ (u : Under) (past : Behind) (what : Happening) where
       earlier = below 4 (omega arith) (λ less. a) (λ less. b) (λ less. c) (λ less. (d, drawn)) (λ less. absurd (omega arith)) (λ less. absurd (omega arith));
     }
 
-    breaks-refuses : KeepsChain past what → NotesWhatIsDue u past what → RefusesDrawn past what → SendsInOrder u past what → (RefusesAsAnswered u past what → ⊥) → BreaksFirst u past what F
+    breaks-refuses : KeepsChain past what → NotesWhatIsDue u past what → RefusesDrawn past what
+        → SendsInOrder u past what → (RefusesAsAnswered u past what → ⊥) → BreaksFirst u past what F
     breaks-refuses c d drawn e fails = record {
       broken = fails;
       earlier = below 5 (omega arith) (λ less. a) (λ less. b) (λ less. c) (λ less. (d, drawn)) (λ less. e) (λ less. absurd (omega arith));
     }
 
-    breaks-link : KeepsChain past what → NotesWhatIsDue u past what → RefusesDrawn past what → SendsInOrder u past what → RefusesAsAnswered u past what → (EndsWithLink past what → ⊥)
+    breaks-link : KeepsChain past what → NotesWhatIsDue u past what → RefusesDrawn past what
+        → SendsInOrder u past what → RefusesAsAnswered u past what → (EndsWithLink past what → ⊥)
         → BreaksFirst u past what G
     breaks-link c d drawn e f fails = record {
       broken = fails;
@@ -165,7 +171,8 @@ module _ (u : Under) (past : Behind) (what : Happening) where
     }
 
     -- its own rule is broken
-    breaks-own : (own : Rule) → own ≡ own_rule what → (Owns u past what own → ⊥) → (drawn : Bool) → (IsTrue drawn ↔ RefusesDrawn past what) → BreaksFirst u past what (broken_first own drawn)
+    breaks-own : (own : Rule) → own ≡ own_rule what → (Owns u past what own → ⊥) → (drawn : Bool)
+        → (IsTrue drawn ↔ RefusesDrawn past what) → BreaksFirst u past what (broken_first own drawn)
     breaks-own A is fails drawn by = absurd (fails tt)
     breaks-own B is fails drawn by = absurd (fails tt)
     breaks-own C is fails drawn by = breaks-chain fails
@@ -173,18 +180,23 @@ module _ (u : Under) (past : Behind) (what : Happening) where
     breaks-own D is fails false by = breaks-notes (other-chain u past what (λ other. cc)) (λ both. fails both.0)
     breaks-own E is fails true by = breaks-sends (other-chain u past what (λ other. cc)) (other-notes u past what (λ other. cc)) (by.0 refl) fails
     breaks-own E is fails false by = breaks-notes (other-chain u past what (λ other. cc)) (λ both. (let wrong : false ≡ true = by.1 both.1 in cc))
-    breaks-own F is fails true by = breaks-refuses (other-chain u past what (λ other. cc)) (other-notes u past what (λ other. cc)) (by.0 refl) (other-sends u past what (λ other. cc)) fails
+    breaks-own F is fails true by =
+        breaks-refuses (other-chain u past what (λ other. cc)) (other-notes u past what (λ other. cc)) (by.0 refl)
+        (other-sends u past what (λ other. cc)) fails
     breaks-own F is fails false by = breaks-notes (other-chain u past what (λ other. cc)) (λ both. (let wrong : false ≡ true = by.1 both.1 in cc))
     breaks-own G is fails drawn by = absurd (fails tt)
     breaks-own Stands is fails drawn by = absurd (fails tt)
 
     pub breaks-first : (kept drawn linked : Bool) → OnTrue kept (Owns u past what (own_rule what)) → OnFalse kept (Owns u past what (own_rule what) → ⊥)
-        → (IsTrue drawn ↔ RefusesDrawn past what) → (IsTrue linked ↔ EndsWithLink past what) → IfSome (first_of (own_rule what) kept drawn linked) (λ rule. BreaksFirst u past what rule)
+        → (IsTrue drawn ↔ RefusesDrawn past what) → (IsTrue linked ↔ EndsWithLink past what)
+        → IfSome (first_of (own_rule what) kept drawn linked) (λ rule. BreaksFirst u past what rule)
     breaks-first false drawn linked own fails by_drawn by_link = breaks-own (own_rule what) refl fails drawn by_drawn
     breaks-first true false linked own fails by_drawn by_link =
         breaks-notes (own-chain u past what own) (λ both. (let wrong : false ≡ true = by_drawn.1 both.1 in cc))
     breaks-first true true false own fails by_drawn by_link =
-        breaks-link (own-chain u past what own) (own-notes u past what own) (by_drawn.0 refl) (own-sends u past what own) (own-refuses u past what own) (λ link. (let wrong : false ≡ true = by_link.1 link in cc))
+        breaks-link (own-chain u past what own) (own-notes u past what own) (by_drawn.0 refl)
+        (own-sends u past what own) (own-refuses u past what own)
+        (λ link. (let wrong : false ≡ true = by_link.1 link in cc))
     breaks-first true true true own fails by_drawn by_link = tt
 
     pub may-come : (kept drawn linked : Bool) → OnTrue kept (Owns u past what (own_rule what))
@@ -204,7 +216,8 @@ module _ (u : Under) (past : Behind) (what : Happening) where
     }
 
 -- what follows where nothing is broken
-pub if-none-both : (P Q : Type 0) (own : Rule) (kept drawn linked : Bool) → (P → OnTrue kept Q) → IfNone (first_of own kept drawn linked) P → IfNone (first_of own kept drawn linked) Q
+pub if-none-both : (P Q : Type 0) (own : Rule) (kept drawn linked : Bool) → (P → OnTrue kept Q)
+    → IfNone (first_of own kept drawn linked) P → IfNone (first_of own kept drawn linked) Q
 if-none-both P Q own false drawn linked next is = tt
 if-none-both P Q own true false linked next is = tt
 if-none-both P Q own true true false next is = tt

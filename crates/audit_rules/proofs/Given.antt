@@ -21,7 +21,8 @@ use Rattle.audit_rules.specs.Given.{tickets_in, with_own}
 use Rattle.audit_rules.specs.declared.prepared.Prepared.{Prepared}
 
 -- a draw adds the ticket in its own window
-pub own-draw : (ticket tenant window : ℕ) (list : List (ℕ × ℕ)) → tickets_in ticket ((tenant, window) ∷ list) tenant window ≡ tickets_in ticket list tenant window ++ ticket ∷ []
+pub own-draw : (ticket tenant window : ℕ) (list : List (ℕ × ℕ))
+    → tickets_in ticket ((tenant, window) ∷ list) tenant window ≡ tickets_in ticket list tenant window ++ ticket ∷ []
 own-draw ticket tenant window list =
     ap (λ (b : Bool). with_own b (window == window) ticket (tickets_in ticket list tenant window)) (eq-eqb tenant tenant refl)
     ∙ ap (λ (b : Bool). with_own true b ticket (tickets_in ticket list tenant window)) (eq-eqb window window refl)
@@ -50,7 +51,8 @@ all-same ticket tenant window (d ∷ list) =
     all-with (d.0 == tenant) (d.1 == window) ticket (tickets_in ticket list tenant window) (all-same ticket tenant window list)
 
 -- a ticket that comes behind those of before is the one that is given
-same-ticket : (ticket before drawn tenant window : ℕ) (list earlier : List (ℕ × ℕ)) → tickets_in ticket list tenant window ≡ tickets_in before earlier tenant window ++ drawn ∷ [] → drawn ≡ ticket
+same-ticket : (ticket before drawn tenant window : ℕ) (list earlier : List (ℕ × ℕ))
+    → tickets_in ticket list tenant window ≡ tickets_in before earlier tenant window ++ drawn ∷ [] → drawn ≡ ticket
 same-ticket ticket before drawn tenant window list earlier is =
     All-contains (λ t. t ≡ ticket) (tickets_in ticket list tenant window) drawn (all-same ticket tenant window list)
     (subst (λ (l : List ℕ). Contains l drawn) (sym is) (Contains-push (tickets_in before earlier tenant window) drawn))
@@ -60,7 +62,8 @@ same-ticket ticket before drawn tenant window list earlier is =
 abbrev IsQuota : Policy → Type 0
 IsQuota policy = (tenant : ℕ) × (per : ℕ) × (cap : ℕ) × (policy ≡ Quota tenant per cap)
 
-quota-answers : (policy : Policy) (level moment : ℕ) (form : Call) (past : Past) (window ticket : ℕ) → Answers policy level moment form past (note (Drawn window ticket)) → IsQuota policy
+quota-answers : (policy : Policy) (level moment : ℕ) (form : Call) (past : Past) (window ticket : ℕ)
+    → Answers policy level moment form past (note (Drawn window ticket)) → IsQuota policy
 quota-answers policy level moment form past window ticket (allows p is allow answer) = absurd cc
 quota-answers policy level moment form past window ticket (denies p is allow answer) = absurd cc
 quota-answers policy level moment form past window ticket (was_charged r is some answer) = absurd cc
@@ -88,7 +91,8 @@ quota-comes policy level moment form past outcome window ticket drawn (is_noted_
     quota-answers policy level moment form past window ticket (subst (λ (n : Noted). Answers policy level moment form past (note n)) same a)
 quota-comes policy level moment form past outcome window ticket drawn (is_redacted a is) = let none : noted_in outcome ≡ Nothing = ap noted_in is in absurd cc
 
-module _ (e : EngineParts) (moment : ℕ) (s : StandingCall) (outcome : Outcome) (turn : IsTurn e moment s outcome) (window ticket : ℕ) (drawn : noted_in outcome ≡ Drawn window ticket) where
+module _ (e : EngineParts) (moment : ℕ) (s : StandingCall) (outcome : Outcome) (turn : IsTurn e moment s outcome)
+    (window ticket : ℕ) (drawn : noted_in outcome ≡ Drawn window ticket) where
   quota-asked : (is_allowed s.marks e.entry.attach e.entry.version ≡ true → IsAllowing e.entry.policy s.call) → IsQuota e.entry.policy
   quota-asked may = quota-comes e.entry.policy e.level moment s.call (past_of s.marks e.entry.attach) outcome window ticket drawn (turn.comes may)
 
@@ -113,6 +117,11 @@ module _ (e : EngineParts) (moment : ℕ) (s : StandingCall) (outcome : Outcome)
       → ticket ≡ before.ticket
   drawn-given before after leaves =
       let quota = quota-turn e.entry.policy refl in
-      let told = subst (λ (n : Noted). TellsDraw (λ (t : ℕ) (w : ℕ). Some (tickets_in before.ticket before.draws.list t w)) (λ (t : ℕ) (w : ℕ). Some (tickets_in after.ticket after.draws.list t w)) (Quota quota.0 quota.1 quota.2) n) drawn
-      (subst (λ (p : Policy). TellsDraw (λ (t : ℕ) (w : ℕ). Some (tickets_in before.ticket before.draws.list t w)) (λ (t : ℕ) (w : ℕ). Some (tickets_in after.ticket after.draws.list t w)) p (noted_in outcome)) quota.3 leaves.drawn) in
+      let told = subst (λ (n : Noted).
+      TellsDraw (λ (t : ℕ) (w : ℕ). Some (tickets_in before.ticket before.draws.list t w))
+      (λ (t : ℕ) (w : ℕ). Some (tickets_in after.ticket after.draws.list t w)) (Quota quota.0 quota.1 quota.2) n)
+      drawn
+      (subst (λ (p : Policy). TellsDraw (λ (t : ℕ) (w : ℕ). Some (tickets_in before.ticket before.draws.list t w))
+      (λ (t : ℕ) (w : ℕ). Some (tickets_in after.ticket after.draws.list t w)) p (noted_in outcome)) quota.3
+      leaves.drawn) in
       same-ticket after.ticket before.ticket ticket quota.0 window after.draws.list before.draws.list told ∙ leaves.since before refl

@@ -1,5 +1,6 @@
 -- How far calls are known to pass, and the numbers of those that stand, once one more thing has happened.
-use Rattle.std.proofs.Common.{◌≡◌, ◌≢◌, ℕ, ◌+◌, ◌<◌, ◌≤◌, ◌==◌, Bool, cond, not, zero, suc, List, [], ◌∷◌, ◌++◌, map, take, remove, slice_get, refl, sym, ap, ◌∙◌, subst, arith}
+use Rattle.std.proofs.Common.{◌≡◌, ◌≢◌, ℕ, ◌+◌, ◌<◌, ◌≤◌, ◌==◌, Bool, cond, not, zero, suc, List, [], ◌∷◌, ◌++◌, map}
+use Rattle.std.proofs.Common.{take, remove, slice_get, refl, sym, ap, ◌∙◌, subst, arith}
 use Rattle.std.specs.Prelude.{All, IsSomeAnd, Option, Some, None, filter}
 use Rattle.std.specs.List.{AllZip}
 use Rattle.std.proofs.lemmas.Bool.{eq-eqb, ne_eqb}
@@ -76,7 +77,8 @@ zip-above R R' below top n0 (n ∷ ns) (r ∷ rs) le rising on all =
     (on n r (λ same. omega (arith, first, same)) all.0, zip-above R R' n top n0 ns rs (omega arith) rising.2 on all.1)
 
 -- the same where it changes at one number
-pub zip-except : (R R' : ℕ → ℕ → Type 0) (below top n0 r0 place : ℕ) (ns rs : List ℕ) → IsRising below top ns → slice_get ns place ≡ Some n0 → slice_get rs place ≡ Some r0
+pub zip-except : (R R' : ℕ → ℕ → Type 0) (below top n0 r0 place : ℕ) (ns rs : List ℕ) → IsRising below top ns
+    → slice_get ns place ≡ Some n0 → slice_get rs place ≡ Some r0
     → R' n0 r0 → ((n r : ℕ) → n ≢ n0 → R n r → R' n r) → AllZip R ns rs → AllZip R' ns rs
 zip-except R R' below top n0 r0 place [] rs rising there reached own on all = absurd cc
 zip-except R R' below top n0 r0 place (n ∷ ns) [] rising there reached own on all = absurd all
@@ -157,11 +159,13 @@ apart-lets u past what apart seq r lets =
     (all-on (Lets u past seq) (Lets u (what ∷ past) seq) (take r (chain past).entries)
     (λ e one. lets-on u past (what ∷ past) seq e (apart.forms u.conn seq) (apart.notes e.name seq) one) lets)
 
-pub apart-latest : (past : Behind) (what : Happening) → IsApart past what → (es : List EngineParts) (ls : List ℕ) → AllZip (IsLatest past) es ls → AllZip (IsLatest (what ∷ past)) es ls
+pub apart-latest : (past : Behind) (what : Happening) → IsApart past what → (es : List EngineParts) (ls : List ℕ)
+    → AllZip (IsLatest past) es ls → AllZip (IsLatest (what ∷ past)) es ls
 apart-latest past what apart es ls all = zip-on (IsLatest past) (IsLatest (what ∷ past)) es ls (λ e n is. is ∙ sym (ap (λ (ns : List ℕ). greatest ns) (apart.calls e.entry.name))) all
 
 -- the latest numbers of engines with the same entries
-pub latest-same : (past : Behind) (es es' : List EngineParts) (ls : List ℕ) → map (λ e. e.entry) es' ≡ map (λ e. e.entry) es → AllZip (IsLatest past) es ls → AllZip (IsLatest past) es' ls
+pub latest-same : (past : Behind) (es es' : List EngineParts) (ls : List ℕ)
+    → map (λ e. e.entry) es' ≡ map (λ e. e.entry) es → AllZip (IsLatest past) es ls → AllZip (IsLatest past) es' ls
 latest-same past [] [] ls same all = all
 latest-same past [] (e' ∷ es') ls same all = absurd cc
 latest-same past (e ∷ es) [] ls same all = absurd cc

@@ -10,6 +10,7 @@ mod Known
 mod Noting
 mod Numbers
 mod Operating
+mod Passing
 mod Rows
 mod Sends
 mod States

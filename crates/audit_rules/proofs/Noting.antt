@@ -1,5 +1,6 @@
 -- What a checker knows behind what an entry notes of a call, and what it clears from one.
-use Rattle.std.proofs.Common.{◌≡◌, ◌≢◌, ℕ, ◌<◌, ◌==◌, ◌&&◌, Bool, true, false, cond, List, ◌∷◌, map, set, take, get_or, slice_get, refl, sym, ap, ◌∙◌, subst, arith}
+use Rattle.std.proofs.Common.{◌≡◌, ◌≢◌, ◌⊎◌, inl, inr, ℕ, suc, ◌+◌, ◌<◌, ◌==◌, ◌&&◌, Bool, true, false, cond, List, ◌∷◌, map, set, take}
+use Rattle.std.proofs.Common.{get_or, slice_get, refl, sym, ap, ◌∙◌, subst, arith}
 use Rattle.std.specs.Prelude.{All, None, Some, vec_capacity}
 use Rattle.std.specs.List.{AllZip}
 use Rattle.std.specs.Str.{bytes_eq}
@@ -10,8 +11,9 @@ use Rattle.std.proofs.lemmas.Option.{get_or_from_slice_get}
 use Rattle.mrpc_table.specs.Calls.{IsCallOf}
 use Rattle.mrpc_table.specs.Valid.{AreDistinct}
 use Rattle.mrpc_table.specs.declared.table.Table.{Table}
-use Rattle.engine_core.specs.Answers.{Past, charged, counted, drawn, note, ticket_in}
+use Rattle.engine_core.specs.Answers.{Answer, Past, charged, counted, drawn, note, ticket_in}
 use Rattle.engine_core.specs.Chains.{Chain, Entry, names_of}
+use Rattle.engine_core.specs.Engines.{EngineParts}
 use Rattle.engine_core.specs.Turns.{noted_in}
 use Rattle.engine_core.specs.declared.outcome.Noted.{Noted}
 use Rattle.engine_core.specs.declared.outcome.Noted.TheVariants as notes
@@ -20,7 +22,7 @@ use Rattle.engine_core.specs.declared.outcome.Outcome.TheVariants as outcomes
 use Rattle.engine_core.specs.declared.outcome.Why.{Why}
 use Rattle.call_history.specs.Behind.{Behind, chain, form, has_failed, moment, noted, standing, taken}
 use Rattle.call_history.specs.Events.{note_behind}
-use Rattle.call_history.specs.Rules.{Lets, May, Under}
+use Rattle.call_history.specs.Rules.{Gives, Lets, May, Under, cap_of}
 use Rattle.call_history.specs.Ties.{AreTied, worked}
 use Rattle.call_history.specs.declared.happening.Happening.{Happening}
 use Rattle.call_history.specs.declared.happening.Happening.TheVariants.{Charged, Counted, Drawn, Redacted, Refused}
@@ -29,11 +31,15 @@ use Rattle.audit_rules.specs.Asking.{IsAsked, IsRising, LetsAll, seqs_of}
 use Rattle.audit_rules.specs.Knowing.{HasRoom, IsFree, IsLatest, Knows, LeavesOpen, under}
 use Rattle.audit_rules.specs.declared.ask.Asked.{Asked}
 use Rattle.audit_rules.specs.declared.checker.Checker.{Checker}
+use Rattle.audit_rules.specs.declared.left.Left.{Left}
 use Rattle.audit_rules.specs.declared.left.Left.TheVariants.{Nothing}
+use Rattle.audit_rules.proofs.Asked.{lets-more}
+use Rattle.audit_rules.proofs.Due.{noted-answer}
 use Rattle.audit_rules.proofs.Entries.{set-there, zip-at, zip-set}
 use Rattle.audit_rules.proofs.Going.{latest-same, lets-on, all-on, zip-except}
 use Rattle.audit_rules.proofs.Known.{asked-reached, known-rising}
-use Rattle.audit_rules.proofs.Worked.{IsNote, bytes-other, knows-worked, note-latest, note-reaches, note-worked}
+use Rattle.audit_rules.proofs.Passing.{IsBelow, lets-noted}
+use Rattle.audit_rules.proofs.Worked.{IsNote, bytes-other, knows-worked, note-latest, note-reaches, note-worked, own-lets}
 
 -- ---- the notes
 
@@ -87,14 +93,17 @@ counted-note past name seq = record {
   fails = refl;
 }
 
-pub is-note : (past : Behind) (name : List ℕ) (seq : ℕ) (n : Noted) (what : Happening) → n ≢ notes.Nothing → note_behind name seq n past ≡ what ∷ past → IsNote past name seq what
+pub is-note : (past : Behind) (name : List ℕ) (seq : ℕ) (n : Noted) (what : Happening) → n ≢ notes.Nothing
+    → note_behind name seq n past ≡ what ∷ past → IsNote past name seq what
 is-note past name seq notes.Nothing what some is = absurd (some refl)
 is-note past name seq (notes.Charged left) what some is = let same : Charged seq name left ≡ what = cc in subst (IsNote past name seq) same (charged-note past name seq left)
-is-note past name seq (notes.Drawn window ticket) what some is = let same : Drawn seq name window ticket ≡ what = cc in subst (IsNote past name seq) same (drawn-note past name seq window ticket)
+is-note past name seq (notes.Drawn window ticket) what some is = let same : Drawn seq name window ticket ≡ what =
+    cc in subst (IsNote past name seq) same (drawn-note past name seq window ticket)
 is-note past name seq notes.Counted what some is = let same : Counted seq name ≡ what = cc in subst (IsNote past name seq) same (counted-note past name seq)
 
 -- it is no refusal, and leaves nothing open unless it draws
-pub note-settles : (past : Behind) (name : List ℕ) (seq : ℕ) (n : Noted) (what : Happening) → n ≢ notes.Nothing → ticket_in (note n) ≡ None → note_behind name seq n past ≡ what ∷ past
+pub note-settles : (past : Behind) (name : List ℕ) (seq : ℕ) (n : Noted) (what : Happening) → n ≢ notes.Nothing
+    → ticket_in (note n) ≡ None → note_behind name seq n past ≡ what ∷ past
     → LeavesOpen (what ∷ past) Nothing
 note-settles past name seq notes.Nothing what some none is = absurd (some refl)
 note-settles past name seq (notes.Charged left) what some none is =
@@ -109,6 +118,23 @@ note-other past name seq notes.Nothing what some is s why refused = some refl
 note-other past name seq (notes.Charged left) what some is s why refused = cc
 note-other past name seq (notes.Drawn window ticket) what some is s why refused = cc
 note-other past name seq notes.Counted what some is s why refused = cc
+
+-- what was noted at an engine, and how far a call is known to pass from then on
+pub noted-on : (c c1 c2 : Checker) → c1 ≡ record c { latest = c1.latest } → c2 ≡ record c1 { reached = c2.reached }
+    → c2 ≡ record c { latest = c2.latest; left = c2.left; reached = c2.reached }
+noted-on c c1 c2 first then =
+    let latest : c2.latest ≡ c1.latest = ap (λ (d : Checker). d.latest) then in
+    let left : c2.left ≡ c.left = ap (λ (d : Checker). d.left) then ∙ ap (λ (d : Checker). d.left) first in
+    then ∙ (ap (λ (d : Checker). record d { reached = c2.reached }) first
+    ∙ (ap (λ v. record c { latest = v; reached = c2.reached }) (sym latest)
+    ∙ ap (λ (l : Left). record c { latest = c2.latest; left = l; reached = c2.reached }) (sym left)))
+
+pub settled-on : (c c1 c2 : Checker) → c1 ≡ record c { latest = c1.latest } → c2 ≡ record c1 { left = c2.left; reached = c2.reached }
+    → c2 ≡ record c { latest = c2.latest; left = c2.left; reached = c2.reached }
+settled-on c c1 c2 first then =
+    let latest : c2.latest ≡ c1.latest = ap (λ (d : Checker). d.latest) then in
+    then ∙ (ap (λ (d : Checker). record d { left = c2.left; reached = c2.reached }) first
+    ∙ ap (λ v. record c { latest = v; left = c2.left; reached = c2.reached }) (sym latest))
 
 -- ---- what is known behind a turn
 
@@ -148,36 +174,84 @@ module _ (T : Table) (past : Behind) (c c1 : Checker) (seq : ℕ) (name : List �
       asked.reaches refl numbers refl refl latest1 refl (subst (LeavesOpen past) (sym same-left) knows.left) of_table (omega arith) entries room
 
   module _ (c' : Checker) (what : Happening) (may : May (under T c) past what) where
+    -- what was noted leaves the entries at which the calls are known to be
+    pub reaches-noted : (n : Noted) → n ≢ notes.Nothing → note_behind name seq n past ≡ what ∷ past
+        → AllZip (LetsAll (under T c) (what ∷ past)) (seqs_of c1.calls) c1.reached.items
+    reaches-noted n some is = note-reaches (under T c) past name seq what (is-note past name seq n what some is) 0 c.taken a.place a.at asked.entry
+        (seqs_of c1.calls) c1.reached.items rising1 distinct asked.is_entry asked.is_at.named there1 asked.reached_it lets1 asked.reaches
+
+    -- and the entry lets the call pass
+    pub reaches-passed : (n : Noted) → noted_in a.outcome ≡ n → n ≢ notes.Nothing → note_behind name seq n past ≡ what ∷ past → IsBelow asked.entry.policy n
+        → AllZip (LetsAll (under T c) (what ∷ past)) (seqs_of c1.calls) (set c1.reached.items a.place (a.at + 1))
+    reaches-passed n noted some is below =
+        let u : Under = under T c in
+        let to : IsNote past name seq what = is-note past name seq n what some is in
+        let gives : Gives u past asked.entry seq (note n) =
+        subst (λ (answer : Answer). Gives u past asked.entry seq answer) (noted-answer a.outcome n noted some) asked.gives in
+        let own : Lets u (what ∷ past) seq asked.entry =
+        lets-noted u past seq n what asked.entry some (ap (λ (m : List ℕ). note_behind m seq n past) asked.is_at.named ∙ is) (to.forms u.conn seq) gives below in
+        let before : LetsAll u (what ∷ past) seq a.at =
+        own-lets u past name seq what to a.at asked.entry distinct asked.is_entry asked.is_at.named lets1 in
+        let there : slice_get (chain (what ∷ past)).entries a.at ≡ Some asked.entry =
+        subst (λ (x : Chain). slice_get x.entries a.at ≡ Some asked.entry) (sym to.chained) asked.is_entry in
+        let further : LetsAll u (what ∷ past) seq (a.at + 1) =
+        let one_more : suc a.at ≡ a.at + 1 = omega arith in
+        subst (λ (k : ℕ). LetsAll u (what ∷ past) seq k) one_more
+        (lets-more (Lets u (what ∷ past) seq) (chain (what ∷ past)).entries a.at asked.entry there own before) in
+        zip-set (LetsAll u (what ∷ past)) (seqs_of c1.calls) c1.reached.items a.place seq (a.at + 1) (reaches-noted n some is) there1 further
+
+    -- by what a ticket leaves
+    pub reaches-settled : (window ticket : ℕ) (engine : EngineParts) (reached' : List ℕ) → engine.entry ≡ asked.entry
+        → noted_in a.outcome ≡ notes.Drawn window ticket → note_behind name seq (notes.Drawn window ticket) past ≡ what ∷ past
+        → (reached' ≡ c1.reached.items) ⊎ ((reached' ≡ set c1.reached.items a.place (a.at + 1))
+        × ((cap : ℕ) → cap_of engine.entry.policy ≡ Some cap → ticket < cap))
+        → AllZip (LetsAll (under T c) (what ∷ past)) (seqs_of c1.calls) reached'
+    reaches-settled window ticket engine reached' same_entry noted is (inl same) =
+        subst (λ (rs : List ℕ). AllZip (LetsAll (under T c) (what ∷ past)) (seqs_of c1.calls) rs) (sym same)
+        (reaches-noted (notes.Drawn window ticket) (λ is. cc) is)
+    reaches-settled window ticket engine reached' same_entry noted is (inr further) =
+        let below : IsBelow asked.entry.policy (notes.Drawn window ticket) = λ w t cap told quota.
+        (let same : ticket ≡ t = cc in
+        rw (sym same) (further.1 cap (ap (λ (e : Entry). cap_of e.policy) same_entry ∙ quota))) in
+        subst (λ (rs : List ℕ). AllZip (LetsAll (under T c) (what ∷ past)) (seqs_of c1.calls) rs) (sym further.0)
+        (reaches-passed (notes.Drawn window ticket) noted (λ is. cc) is below)
+
     noted-to : Checker
-    noted-to = record c1 { latest = c'.latest; left = c'.left }
+    noted-to = record c1 { latest = c'.latest; left = c'.left; reached = c'.reached }
 
     -- something was noted
-    pub knows-noted : (n : Noted) → c' ≡ record c1 { latest = c'.latest; left = c'.left } → c'.latest.items ≡ set c1.latest.items a.at seq
-        → vec_capacity c'.latest ≡ vec_capacity c1.latest → get_or c1.latest.items a.at 0 < seq → noted_in a.outcome ≡ n → n ≢ notes.Nothing
-        → note_behind name seq n past ≡ what ∷ past → LeavesOpen (what ∷ past) c'.left → IsFree c'.left → Knows T (what ∷ past) c'
+    pub knows-noted : (n : Noted) → c' ≡ record c1 { latest = c'.latest; left = c'.left; reached = c'.reached }
+        → c'.latest.items ≡ set c1.latest.items a.at seq → vec_capacity c'.latest ≡ vec_capacity c1.latest → get_or c1.latest.items a.at 0 < seq
+        → AllZip (LetsAll (under T c) (what ∷ past)) (seqs_of c1.calls) c'.reached.items → deque_capacity c'.reached ≡ deque_capacity c1.reached
+        → noted_in a.outcome ≡ n → n ≢ notes.Nothing → note_behind name seq n past ≡ what ∷ past → LeavesOpen (what ∷ past) c'.left → IsFree c'.left
+        → Knows T (what ∷ past) c'
     unfolding noted-to
-    knows-noted n rest latest capacity less noted some is left free' =
-        let note : IsNote past name seq what = is-note past name seq n what some is in
+    knows-noted n rest latest capacity less reaches places noted some is left free' =
+        let to_note : IsNote past name seq what = is-note past name seq n what some is in
         let behind : worked asked.entry seq a.outcome past ≡ what ∷ past =
         note-worked asked.entry seq a.outcome past n noted some ∙ (ap (λ (m : List ℕ). note_behind m seq n past) asked.is_at.named ∙ is) in
         let to : Knows T (what ∷ past) noted-to = knows-worked T past (what ∷ past) c noted-to knows free free'
-        (ap (λ (d : Checker). record d { latest = c'.latest; left = c'.left }) same)
+        (ap (λ (d : Checker). record d { latest = c'.latest; left = c'.left; reached = c'.reached }) same)
         (knows.row.prefix, may) (subst (λ (p : Behind). AreTied c.conn p c1.engines.items c.attached c1.calls) behind asked.ties)
-        (note-reaches (under T c) past name seq what note 0 c.taken a.place a.at asked.entry (seqs_of c1.calls) c1.reached.items rising1 distinct asked.is_entry asked.is_at.named there1 asked.reached_it
-        lets1 asked.reaches)
-        note.same_moment numbers note.stands note.same_taken
+        reaches to_note.same_moment numbers to_note.stands to_note.same_taken
         (subst (λ (ls : List ℕ). AllZip (IsLatest (what ∷ past)) c1.engines.items ls) (sym latest)
-        (note-latest (under T c) past name seq what note c1.engines.items c1.latest.items a.at asked.entry (subst (λ (es : List Entry). AreDistinct (names_of es)) (sym chained) distinct)
+        (note-latest (under T c) past name seq what to_note c1.engines.items c1.latest.items a.at asked.entry (subst (λ (es : List Entry). AreDistinct (names_of es)) (sym chained) distinct)
         (subst (λ (es : List Entry). slice_get es a.at ≡ Some asked.entry) (sym chained) asked.is_entry) asked.is_at.named less latest1))
-        note.fails left of_table (omega arith) entries
-        (record { few_engines = room.few_engines; engines = room.engines; latest = omega (arith, room.latest, capacity); calls = room.calls }) in
+        to_note.fails left of_table (omega arith) entries
+        (record {
+          few_engines = room.few_engines;
+          engines = room.engines;
+          latest = omega (arith, room.latest, capacity);
+          calls = omega (arith, room.calls, places);
+        }) in
         subst (λ (d : Checker). Knows T (what ∷ past) d) (sym rest) to
 
     cleared-to : Checker
     cleared-to = record c1 { reached = c'.reached }
 
     -- fields were cleared, and the call begins again
-    pub knows-cleared : (version : ℕ) → ((conn seq s version : ℕ) (name : List ℕ) (past : Behind) → seq ≢ s → form conn s (Redacted seq name version ∷ past) ≡ form conn s past)
+    pub knows-cleared : (version : ℕ) → ((conn seq s version : ℕ) (name : List ℕ) (past : Behind) → seq ≢ s
+        → form conn s (Redacted seq name version ∷ past) ≡ form conn s past)
         → what ≡ Redacted seq name version → c' ≡ record c1 { reached = c'.reached } → c'.reached.items ≡ set c1.reached.items a.place 0
         → deque_capacity c'.reached ≡ deque_capacity c1.reached → a.outcome ≡ outcomes.Redacted → asked.entry.version ≡ version
         → LeavesOpen (what ∷ past) c1.left → Knows T (what ∷ past) c'
@@ -194,9 +268,18 @@ module _ (T : Table) (past : Behind) (c c1 : Checker) (seq : ℕ) (name : List �
         (λ e one. lets-on u past (Redacted seq name version ∷ past) s e (law c.conn seq s version name past (λ equal. apart (sym equal))) refl one) lets in
         let again : AllZip (LetsAll u (Redacted seq name version ∷ past)) (seqs_of c1.calls) (set c1.reached.items a.place 0) =
         zip-except (LetsAll u past) (LetsAll u (Redacted seq name version ∷ past)) 0 c.taken seq 0 a.place (seqs_of c1.calls) (set c1.reached.items a.place 0) rising1 there1
-        (set-there c1.reached.items a.place 0 (asked-reached T past c seq name a c1.engines.items c1.calls c1.reached.items asked)) (All-nil (Lets u (Redacted seq name version ∷ past) seq)) other zero in
+        (set-there c1.reached.items a.place 0
+        (asked-reached T past c seq name a c1.engines.items c1.calls c1.reached.items asked))
+        (All-nil (Lets u (Redacted seq name version ∷ past) seq)) other zero in
         let to : Knows T (what ∷ past) cleared-to = knows-worked T past (what ∷ past) c cleared-to knows free (subst IsFree (sym same-left) free)
-        (ap (λ (d : Checker). record d { reached = c'.reached }) same ∙ ap (λ (d : Checker). record c { engines = c1.engines; latest = d.latest; calls = c1.calls; reached = c'.reached; left = d.left }) (sym same))
+        (ap (λ (d : Checker). record d { reached = c'.reached }) same
+        ∙ ap (λ (d : Checker). record c {
+          engines = c1.engines;
+          latest = d.latest;
+          calls = c1.calls;
+          reached = c'.reached;
+          left = d.left;
+        }) (sym same))
         (knows.row.prefix, may) (subst (λ (p : Behind). AreTied c.conn p c1.engines.items c.attached c1.calls) behind asked.ties)
         (subst (λ (w : Happening). AllZip (LetsAll u (w ∷ past)) (seqs_of c1.calls) c'.reached.items) (sym is)
         (subst (λ (rs : List ℕ). AllZip (LetsAll u (Redacted seq name version ∷ past)) (seqs_of c1.calls) rs) (sym reached) again))

@@ -46,7 +46,8 @@ knows-away T past method number addr c knows may law =
       left = subst (λ (l : Left). LeavesOpen (what ∷ past) l) (sym nothing) (λ none. none, λ none. none);
       of_table = knows.of_table;
       attachments = omega (arith, knows.attachments);
-      versions = all-on (λ (e : EngineParts). e.entry.version ≤ length past + 1) (λ (e : EngineParts). e.entry.version ≤ length (what ∷ past) + 1) c.engines.items (λ e le. omega (arith, le)) knows.versions;
+      versions = all-on (λ (e : EngineParts). e.entry.version ≤ length past + 1) (λ (e : EngineParts). e.entry.version
+          ≤ length (what ∷ past) + 1) c.engines.items (λ e le. omega (arith, le)) knows.versions;
       room = record { few_engines = knows.room.few_engines; engines = knows.room.engines; latest = knows.room.latest; calls = knows.room.calls };
       untold = knows.untold;
     }

@@ -48,7 +48,14 @@ need = record {
   rules = record {
     name = codes "need";
     allow = true;
-    about = OfCalls (record { method = 0; sort = Request; test = Some (record { path = record { way = []; number = 2; kind = Uint64; label = Plain }; condition = Compares Equal (Number 9) }) });
+    about = OfCalls (record {
+      method = 0;
+      sort = Request;
+      test = Some (record {
+        path = record { way = []; number = 2; kind = Uint64; label = Plain };
+        condition = Compares Equal (Number 9);
+      });
+    });
   } ∷ [];
   allow = false;
 }

@@ -78,7 +78,8 @@ module _ (T : Table) (past : Behind) (what : Happening) (c c' : Checker) (seq pl
     left = fate.settles;
     of_table = subst (λ (cs : List StandingCall). All (λ s. IsCallOf T s.call) cs) (sym calls) (all-remove (λ (s : StandingCall). IsCallOf T s.call) c.calls place knows.of_table);
     attachments = omega (arith, knows.attachments);
-    versions = all-on (λ (e : EngineParts). e.entry.version ≤ length past + 1) (λ (e : EngineParts). e.entry.version ≤ length (what ∷ past) + 1) c.engines.items (λ e le. omega (arith, le)) knows.versions;
+    versions = all-on (λ (e : EngineParts). e.entry.version ≤ length past + 1) (λ (e : EngineParts). e.entry.version
+        ≤ length (what ∷ past) + 1) c.engines.items (λ e le. omega (arith, le)) knows.versions;
     room = record {
       few_engines = knows.room.few_engines;
       engines = knows.room.engines;
@@ -145,21 +146,31 @@ module _ (T : Table) (past : Behind) (now : ℕ) (c c' : Checker) (knows : Knows
       prefix = (knows.row.prefix, may);
       ties = subst (λ (es : List EngineParts). AreTied c.conn (Moment now ∷ past) es c.attached c.calls) (sym items)
           (shows (under T c) past c.engines.items c.attached c.calls now knows.row.prefix knows.row.ties may.chain_kept);
-      reaches = zip-on (LetsAll (under T c) past) (LetsAll (under T c) (Moment now ∷ past)) (seqs_of c.calls) c.reached.items (apart-lets (under T c) past (Moment now) (moment-apart past now)) knows.row.reaches;
+      reaches = zip-on (LetsAll (under T c) past) (LetsAll (under T c) (Moment now ∷ past))
+          (seqs_of c.calls) c.reached.items (apart-lets (under T c) past (Moment now) (moment-apart past now))
+          knows.row.reaches;
       shows = refl;
     };
     numbers = knows.numbers;
     rising = knows.rising;
     taken = knows.taken;
-    latest = apart-latest past (Moment now) (moment-apart past now) c'.engines.items c.latest.items (latest-same past c.engines.items c'.engines.items c.latest.items same-entries knows.latest);
+    latest = apart-latest past (Moment now) (moment-apart past now) c'.engines.items c.latest.items
+        (latest-same past c.engines.items c'.engines.items c.latest.items same-entries knows.latest);
     failed = knows.failed;
     left = subst (λ (l : Left). LeavesOpen (Moment now ∷ past) l) (sym is-nothing) (λ none. none, λ none. none);
     of_table = knows.of_table;
     attachments = omega (arith, knows.attachments);
     versions = entries-same-all (λ (e : Entry). e.version ≤ length (Moment now ∷ past) + 1) c.engines.items c'.engines.items same-entries
-        (all-on (λ (e : EngineParts). e.entry.version ≤ length past + 1) (λ (e : EngineParts). e.entry.version ≤ length (Moment now ∷ past) + 1) c.engines.items (λ e le. omega (arith, le)) knows.versions);
+        (all-on (λ (e : EngineParts). e.entry.version ≤ length past + 1) (λ (e : EngineParts). e.entry.version
+        ≤ length (Moment now ∷ past) + 1) c.engines.items (λ e le. omega (arith, le)) knows.versions);
     room = record {
-      few_engines = omega (arith, knows.room.few_engines, ap (λ (es : List Entry). length es) same-entries, length-map c'.engines.items (λ (e : EngineParts). e.entry), length-map c.engines.items (λ (e : EngineParts). e.entry));
+      few_engines = omega (
+        arith,
+        knows.room.few_engines,
+        ap (λ (es : List Entry). length es) same-entries,
+        length-map c'.engines.items (λ (e : EngineParts). e.entry),
+        length-map c.engines.items (λ (e : EngineParts). e.entry),
+      );
       engines = omega (arith, knows.room.engines, capacity);
       latest = knows.room.latest;
       calls = knows.room.calls;
@@ -173,7 +184,8 @@ module _ (T : Table) (past : Behind) (now : ℕ) (c c' : Checker) (knows : Knows
 
 -- ---- fates
 
-pub sent-fate : ((conn : ℕ) (past : Behind) (es : List EngineParts) (n : ℕ) (calls : List StandingCall) (seq bytes : ℕ) → AreTied conn past es n calls → AreTied conn (Sent seq bytes ∷ past) es n calls)
+pub sent-fate : ((conn : ℕ) (past : Behind) (es : List EngineParts) (n : ℕ) (calls : List StandingCall)
+    (seq bytes : ℕ) → AreTied conn past es n calls → AreTied conn (Sent seq bytes ∷ past) es n calls)
     → ((past : Behind) (seq bytes : ℕ) → standing (Sent seq bytes ∷ past) ≡ filter (λ call. not (seq == call.seq)) (standing past))
     → (past : Behind) (seq bytes : ℕ) → IsFate past seq (Sent seq bytes)
 sent-fate ties stands past seq bytes = record {
@@ -185,7 +197,8 @@ sent-fate ties stands past seq bytes = record {
   settles = (λ none. none, λ none. none);
 }
 
-pub refused-fate : ((conn : ℕ) (past : Behind) (es : List EngineParts) (n : ℕ) (calls : List StandingCall) (seq : ℕ) (why : Cause) → AreTied conn past es n calls → AreTied conn (Refused seq why ∷ past) es n calls)
+pub refused-fate : ((conn : ℕ) (past : Behind) (es : List EngineParts) (n : ℕ) (calls : List StandingCall) (seq : ℕ)
+    (why : Cause) → AreTied conn past es n calls → AreTied conn (Refused seq why ∷ past) es n calls)
     → ((past : Behind) (seq : ℕ) (why : Cause) → standing (Refused seq why ∷ past) ≡ filter (λ call. not (seq == call.seq)) (standing past))
     → (past : Behind) (seq : ℕ) (why : Cause) → IsFate past seq (Refused seq why)
 refused-fate ties stands past seq why = record {

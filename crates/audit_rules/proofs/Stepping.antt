@@ -1,5 +1,7 @@
 -- A step of an operator: whether the chain refuses it, and what it makes of what a checker knows.
-use Rattle.std.proofs.Common.{◌≡◌, ◌≢◌, ℕ, ◌+◌, ◌<◌, ◌≤◌, min, zero, suc, Bool, true, false, cond, not, if◌then◌else◌, List, [], ◌∷◌, ◌++◌, length, map, filter, take, drop, set, get_or, insert, remove, slice_get, Contains, Option, Some, None, is_some, refl, sym, ap, ◌∙◌, subst, arith}
+use Rattle.std.proofs.Common.{◌≡◌, ◌≢◌, ℕ, ◌+◌, ◌<◌, ◌≤◌, min, zero, suc, Bool, true, false, cond, not, if◌then◌else◌}
+use Rattle.std.proofs.Common.{List, [], ◌∷◌, ◌++◌, length, map, filter, take, drop, set, get_or, insert, remove}
+use Rattle.std.proofs.Common.{slice_get, Contains, Option, Some, None, is_some, refl, sym, ap, ◌∙◌, subst, arith}
 use Rattle.std.specs.Prelude.{All, vec_capacity}
 use Rattle.std.specs.List.{AllZip, position}
 use Rattle.std.specs.VecDeque.{deque_capacity}
@@ -8,7 +10,9 @@ use Rattle.std.proofs.lemmas.List.Elements.{All-append, All-cons, All-drop, All-
 use Rattle.mrpc_table.specs.Valid.{AreDistinct}
 use Rattle.mrpc_table.specs.declared.table.Table.{Table}
 use Rattle.engine_core.specs.Answers.{nothing}
-use Rattle.engine_core.specs.Chains.{Chain, Changes, Entry, IsAgainst, IsChain, Refusal, Refuses, changed, is_named, names_of, new_entry, upgraded, no_such, taken, no_place, full, other_kind, detaches_none, upgrades_none, is_taken, is_past, is_full, is_other}
+use Rattle.engine_core.specs.Chains.{Chain, Changes, Entry, IsAgainst, IsChain, Refusal, Refuses, changed, is_named}
+use Rattle.engine_core.specs.Chains.{names_of, new_entry, upgraded, no_such, taken, no_place, full, other_kind}
+use Rattle.engine_core.specs.Chains.{detaches_none, upgrades_none, is_taken, is_past, is_full, is_other}
 use Rattle.engine_core.specs.Engines.{EngineParts}
 use Rattle.engine_core.specs.Marks.{IsTrueFor, StandingCall}
 use Rattle.engine_core.specs.Policies.{first_level, is_same_kind, level_under}
@@ -99,14 +103,18 @@ module _ (past : Behind) (law : UnlessRefused) (is_chain : IsChain (chain past))
       (λ r refuses. free-attach (chain past).entries at name label policy r none within few refuses.against)
 
   pub detach-keeps : (name : List ℕ) (p : ℕ) (e : Entry) → slice_get (chain past).entries p ≡ Some e → e.name ≡ name → KeepsChain past (Op (Detach name))
-  detach-keeps name p e is named = law (chain past) (Detach name) is_chain (λ r refuses. free-detach (chain past).entries name r (has-name (chain past).entries p e name is named) refuses.against)
+  detach-keeps name p e is named =
+      law (chain past) (Detach name) is_chain
+      (λ r refuses. free-detach (chain past).entries name r (has-name (chain past).entries p e name is named)
+      refuses.against)
 
   pub upgrade-keeps : (name label : List ℕ) (policy : Policy) (p : ℕ) (e : Entry) → slice_get (chain past).entries p ≡ Some e → e.name ≡ name
       → is_same_kind e.policy policy ≡ true → KeepsChain past (Op (Upgrade name label policy))
   upgrade-keeps name label policy p e is named kind = law (chain past) (Upgrade name label policy) is_chain
       (λ r refuses. free-upgrade (chain past).entries name label policy r p e is_chain.names is named kind refuses.against)
 
-pub not-attached-twice : (past : Behind) (at : ℕ) (name label : List ℕ) (policy : Policy) → Contains (names_of (chain past).entries) name → KeepsChain past (Op (Attach at name label policy)) → ⊥
+pub not-attached-twice : (past : Behind) (at : ℕ) (name label : List ℕ) (policy : Policy)
+    → Contains (names_of (chain past).entries) name → KeepsChain past (Op (Attach at name label policy)) → ⊥
 not-attached-twice past at name label policy has keeps = keeps.free (taken name) (is_taken at name label policy refl has refl)
 
 pub not-past-end : (past : Behind) (at : ℕ) (name label : List ℕ) (policy : Policy) → length (chain past).entries < at → KeepsChain past (Op (Attach at name label policy)) → ⊥
@@ -118,7 +126,8 @@ not-to-full past at name label policy many keeps = keeps.free (full (length (cha
 pub not-detached : (past : Behind) (name : List ℕ) → (Contains (names_of (chain past).entries) name → ⊥) → KeepsChain past (Op (Detach name)) → ⊥
 not-detached past name none keeps = keeps.free (no_such name) (detaches_none name refl none refl)
 
-pub not-upgraded : (past : Behind) (name label : List ℕ) (policy : Policy) → (Contains (names_of (chain past).entries) name → ⊥) → KeepsChain past (Op (Upgrade name label policy)) → ⊥
+pub not-upgraded : (past : Behind) (name label : List ℕ) (policy : Policy)
+    → (Contains (names_of (chain past).entries) name → ⊥) → KeepsChain past (Op (Upgrade name label policy)) → ⊥
 not-upgraded past name label policy none keeps = keeps.free (no_such name) (upgrades_none name label policy refl none refl)
 
 pub not-of-kind : (past : Behind) (name label : List ℕ) (policy : Policy) (p : ℕ) (e : Entry) → slice_get (chain past).entries p ≡ Some e → e.name ≡ name
@@ -210,7 +219,9 @@ attach-notes past at name label policy e other seq = ap (λ (b : Bool). cond b n
 
 attach-latest : (past : Behind) (at : ℕ) (name label : List ℕ) (policy : Policy) (e : EngineParts) (n : ℕ) → e.entry.name ≢ name → IsLatest past e n
     → IsLatest (Op (Attach at name label policy) ∷ past) e n
-attach-latest past at name label policy e n other is = is ∙ sym (ap (λ (b : Bool). greatest (cond b [] (noted_calls e.entry.name past))) (bytes-other name e.entry.name (λ same. other (sym same))))
+attach-latest past at name label policy e n other is =
+    is ∙ sym (ap (λ (b : Bool). greatest (cond b [] (noted_calls e.entry.name past)))
+    (bytes-other name e.entry.name (λ same. other (sym same))))
 
 attach-first : (past : Behind) (at : ℕ) (name label : List ℕ) (policy : Policy) (e : EngineParts) → e.entry.name ≡ name → IsLatest (Op (Attach at name label policy) ∷ past) e 0
 attach-first past at name label policy e same = sym (ap (λ (b : Bool). greatest (cond b [] (noted_calls e.entry.name past))) (bytes-same name e.entry.name (sym same)))
@@ -256,17 +267,21 @@ module _ (T : Table) (past : Behind) (c c' : Checker) (knows : Knows T past c) w
       knows-operated T past step at c c' knows may rest tied reached
       (take-insert (chain past).entries at (new_entry name ((chain past).attached + 1) policy) (omega (arith, many-known)))
       (All-take (KeepsNotes past step) at (chain past).entries
-      (all-on (λ (x : Entry). x.name ≢ name) (KeepsNotes past step) (chain past).entries (λ x other. attach-notes past at name label policy x other) (none-entries (chain past).entries name (none-known name none))))
+      (all-on (λ (x : Entry). x.name ≢ name) (KeepsNotes past step) (chain past).entries
+      (λ x other. attach-notes past at name label policy x other)
+      (none-entries (chain past).entries name (none-known name none))))
       (subst (λ (es : List EngineParts). AllZip (IsLatest (Op step ∷ past)) es c'.latest.items) (sym engines)
       (subst (λ (ls : List ℕ). AllZip (IsLatest (Op step ∷ past)) (insert c.engines.items at e) ls) (sym latest)
       (zip-insert (IsLatest (Op step ∷ past)) c.engines.items c.latest.items at e 0
-      (zip-both (λ (x : EngineParts). x.entry.name ≢ name) (IsLatest past) (IsLatest (Op step ∷ past)) c.engines.items c.latest.items (λ x n other. attach-latest past at name label policy x n other)
+      (zip-both (λ (x : EngineParts). x.entry.name ≢ name) (IsLatest past) (IsLatest (Op step ∷ past)) c.engines.items
+      c.latest.items (λ x n other. attach-latest past at name label policy x n other)
       (none-named c.engines.items name none) knows.latest)
       (attach-first past at name label policy e named))))
       (omega (arith, attached, knows.attachments))
       (subst (λ (es : List EngineParts). All (λ x. x.entry.version ≤ length (Op step ∷ past) + 1) es) (sym engines)
       (all-insert (λ (x : EngineParts). x.entry.version ≤ length (Op step ∷ past) + 1) c.engines.items at e
-      (all-on (λ (x : EngineParts). x.entry.version ≤ length past + 1) (λ (x : EngineParts). x.entry.version ≤ length (Op step ∷ past) + 1) c.engines.items (λ x le. omega (arith, le)) knows.versions)
+      (all-on (λ (x : EngineParts). x.entry.version ≤ length past + 1) (λ (x : EngineParts). x.entry.version
+      ≤ length (Op step ∷ past) + 1) c.engines.items (λ x le. omega (arith, le)) knows.versions)
       (omega (arith, ap (λ (x : Entry). x.version) entry))))
       (record {
         few_engines = omega (arith, ap (λ (es : List EngineParts). length es) engines, length-insert c.engines.items at e);
@@ -321,7 +336,8 @@ upgraded-named name policy (x ∷ xs) (suc p) e apart is same =
     let rest = upgraded-named name policy xs p e apart.1 is same in
     rw other (ap (λ (ys : List Entry). x ∷ ys) rest)
 
-renamed-latest : (past : Behind) (es : List EngineParts) (ls : List ℕ) (p : ℕ) (e e' : EngineParts) → slice_get es p ≡ Some e → e'.entry.name ≡ e.entry.name → AllZip (IsLatest past) es ls
+renamed-latest : (past : Behind) (es : List EngineParts) (ls : List ℕ) (p : ℕ) (e e' : EngineParts)
+    → slice_get es p ≡ Some e → e'.entry.name ≡ e.entry.name → AllZip (IsLatest past) es ls
     → AllZip (IsLatest past) (set es p e') ls
 renamed-latest past [] ls p e e' is same all = absurd cc
 renamed-latest past (x ∷ es) [] p e e' is same all = absurd all
@@ -353,7 +369,8 @@ module _ (T : Table) (past : Behind) (c c' : Checker) (knows : Knows T past c) (
       (omega (arith, attached, knows.attachments))
       (subst (λ (es : List EngineParts). All (λ x. x.entry.version ≤ length (Op step ∷ past) + 1) es) (sym engines)
       (all-remove (λ (x : EngineParts). x.entry.version ≤ length (Op step ∷ past) + 1) c.engines.items at
-      (all-on (λ (x : EngineParts). x.entry.version ≤ length past + 1) (λ (x : EngineParts). x.entry.version ≤ length (Op step ∷ past) + 1) c.engines.items (λ x le. omega (arith, le)) knows.versions)))
+      (all-on (λ (x : EngineParts). x.entry.version ≤ length past + 1) (λ (x : EngineParts). x.entry.version
+      ≤ length (Op step ∷ past) + 1) c.engines.items (λ x le. omega (arith, le)) knows.versions)))
       (record {
         few_engines = omega (arith, knows.room.few_engines, ap (λ (es : List EngineParts). length es) engines, length-removed c.engines.items at);
         engines = omega (arith, knows.room.engines, room1);
@@ -362,7 +379,8 @@ module _ (T : Table) (past : Behind) (c c' : Checker) (knows : Knows T past c) (
       })
 
   pub knows-upgraded : (label : List ℕ) (policy : Policy) (e' : EngineParts) → May (under T c) past (Op (Upgrade name label policy)) → UpgradesOn
-      → c'.engines.items ≡ set c.engines.items at e' → c'.latest.items ≡ c.latest.items → e'.entry ≡ upgraded e.entry policy → e'.level ≡ level_under e.entry.policy policy e.level
+      → c'.engines.items ≡ set c.engines.items at e' → c'.latest.items ≡ c.latest.items
+      → e'.entry ≡ upgraded e.entry policy → e'.level ≡ level_under e.entry.policy policy e.level
       → e'.last ≡ e.last → ((s : StandingCall) → IsTrueFor e.entry s → IsTrueFor e'.entry s) → Knows T (Op (Upgrade name label policy) ∷ past) c'
   knows-upgraded label policy e' may law engines latest entry level last stays =
       let step : Step = Upgrade name label policy in
@@ -372,7 +390,9 @@ module _ (T : Table) (past : Behind) (c c' : Checker) (knows : Knows T past c) (
       (law (under T c) past c.engines.items c.attached c.calls name label policy at e e' knows.row.prefix knows.row.ties there named entry level last stays)) in
       let old : e.entry.version ≤ length past + 1 = All-at (λ (x : EngineParts). x.entry.version ≤ length past + 1) c.engines.items at e knows.versions there in
       knows-operated T past step at c c' knows may rest tied reached
-      (ap (λ (es : List Entry). take at es) (upgraded-named name policy (chain past).entries at e.entry distinct there_entry named) ∙ take-set (chain past).entries at (upgraded e.entry policy))
+      (ap (λ (es : List Entry). take at es)
+      (upgraded-named name policy (chain past).entries at e.entry distinct there_entry named)
+      ∙ take-set (chain past).entries at (upgraded e.entry policy))
       (all-given (KeepsNotes past step) (take at (chain past).entries) (λ x seq. refl))
       (subst (λ (es : List EngineParts). AllZip (IsLatest (Op step ∷ past)) es c'.latest.items) (sym engines)
       (subst (λ (ls : List ℕ). AllZip (IsLatest (Op step ∷ past)) (set c.engines.items at e') ls) (sym latest)
@@ -381,7 +401,8 @@ module _ (T : Table) (past : Behind) (c c' : Checker) (knows : Knows T past c) (
       (omega (arith, attached, knows.attachments))
       (subst (λ (es : List EngineParts). All (λ x. x.entry.version ≤ length (Op step ∷ past) + 1) es) (sym engines)
       (All-set (λ (x : EngineParts). x.entry.version ≤ length (Op step ∷ past) + 1) c.engines.items at e' (omega (arith, old, ap (λ (x : Entry). x.version) entry))
-      (all-on (λ (x : EngineParts). x.entry.version ≤ length past + 1) (λ (x : EngineParts). x.entry.version ≤ length (Op step ∷ past) + 1) c.engines.items (λ x le. omega (arith, le)) knows.versions)))
+      (all-on (λ (x : EngineParts). x.entry.version ≤ length past + 1) (λ (x : EngineParts). x.entry.version
+      ≤ length (Op step ∷ past) + 1) c.engines.items (λ x le. omega (arith, le)) knows.versions)))
       (record {
         few_engines = omega (arith, knows.room.few_engines, ap (λ (es : List EngineParts). length es) engines, length-put c.engines.items at e');
         engines = omega (arith, knows.room.engines, room1);

@@ -1,5 +1,6 @@
 -- What a checker knows once a call is taken, and once a malformed one is refused.
-use Rattle.std.proofs.Common.{◌≡◌, ◌≢◌, ℕ, ◌+◌, ◌<◌, ◌≤◌, List, [], ◌∷◌, ◌++◌, length, map, remove, take, slice_get, refl, sym, ap, ◌∙◌, subst, arith}
+use Rattle.std.proofs.Common.{◌≡◌, ◌≢◌, ℕ, ◌+◌, ◌<◌, ◌≤◌, List, [], ◌∷◌, ◌++◌, length, map, remove, take, slice_get}
+use Rattle.std.proofs.Common.{refl, sym, ap, ◌∙◌, subst, arith}
 use Rattle.std.specs.Prelude.{All, Some}
 use Rattle.std.specs.List.{AllZip}
 use Rattle.std.specs.VecDeque.{deque_capacity}
@@ -32,9 +33,12 @@ use Rattle.audit_rules.proofs.States.{IsFate, at-once, not-left}
 
 rising-under : (below top seq : ℕ) (calls : List StandingCall) → top < seq → IsRising below top (seqs_of calls) → IsNumberApart seq calls
 rising-under below top seq [] less rising = All-nil (λ s. s.call.seq ≢ seq)
-rising-under below top seq (s ∷ calls) less rising = All-cons (λ s. s.call.seq ≢ seq) s calls (λ same. omega (arith, rising.1, same)) (rising-under s.call.seq top seq calls less rising.2)
+rising-under below top seq (s ∷ calls) less rising =
+    All-cons (λ s. s.call.seq ≢ seq) s calls (λ same. omega (arith, rising.1, same))
+    (rising-under s.call.seq top seq calls less rising.2)
 
-zip-under : (R R' : ℕ → ℕ → Type 0) (below top : ℕ) (ns rs : List ℕ) → IsRising below top ns → ((n r : ℕ) → n ≤ top → R n r → R' n r) → AllZip R ns rs → AllZip R' ns rs
+zip-under : (R R' : ℕ → ℕ → Type 0) (below top : ℕ) (ns rs : List ℕ) → IsRising below top ns
+    → ((n r : ℕ) → n ≤ top → R n r → R' n r) → AllZip R ns rs → AllZip R' ns rs
 zip-under R R' below top [] [] rising on all = tt
 zip-under R R' below top [] (r ∷ rs) rising on all = absurd all
 zip-under R R' below top (n ∷ ns) [] rising on all = absurd all
@@ -100,12 +104,15 @@ module _ (T : Table) (past : Behind) (call : Taken) (c : Checker) (knows : Knows
     took = record c { calls = c'.calls; reached = c'.reached; taken = call.seq }
 
     pub knows-took : (law : TakesOn) → (HasNoCopy call.copy → ⊥) → c' ≡ record c { calls = c'.calls; reached = c'.reached; taken = call.seq } → c'.calls ≡ c.calls ++ s ∷ []
-        → c'.reached.items ≡ c.reached.items ++ 0 ∷ [] → deque_capacity c'.reached ≡ deque_capacity c.reached → copied c.conn call call.copy ≡ Some s.call → s.marks ≡ [] → s.call.seq ≡ call.seq
+        → c'.reached.items ≡ c.reached.items ++ 0 ∷ [] → deque_capacity c'.reached ≡ deque_capacity c.reached
+        → copied c.conn call call.copy ≡ Some s.call → s.marks ≡ [] → s.call.seq ≡ call.seq
         → IsCallOf T s.call → Knows T (Took call ∷ past) c'
     unfolding took
     knows-took law has rest calls reached capacity copy marks number of_table =
         let numbers : seqs_of c'.calls ≡ seqs_of c.calls ++ call.seq ∷ [] =
-        ap (λ (cs : List StandingCall). seqs_of cs) calls ∙ (map-append (λ (s : StandingCall). s.call.seq) c.calls (s ∷ []) ∙ ap (λ (n : ℕ). seqs_of c.calls ++ n ∷ []) number) in
+        ap (λ (cs : List StandingCall). seqs_of cs) calls
+        ∙ (map-append (λ (s : StandingCall). s.call.seq) c.calls (s ∷ [])
+        ∙ ap (λ (n : ℕ). seqs_of c.calls ++ n ∷ []) number) in
         let to : Knows T (Took call ∷ past) took = record {
           row = record {
             prefix = (knows.row.prefix, may);
@@ -123,9 +130,13 @@ module _ (T : Table) (past : Behind) (call : Taken) (c : Checker) (knows : Knows
           failed = knows.failed;
           left = subst (λ (l : Left). LeavesOpen (Took call ∷ past) l) (sym nothing) (has, λ none. none);
           of_table = subst (λ (cs : List StandingCall). All (λ s. IsCallOf T s.call) cs) (sym calls)
-              (All-append (λ (s : StandingCall). IsCallOf T s.call) c.calls (s ∷ []) knows.of_table (All-cons (λ (s : StandingCall). IsCallOf T s.call) s [] of_table (All-nil (λ (s : StandingCall). IsCallOf T s.call))));
+              (All-append (λ (s : StandingCall). IsCallOf T s.call) c.calls (s ∷ []) knows.of_table
+              (All-cons (λ (s : StandingCall). IsCallOf T s.call) s [] of_table
+              (All-nil (λ (s : StandingCall). IsCallOf T s.call))));
           attachments = omega (arith, knows.attachments);
-          versions = all-on (λ (e : EngineParts). e.entry.version ≤ length past + 1) (λ (e : EngineParts). e.entry.version ≤ length (Took call ∷ past) + 1) c.engines.items (λ e le. omega (arith, le)) knows.versions;
+          versions = all-on (λ (e : EngineParts). e.entry.version ≤ length past + 1)
+              (λ (e : EngineParts). e.entry.version ≤ length (Took call ∷ past) + 1) c.engines.items
+              (λ e le. omega (arith, le)) knows.versions;
           room = record { few_engines = knows.room.few_engines; engines = knows.room.engines; latest = knows.room.latest; calls = omega (arith, knows.room.calls, capacity) };
           untold = knows.untold;
         } in
@@ -147,7 +158,8 @@ module _ (T : Table) (past : Behind) (call : Taken) (c : Checker) (knows : Knows
     left = (call, past, refl, none, refl);
     of_table = knows.of_table;
     attachments = omega (arith, knows.attachments);
-    versions = all-on (λ (e : EngineParts). e.entry.version ≤ length past + 1) (λ (e : EngineParts). e.entry.version ≤ length (Took call ∷ past) + 1) c.engines.items (λ e le. omega (arith, le)) knows.versions;
+    versions = all-on (λ (e : EngineParts). e.entry.version ≤ length past + 1) (λ (e : EngineParts). e.entry.version
+        ≤ length (Took call ∷ past) + 1) c.engines.items (λ e le. omega (arith, le)) knows.versions;
     room = record { few_engines = knows.room.few_engines; engines = knows.room.engines; latest = knows.room.latest; calls = knows.room.calls };
     untold = knows.untold;
   }
@@ -173,7 +185,8 @@ waits-malformed past (Waits s) seq opened is =
 waits-malformed past (Over s name ticket cap) seq opened is =
     absurd (subst (λ (p : Behind). RefusesMalformed p (Refused seq cause.Malformed)) opened.2 is)
 
-pub knows-malformed : (T : Table) (past : Behind) (seq : ℕ) (c : Checker) → Knows T past c → May (under T c) past (Refused seq cause.Malformed) → IsFate past seq (Refused seq cause.Malformed)
+pub knows-malformed : (T : Table) (past : Behind) (seq : ℕ) (c : Checker) → Knows T past c
+    → May (under T c) past (Refused seq cause.Malformed) → IsFate past seq (Refused seq cause.Malformed)
     → Knows T (Refused seq cause.Malformed ∷ past) (record c { left = Nothing })
 knows-malformed T past seq c knows may fate =
     let what : Happening = Refused seq cause.Malformed in
@@ -199,7 +212,8 @@ knows-malformed T past seq c knows may fate =
       left = (λ none. none, λ none. none);
       of_table = knows.of_table;
       attachments = omega (arith, knows.attachments);
-      versions = all-on (λ (e : EngineParts). e.entry.version ≤ length past + 1) (λ (e : EngineParts). e.entry.version ≤ length (what ∷ past) + 1) c.engines.items (λ e le. omega (arith, le)) knows.versions;
+      versions = all-on (λ (e : EngineParts). e.entry.version ≤ length past + 1) (λ (e : EngineParts). e.entry.version
+          ≤ length (what ∷ past) + 1) c.engines.items (λ e le. omega (arith, le)) knows.versions;
       room = record { few_engines = knows.room.few_engines; engines = knows.room.engines; latest = knows.room.latest; calls = knows.room.calls };
       untold = knows.untold;
     }

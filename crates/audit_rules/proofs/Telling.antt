@@ -1,5 +1,6 @@
 -- The lines of the calls that stand.
-use Rattle.std.proofs.Common.{◌≡◌, ◌≢◌, ℕ, ◌+◌, ◌<◌, ◌≤◌, zero, suc, List, [], ◌∷◌, ◌++◌, length, map, slice_get, refl, sym, ap, ◌∙◌, subst, arith}
+use Rattle.std.proofs.Common.{◌≡◌, ◌≢◌, ℕ, ◌+◌, ◌<◌, ◌≤◌, zero, suc, List, [], ◌∷◌, ◌++◌, length, map, slice_get}
+use Rattle.std.proofs.Common.{refl, sym, ap, ◌∙◌, subst, arith}
 use Rattle.std.specs.Prelude.{All, IfNone, IfSome, IsSomeAnd, Option, Some, None}
 use Rattle.std.proofs.lemmas.List.{length-append, length-map}
 use Rattle.std.proofs.lemmas.List.Elements.{All-cons, All-head, All-nil, All-tail}
@@ -129,10 +130,12 @@ module _ (u : Under) (past : Behind) (n p j seq : ℕ) (es : List EngineParts) (
   )
 
 pair-same : (h k : ℕ × ℕ) → h.0 ≡ k.0 → h.1 ≡ k.1 → Some h ≡ Some k
-pair-same h k first second = ap {B = Option (ℕ × ℕ)} (λ (x : ℕ). Some (let p : ℕ × ℕ = (x, h.1) in p)) first ∙ ap {B = Option (ℕ × ℕ)} (λ (y : ℕ). Some (let p : ℕ × ℕ = (k.0, y) in p)) second
+pair-same h k first second = ap {B = Option (ℕ × ℕ)} (λ (x : ℕ). Some (let p : ℕ × ℕ = (x, h.1) in p)) first
+    ∙ ap {B = Option (ℕ × ℕ)} (λ (y : ℕ). Some (let p : ℕ × ℕ = (k.0, y) in p)) second
 
 -- a line tells one thing
-pub same-held : OneAnswer → (u : Under) (past : Behind) (ps : List ℕ) (call : Taken) (q : ℕ) (a b : Option (ℕ × ℕ)) → TellsHeld u past ps call q a → TellsHeld u past ps call q b → a ≡ b
+pub same-held : OneAnswer → (u : Under) (past : Behind) (ps : List ℕ) (call : Taken) (q : ℕ) (a b : Option (ℕ × ℕ))
+    → TellsHeld u past ps call q a → TellsHeld u past ps call q b → a ≡ b
 same-held one u past ps call q None None tells told = refl
 same-held one u past ps call q None (Some h) tells told = absurd (tells h.0 h.1 told.0 told.1)
 same-held one u past ps call q (Some h) None tells told = absurd (told h.0 h.1 tells.0 tells.1)

@@ -26,7 +26,9 @@ pub asked-turn : (u : Under) (past : Behind) (n : ℕ) (es : List EngineParts) (
 asked-turn u past n es calls reached seq name now place at es1 calls1 outcome es2 calls2 row distinct stands there first ties1 apart1 numbers1 entries1 lets w law =
     let its = found name at es first in
     let entry_there : slice_get (chain past).entries at ≡ Some its.engine.entry =
-    subst (λ (xs : List Entry). slice_get xs at ≡ Some its.engine.entry) (ap (λ (c : Chain). c.entries) row.ties.same_chain) (map-at (λ (e : EngineParts). e.entry) es at its.engine its.at) in
+    subst (λ (xs : List Entry). slice_get xs at ≡ Some its.engine.entry)
+    (ap (λ (c : Chain). c.entries) row.ties.same_chain)
+    (map-at (λ (e : EngineParts). e.entry) es at its.engine its.at) in
     let entry_turned : slice_get (map (λ (e : EngineParts). e.entry) es1) at ≡ Some w.engine.entry = map-at (λ (e : EngineParts). e.entry) es1 at w.engine w.is_engine in
     let entry_first : slice_get (map (λ (e : EngineParts). e.entry) es1) at ≡ Some its.engine.entry = rw entries1 (map-at (λ (e : EngineParts). e.entry) es at its.engine its.at) in
     let same : w.engine.entry ≡ its.engine.entry = cc (entry_turned, entry_first) in
@@ -42,7 +44,8 @@ asked-turn u past n es calls reached seq name now place at es1 calls1 outcome es
       gives = subst (λ (e : Entry). Gives u past e seq (answer_of outcome)) same
           (turn-gives es1 calls1 at place now outcome es2 calls2 w u past n seq ties1 row.shows there1);
       ties = subst (λ (e : Entry). AreTied u.conn (worked e seq outcome past) es2 n calls2) same
-          (subst (λ (s : ℕ). AreTied u.conn (worked w.engine.entry s outcome past) es2 n calls2) number (law u past es1 n calls1 at place now outcome es2 calls2 row.prefix ties1 apart1 w));
+          (subst (λ (s : ℕ). AreTied u.conn (worked w.engine.entry s outcome past) es2 n calls2) number
+          (law u past es1 n calls1 at place now outcome es2 calls2 row.prefix ties1 apart1 w));
       reaches = subst (λ (ns : List ℕ). AllZip (LetsAll u past) ns (set reached place at)) (sym numbers2)
           (zip-set (LetsAll u past) (seqs_of calls) reached place seq at row.reaches there lets);
       within =

@@ -1,5 +1,6 @@
 -- What a checker knows behind a turn of an entry.
-use Rattle.std.proofs.Common.{◌≡◌, ◌≢◌, ℕ, ◌+◌, ◌<◌, ◌≤◌, max, zero, suc, Bool, true, false, cond, List, [], ◌∷◌, length, map, take, set, get_or, slice_get, refl, sym, ap, ◌∙◌, subst, arith}
+use Rattle.std.proofs.Common.{◌≡◌, ◌≢◌, ℕ, ◌+◌, ◌<◌, ◌≤◌, max, zero, suc, Bool, true, false, cond, List, [], ◌∷◌}
+use Rattle.std.proofs.Common.{length, map, take, set, get_or, slice_get, refl, sym, ap, ◌∙◌, subst, arith}
 use Rattle.std.specs.Prelude.{All, Contains, Some}
 use Rattle.std.specs.List.{AllZip}
 use Rattle.std.specs.Str.{bytes_eq}
@@ -55,7 +56,8 @@ module _ (T : Table) (past past' : Behind) (c c' : Checker) (knows : Knows T pas
     of_table = of_table;
     attachments = omega (arith, knows.attachments);
     versions = entries-same-all (λ (e : Entry). e.version ≤ length past' + 1) c.engines.items c'.engines.items entries
-        (all-on (λ (e : EngineParts). e.entry.version ≤ length past + 1) (λ (e : EngineParts). e.entry.version ≤ length past' + 1) c.engines.items (λ e le. omega (arith, le)) knows.versions);
+        (all-on (λ (e : EngineParts). e.entry.version ≤ length past + 1) (λ (e : EngineParts). e.entry.version
+        ≤ length past' + 1) c.engines.items (λ e le. omega (arith, le)) knows.versions);
     room = record { few_engines = room.few_engines; engines = room.engines; latest = room.latest; calls = room.calls };
     untold = knows.untold;
   }
@@ -100,7 +102,8 @@ all-both : {X : Type 0} (P Q R : X → Type 0) (xs : List X) → ((x : X) → P 
 all-both P Q R [] on ps qs = All-nil R
 all-both P Q R (x ∷ xs) on ps qs = All-cons R x xs (on x (All-head P x xs ps) (All-head Q x xs qs)) (all-both P Q R xs on (All-tail P x xs ps) (All-tail Q x xs qs))
 
-pub zip-both : {X Y : Type 0} (P : X → Type 0) (R R' : X → Y → Type 0) (xs : List X) (ys : List Y) → ((x : X) (y : Y) → P x → R x y → R' x y) → All P xs → AllZip R xs ys → AllZip R' xs ys
+pub zip-both : {X Y : Type 0} (P : X → Type 0) (R R' : X → Y → Type 0) (xs : List X) (ys : List Y)
+    → ((x : X) (y : Y) → P x → R x y → R' x y) → All P xs → AllZip R xs ys → AllZip R' xs ys
 zip-both P R R' [] [] on ps all = tt
 zip-both P R R' [] (y ∷ ys) on ps all = absurd all
 zip-both P R R' (x ∷ xs) [] on ps all = absurd all
@@ -126,7 +129,7 @@ module _ (u : Under) (past : Behind) (name : List ℕ) (seq : ℕ) (what : Happe
       (all-on (Lets u past s) (Lets u (what ∷ past) s) (take r (chain past).entries)
       (λ e one. lets-on u past (what ∷ past) s e (n.forms u.conn s) (n.another e.name s (λ same. other (sym same))) one) lets)
 
-  own-lets : (at : ℕ) (e : Entry) → AreDistinct (names_of (chain past).entries) → slice_get (chain past).entries at ≡ Some e → e.name ≡ name
+  pub own-lets : (at : ℕ) (e : Entry) → AreDistinct (names_of (chain past).entries) → slice_get (chain past).entries at ≡ Some e → e.name ≡ name
       → LetsAll u past seq at → LetsAll u (what ∷ past) seq at
   own-lets at e apart is named lets = subst (λ (c : Chain). All (Lets u (what ∷ past) seq) (take at c.entries)) (sym n.chained)
       (all-both (λ x. x.name ≢ e.name) (Lets u past seq) (Lets u (what ∷ past) seq) (take at (chain past).entries)

@@ -39,8 +39,24 @@ pub(crate) fn seq_at(calls: &CallRow, place: usize) -> u32
     calls.at(place).call().seq
 }
 
-// Where the call of a number stands, by binary search.
+// Where the call of a number stands: mostly as far from the first one as its number says, else by binary search.
 pub(crate) fn place_of_call(calls: &CallRow, seq: u32) -> Option<usize>
+    requires { (top : ℕ) × IsRising 0 top (seqs_of calls.now) }
+    ensures found { IfSome result (λ place. slice_get (seqs_of calls.now) place ≡ Some seq) }
+    ensures none { IfNone result (Contains (seqs_of calls.now) seq → ⊥) }
+{
+    if calls.is_empty() {
+        return None;
+    }
+    let guess = seq.saturating_sub(seq_at(calls, 0)) as usize;
+    if guess < calls.len() && seq_at(calls, guess) == seq {
+        return Some(guess);
+    }
+    search_call(calls, seq)
+}
+
+// The same by binary search alone.
+fn search_call(calls: &CallRow, seq: u32) -> Option<usize>
     requires { (top : ℕ) × IsRising 0 top (seqs_of calls.now) }
     ensures found { IfSome result (λ place. slice_get (seqs_of calls.now) place ≡ Some seq) }
     ensures none { IfNone result (Contains (seqs_of calls.now) seq → ⊥) }

@@ -11,9 +11,11 @@
 #![tactic(auto)]
 
 mod ask;
+mod changes;
 mod checker;
 mod drawn;
 mod engines;
+mod fates;
 mod left;
 mod prepared;
 mod rule;

@@ -6,7 +6,8 @@ use Rattle.audit_rules.proofs.engines.lower.Goals as goal
 
 pub loop-place-preserved : goal.loop-place-preserved
 loop-place-preserved c =
-    let is : c.min.result ≡ min (get_or c.loop-place.numbers.items c.loop-place.place c.index-number.result.now) c.args.at = grind (arith, common_steps, c.min.ensures, c.index-number.ensures) in
+    let is : c.min.result ≡ min (get_or c.loop-place.numbers.items c.loop-place.place c.index-number.result.now)
+    c.args.at = grind (arith, common_steps, c.min.ensures, c.index-number.ensures) in
     record {
       changed = changed-one-more (λ n. min n c.args.at) c.loop-place.numbers.items c.args.numbers.now.items c.loop-place.place c.index-number.result.now c.min.result
           (omega arith) (omega arith) c.loop-place.invariant.changed c.loop-place.invariant.others is;

@@ -15,7 +15,9 @@ returns-in_default-clause-not_answered c = λ past knows m. c.in_default.ensures
 
 pub returns-then-ne-clause-not_answered : goal.returns-then-ne-clause-not_answered
 returns-then-ne-clause-not_answered c = λ past knows m.
-    (let is = answer-refused c.in-Some.asked.outcome c.args.why (met (under c.args.table.now c.args.self.now) past c.args.self.now.attached c.args.seq c.args.name.now c.in-Some.asked c.args.self.now.calls
+    (let is = answer-refused c.in-Some.asked.outcome c.args.why
+    (met (under c.args.table.now c.args.self.now) past c.args.self.now.attached c.args.seq c.args.name.now
+    c.in-Some.asked c.args.self.now.calls
     c.ask.new.self.engines.items c.ask.new.self.calls c.ask.new.self.reached.items (c.in-Some.ensures.asked past knows) c.one_answer.ensures.at_most _ (refusal-ticket c.args.why) m) in
     grind (arith, common_steps, is, c.ne.ensures, c.if-ne.true))
 
@@ -24,7 +26,9 @@ leave-requires-clause-call c = asked-place c.args.table.now c.requires.knowing.0
     c.ask.new.self.reached.items (c.in-Some.ensures.asked c.requires.knowing.0 c.requires.knowing.1) c.ask.ensures.numbers
 
 pub leave-requires-clause-place : goal.leave-requires-clause-place
-leave-requires-clause-place c = asked-reached c.args.table.now c.requires.knowing.0 c.args.self.now c.args.seq c.args.name.now c.in-Some.asked c.ask.new.self.engines.items c.ask.new.self.calls
+leave-requires-clause-place c =
+    asked-reached c.args.table.now c.requires.knowing.0 c.args.self.now c.args.seq c.args.name.now c.in-Some.asked
+    c.ask.new.self.engines.items c.ask.new.self.calls
     c.ask.new.self.reached.items (c.in-Some.ensures.asked c.requires.knowing.0 c.requires.knowing.1)
 
 pub returns-clause-knows : goal.returns-clause-knows
@@ -32,8 +36,16 @@ returns-clause-knows c =
     let is : c.in-Some.asked.outcome ≡ Refused Nothing c.args.why = grind (arith, common_steps, c.ne.ensures, c.if-ne.false) in
     λ past cause knows link may. (
     knows-refused c.args.table.now past c.args.self.now c.ask.new.self c.leave.new.self c.args.seq c.in-Some.asked.place cause
-    (ap (λ (d : Checker). under c.args.table.now d) c.ask.ensures.rest) (knows-asked c.args.table.now past c.args.self.now c.ask.new.self c.args.seq c.args.name.now c.in-Some.asked knows c.requires.free (c.in-Some.ensures.asked past knows) c.ask.ensures.rest c.ask.ensures.room c.ask.ensures.numbers c.ask.ensures.entries c.ask.ensures.of_table (c.chain_goes_on.ensures.is_chain (under c.args.table.now c.args.self.now) past knows.row.prefix).names c.args.why is) (subst IsFree (sym c.ask.ensures.left) c.requires.free)
-    (there1 c.args.table.now past c.args.self.now c.ask.new.self c.args.seq c.args.name.now c.in-Some.asked knows c.requires.free (c.in-Some.ensures.asked past knows) c.ask.ensures.rest c.ask.ensures.room c.ask.ensures.numbers c.ask.ensures.entries c.ask.ensures.of_table (c.chain_goes_on.ensures.is_chain (under c.args.table.now c.args.self.now) past knows.row.prefix).names)
+    (ap (λ (d : Checker). under c.args.table.now d) c.ask.ensures.rest)
+    (knows-asked c.args.table.now past c.args.self.now c.ask.new.self c.args.seq c.args.name.now c.in-Some.asked
+    knows c.requires.free (c.in-Some.ensures.asked past knows) c.ask.ensures.rest c.ask.ensures.room
+    c.ask.ensures.numbers c.ask.ensures.entries c.ask.ensures.of_table
+    (c.chain_goes_on.ensures.is_chain (under c.args.table.now c.args.self.now) past knows.row.prefix).names
+    c.args.why is) (subst IsFree (sym c.ask.ensures.left) c.requires.free)
+    (there1 c.args.table.now past c.args.self.now c.ask.new.self c.args.seq c.args.name.now c.in-Some.asked knows
+    c.requires.free (c.in-Some.ensures.asked past knows) c.ask.ensures.rest c.ask.ensures.room
+    c.ask.ensures.numbers c.ask.ensures.entries c.ask.ensures.of_table
+    (c.chain_goes_on.ensures.is_chain (under c.args.table.now c.args.self.now) past knows.row.prefix).names)
     may link c.leave.ensures.failed c.leave.ensures.refused)
 
 pub returns-clause-same : goal.returns-clause-same

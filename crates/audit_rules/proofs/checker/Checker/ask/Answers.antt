@@ -16,7 +16,9 @@ returns-clause-asked c = λ past knows.
     (let lent : length c.deref_mut.result.now ≡ length c.args.self.now.engines.items = ap (λ (es : List EngineParts). length es) c.deref_mut.ensures.value in
     let many : length c.args.self.now.engines.items ≡ c.args.self.now.engines.len = omega (arith, c.args.self.now.engines.ok.0) in
     let kept : length c.ask.new.engines ≡ length c.args.self.now.engines.items = omega (arith, lent, c.ask.auto.engines) in
-    rw (written-back c.args.self.now.engines.items c.ask.new.engines c.args.self.now.engines.len kept many) (c.ask.ensures.asked (under c.args.table.now c.args.self.now) past c.args.self.now.attached (rw c.deref_mut.ensures.value knows.row)
+    rw (written-back c.args.self.now.engines.items c.ask.new.engines c.args.self.now.engines.len kept many)
+    (c.ask.ensures.asked (under c.args.table.now c.args.self.now) past c.args.self.now.attached
+    (rw c.deref_mut.ensures.value knows.row)
     (known-standing c.args.table.now past c.args.self.now knows c.requires.free)))
 
 pub returns-clause-none : goal.returns-clause-none

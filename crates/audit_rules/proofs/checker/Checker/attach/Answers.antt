@@ -42,6 +42,8 @@ pub returns-clause-knows : goal.returns-clause-knows
 returns-clause-knows c = λ T past label knows may.
     (let none = subst (λ (es : List EngineParts). Contains (names_of (map (λ e. e.entry) es)) c.args.name → ⊥) c.deref.ensures.value
     (none-has c.args.name c.deref.result.now c.place_of.result c.place_of.ensures (sym c.is_some.ensures ∙ c.if-is_some.false)) in
-    knows-attached T past c.args.self.now _ knows c.args.at c.args.name label c.args.policy c.new-engine.result may c.ties_go_on.ensures.attaches refl refl c.put.ensures.items c.put-2.ensures.items
-    c.lower.ensures.items c.new-engine.ensures.entry c.new-engine.ensures.level c.new-engine.ensures.last none (omega arith) (omega (arith, knows.room.few_engines)) c.put.ensures.capacity c.put-2.ensures.capacity
+    knows-attached T past c.args.self.now _ knows c.args.at c.args.name label c.args.policy c.new-engine.result may
+    c.ties_go_on.ensures.attaches refl refl c.put.ensures.items c.put-2.ensures.items
+    c.lower.ensures.items c.new-engine.ensures.entry c.new-engine.ensures.level c.new-engine.ensures.last none
+    (omega arith) (omega (arith, knows.room.few_engines)) c.put.ensures.capacity c.put-2.ensures.capacity
     c.lower.ensures.capacity)

@@ -22,13 +22,19 @@ returns-in_default-clause-not_due c = λ past knows due. c.in_default.ensures.no
 
 pub returns-then-ne-clause-not_due : goal.returns-then-ne-clause-not_due
 returns-then-ne-clause-not_due c = λ past knows due.
-    (let is = answer-redacted c.in-Some.asked.outcome (met (under c.args.table.now c.args.self.now) past c.args.self.now.attached c.args.seq c.args.name.now c.in-Some.asked c.args.self.now.calls c.ask.new.self.engines.items c.ask.new.self.calls c.ask.new.self.reached.items (c.in-Some.ensures.asked past knows) c.one_answer.ensures.at_most redact refl (record { entry = due.entry; at = due.at; gives = due.gives })) in
+    (let is = answer-redacted c.in-Some.asked.outcome
+    (met (under c.args.table.now c.args.self.now) past c.args.self.now.attached c.args.seq c.args.name.now
+    c.in-Some.asked c.args.self.now.calls c.ask.new.self.engines.items c.ask.new.self.calls
+    c.ask.new.self.reached.items (c.in-Some.ensures.asked past knows) c.one_answer.ensures.at_most redact refl
+    (record { entry = due.entry; at = due.at; gives = due.gives })) in
     grind (arith, common_steps, is, c.ne.ensures, c.if-ne.true))
 
 pub returns-then-version-clause-not_due : goal.returns-then-version-clause-not_due
 returns-then-version-clause-not_due c = λ past knows due.
     (let asked = c.in-Some.ensures.asked past knows in
-    let there = asked-engine c.args.table.now past c.args.self.now c.args.seq c.args.name.now c.in-Some.asked c.ask.new.self.engines.items c.ask.new.self.calls c.ask.new.self.reached.items (c.in-Some.ensures.asked past knows) knows c.ask.ensures.entries c.index.result.now c.index.ensures in
+    let there = asked-engine c.args.table.now past c.args.self.now c.args.seq c.args.name.now c.in-Some.asked
+    c.ask.new.self.engines.items c.ask.new.self.calls c.ask.new.self.reached.items
+    (c.in-Some.ensures.asked past knows) knows c.ask.ensures.entries c.index.result.now c.index.ensures in
     let same = asked.only due.entry due.at in
     c.if-version.true (c.version.ensures ∙ (ap (λ (e : Entry). e.version) (there ∙ sym same) ∙ due.present)))
 
@@ -42,7 +48,9 @@ index_mut-requires c = omega (
 pub returns-clause-due : goal.returns-clause-due
 returns-clause-due c = λ past knows.
     (let asked = c.in-Some.ensures.asked past knows in
-    let there = asked-engine c.args.table.now past c.args.self.now c.args.seq c.args.name.now c.in-Some.asked c.ask.new.self.engines.items c.ask.new.self.calls c.ask.new.self.reached.items (c.in-Some.ensures.asked past knows) knows c.ask.ensures.entries c.index.result.now c.index.ensures in
+    let there = asked-engine c.args.table.now past c.args.self.now c.args.seq c.args.name.now c.in-Some.asked
+    c.ask.new.self.engines.items c.ask.new.self.calls c.ask.new.self.reached.items
+    (c.in-Some.ensures.asked past knows) knows c.ask.ensures.entries c.index.result.now c.index.ensures in
     let is : c.in-Some.asked.outcome ≡ Redacted = grind (arith, common_steps, c.ne.ensures, c.if-ne.false) in
     record {
       entry = asked.entry;
@@ -56,9 +64,15 @@ returns-clause-knows c =
     let is : c.in-Some.asked.outcome ≡ Redacted = grind (arith, common_steps, c.ne.ensures, c.if-ne.false) in
     λ past knows may.
     (let asked = c.in-Some.ensures.asked past knows in
-    let there = asked-engine c.args.table.now past c.args.self.now c.args.seq c.args.name.now c.in-Some.asked c.ask.new.self.engines.items c.ask.new.self.calls c.ask.new.self.reached.items (c.in-Some.ensures.asked past knows) knows c.ask.ensures.entries c.index.result.now c.index.ensures in
+    let there = asked-engine c.args.table.now past c.args.self.now c.args.seq c.args.name.now c.in-Some.asked
+    c.ask.new.self.engines.items c.ask.new.self.calls c.ask.new.self.reached.items
+    (c.in-Some.ensures.asked past knows) knows c.ask.ensures.entries c.index.result.now c.index.ensures in
     let what : Happening = happenings.Redacted c.args.seq c.args.name.now c.args.version in
     let nothing : c.args.self.now.left ≡ Nothing = not-left past what c.args.self.now.left knows.left may.malformed may.drawn_refused (λ s why refused. cc) in
-    knows-cleared c.args.table.now past c.args.self.now c.ask.new.self c.args.seq c.args.name.now c.in-Some.asked knows c.requires.free (c.in-Some.ensures.asked past knows) c.ask.ensures.rest c.ask.ensures.room c.ask.ensures.numbers c.ask.ensures.entries c.ask.ensures.of_table (c.chain_goes_on.ensures.is_chain (under c.args.table.now c.args.self.now) past knows.row.prefix).names _ what may c.args.version c.forms_go_on.ensures.cleared_another refl refl refl refl is
+    knows-cleared c.args.table.now past c.args.self.now c.ask.new.self c.args.seq c.args.name.now c.in-Some.asked
+    knows c.requires.free (c.in-Some.ensures.asked past knows) c.ask.ensures.rest c.ask.ensures.room
+    c.ask.ensures.numbers c.ask.ensures.entries c.ask.ensures.of_table
+    (c.chain_goes_on.ensures.is_chain (under c.args.table.now c.args.self.now) past knows.row.prefix).names _ what
+    may c.args.version c.forms_go_on.ensures.cleared_another refl refl refl refl is
     (ap (λ (e : Entry). e.version) (sym there) ∙ (sym c.version.ensures ∙ c.if-version.false))
     (subst (λ (l : Left). LeavesOpen (what ∷ past) l) (sym (c.ask.ensures.left ∙ nothing)) (λ none. none, λ none. none)))

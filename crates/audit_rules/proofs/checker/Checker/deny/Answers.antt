@@ -19,7 +19,10 @@ returns-in_default-clause-not_denied c = λ past knows d. c.in_default.ensures.n
 pub returns-then-version-clause-not_denied : goal.returns-then-version-clause-not_denied
 returns-then-version-clause-not_denied c = λ past knows d.
     (let asked = c.in-Some.ensures.asked past knows in
-    let there = asked-engine c.args.table.now past c.args.self.now c.args.seq c.args.name.now c.in-Some.asked c.ask.new.self.engines.items c.ask.new.self.calls c.ask.new.self.reached.items (c.in-Some.ensures.asked past knows) knows c.ask.ensures.entries c.index-engine.result.now c.index-engine.ensures in
+    let there = asked-engine c.args.table.now past c.args.self.now c.args.seq c.args.name.now c.in-Some.asked
+    c.ask.new.self.engines.items c.ask.new.self.calls c.ask.new.self.reached.items
+    (c.in-Some.ensures.asked past knows) knows c.ask.ensures.entries c.index-engine.result.now
+    c.index-engine.ensures in
     c.if-version.true (c.version.ensures ∙ (ap (λ (e : Entry). e.version) (there ∙ sym (asked.only d.entry d.at)) ∙ d.present)))
 
 pub is_named_rule-requires : goal.is_named_rule-requires
@@ -27,16 +30,26 @@ is_named_rule-requires c = λ p rule is outcome.
     (let past = c.requires.knowing.0 in
     let knows = c.requires.knowing.1 in
     let asked = c.in-Some.ensures.asked past knows in
-    let there = asked-engine c.args.table.now past c.args.self.now c.args.seq c.args.name.now c.in-Some.asked c.ask.new.self.engines.items c.ask.new.self.calls c.ask.new.self.reached.items (c.in-Some.ensures.asked past knows) knows c.ask.ensures.entries c.index-engine.result.now c.index-engine.ensures in
+    let there = asked-engine c.args.table.now past c.args.self.now c.args.seq c.args.name.now c.in-Some.asked
+    c.ask.new.self.engines.items c.ask.new.self.calls c.ask.new.self.reached.items
+    (c.in-Some.ensures.asked past knows) knows c.ask.ensures.entries c.index-engine.result.now
+    c.index-engine.ensures in
     let gives = subst (λ (o : Outcome). Gives (under c.args.table.now c.args.self.now) past asked.entry c.args.seq (answer_of o)) outcome asked.gives in
     denied-few c.denied_by_a_rule.ensures (under c.args.table.now c.args.self.now) past asked.entry c.args.seq p rule (sym (ap (λ (e : Entry). e.policy) there) ∙ is) gives)
 
 pub returns-then-not-is_named_rule-clause-not_denied : goal.returns-then-not-is_named_rule-clause-not_denied
 returns-then-not-is_named_rule-clause-not_denied c = λ past knows d.
     (let asked = c.in-Some.ensures.asked past knows in
-    let there = asked-engine c.args.table.now past c.args.self.now c.args.seq c.args.name.now c.in-Some.asked c.ask.new.self.engines.items c.ask.new.self.calls c.ask.new.self.reached.items (c.in-Some.ensures.asked past knows) knows c.ask.ensures.entries c.index-engine.result.now c.index-engine.ensures in
+    let there = asked-engine c.args.table.now past c.args.self.now c.args.seq c.args.name.now c.in-Some.asked
+    c.ask.new.self.engines.items c.ask.new.self.calls c.ask.new.self.reached.items
+    (c.in-Some.ensures.asked past knows) knows c.ask.ensures.entries c.index-engine.result.now
+    c.index-engine.ensures in
     let same = asked.only d.entry d.at in
-    let is = answer-refused c.in-Some.asked.outcome (Denied d.place) (met (under c.args.table.now c.args.self.now) past c.args.self.now.attached c.args.seq c.args.name.now c.in-Some.asked c.args.self.now.calls c.ask.new.self.engines.items c.ask.new.self.calls c.ask.new.self.reached.items (c.in-Some.ensures.asked past knows) c.one_answer.ensures.at_most (deny d.place) refl
+    let is = answer-refused c.in-Some.asked.outcome (Denied d.place)
+    (met (under c.args.table.now c.args.self.now) past c.args.self.now.attached c.args.seq c.args.name.now
+    c.in-Some.asked c.args.self.now.calls c.ask.new.self.engines.items c.ask.new.self.calls
+    c.ask.new.self.reached.items (c.in-Some.ensures.asked past knows) c.one_answer.ensures.at_most
+    (deny d.place) refl
     (record { entry = d.entry; at = d.at; gives = d.gives })) in
     c.if-not-is_named_rule.ensures.denies_not (d.policy, d.place, ap (λ (e : Entry). e.policy) (there ∙ sym same) ∙ d.is_policy, is, d.names))
 
@@ -45,13 +58,18 @@ leave-requires-clause-call c = asked-place c.args.table.now c.requires.knowing.0
     c.ask.new.self.reached.items (c.in-Some.ensures.asked c.requires.knowing.0 c.requires.knowing.1) c.ask.ensures.numbers
 
 pub leave-requires-clause-place : goal.leave-requires-clause-place
-leave-requires-clause-place c = asked-reached c.args.table.now c.requires.knowing.0 c.args.self.now c.args.seq c.args.name.now c.in-Some.asked c.ask.new.self.engines.items c.ask.new.self.calls
+leave-requires-clause-place c =
+    asked-reached c.args.table.now c.requires.knowing.0 c.args.self.now c.args.seq c.args.name.now c.in-Some.asked
+    c.ask.new.self.engines.items c.ask.new.self.calls
     c.ask.new.self.reached.items (c.in-Some.ensures.asked c.requires.knowing.0 c.requires.knowing.1)
 
 pub returns-clause-denied : goal.returns-clause-denied
 returns-clause-denied c = λ past knows.
     (let asked = c.in-Some.ensures.asked past knows in
-    let there = asked-engine c.args.table.now past c.args.self.now c.args.seq c.args.name.now c.in-Some.asked c.ask.new.self.engines.items c.ask.new.self.calls c.ask.new.self.reached.items (c.in-Some.ensures.asked past knows) knows c.ask.ensures.entries c.index-engine.result.now c.index-engine.ensures in
+    let there = asked-engine c.args.table.now past c.args.self.now c.args.seq c.args.name.now c.in-Some.asked
+    c.ask.new.self.engines.items c.ask.new.self.calls c.ask.new.self.reached.items
+    (c.in-Some.ensures.asked past knows) knows c.ask.ensures.entries c.index-engine.result.now
+    c.index-engine.ensures in
     let named = c.if-not-is_named_rule.ensures.denies in
     record {
       entry = asked.entry;
@@ -69,8 +87,16 @@ returns-clause-knows c = λ past cause knows link may.
     (let named = c.if-not-is_named_rule.ensures.denies in
     let is = named.3 in
     knows-refused c.args.table.now past c.args.self.now c.ask.new.self c.leave.new.self c.args.seq c.in-Some.asked.place cause
-    (ap (λ (d : Checker). under c.args.table.now d) c.ask.ensures.rest) (knows-asked c.args.table.now past c.args.self.now c.ask.new.self c.args.seq c.args.name.now c.in-Some.asked knows c.requires.free (c.in-Some.ensures.asked past knows) c.ask.ensures.rest c.ask.ensures.room c.ask.ensures.numbers c.ask.ensures.entries c.ask.ensures.of_table (c.chain_goes_on.ensures.is_chain (under c.args.table.now c.args.self.now) past knows.row.prefix).names (Denied named.1) is) (subst IsFree (sym c.ask.ensures.left) c.requires.free)
-    (there1 c.args.table.now past c.args.self.now c.ask.new.self c.args.seq c.args.name.now c.in-Some.asked knows c.requires.free (c.in-Some.ensures.asked past knows) c.ask.ensures.rest c.ask.ensures.room c.ask.ensures.numbers c.ask.ensures.entries c.ask.ensures.of_table (c.chain_goes_on.ensures.is_chain (under c.args.table.now c.args.self.now) past knows.row.prefix).names)
+    (ap (λ (d : Checker). under c.args.table.now d) c.ask.ensures.rest)
+    (knows-asked c.args.table.now past c.args.self.now c.ask.new.self c.args.seq c.args.name.now c.in-Some.asked
+    knows c.requires.free (c.in-Some.ensures.asked past knows) c.ask.ensures.rest c.ask.ensures.room
+    c.ask.ensures.numbers c.ask.ensures.entries c.ask.ensures.of_table
+    (c.chain_goes_on.ensures.is_chain (under c.args.table.now c.args.self.now) past knows.row.prefix).names
+    (Denied named.1) is) (subst IsFree (sym c.ask.ensures.left) c.requires.free)
+    (there1 c.args.table.now past c.args.self.now c.ask.new.self c.args.seq c.args.name.now c.in-Some.asked knows
+    c.requires.free (c.in-Some.ensures.asked past knows) c.ask.ensures.rest c.ask.ensures.room
+    c.ask.ensures.numbers c.ask.ensures.entries c.ask.ensures.of_table
+    (c.chain_goes_on.ensures.is_chain (under c.args.table.now c.args.self.now) past knows.row.prefix).names)
     may link c.leave.ensures.failed c.leave.ensures.refused)
 
 pub returns-clause-same : goal.returns-clause-same

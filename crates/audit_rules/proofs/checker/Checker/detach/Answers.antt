@@ -29,13 +29,18 @@ pub returns-clause-keeps : goal.returns-clause-keeps
 returns-clause-keeps c = λ T past knows.
     (let it : IsFound c.args.name.now c.in-Some.at c.args.self.now.engines.items = subst (λ (es : List EngineParts). IsFound c.args.name.now c.in-Some.at es) c.deref.ensures.value
     (found c.args.name.now c.in-Some.at c.deref.result.now (sym c.place_of.ensures ∙ c.in-Some.is)) in
-    detach-keeps past c.change_is_changed.ensures.unless_refused (c.chain_goes_on.ensures.is_chain (under T c.args.self.now) past knows.row.prefix) c.args.name.now c.in-Some.at it.engine.entry
-    (entry-known T past c.args.self.now c.args.self.now knows c.in-Some.at it.engine.entry (map-at (λ (e : EngineParts). e.entry) c.args.self.now.engines.items c.in-Some.at it.engine it.at)) it.named)
+    detach-keeps past c.change_is_changed.ensures.unless_refused
+    (c.chain_goes_on.ensures.is_chain (under T c.args.self.now) past knows.row.prefix) c.args.name.now
+    c.in-Some.at it.engine.entry
+    (entry-known T past c.args.self.now c.args.self.now knows c.in-Some.at it.engine.entry
+    (map-at (λ (e : EngineParts). e.entry) c.args.self.now.engines.items c.in-Some.at it.engine it.at)) it.named)
 
 pub returns-clause-knows : goal.returns-clause-knows
 returns-clause-knows c = λ T past knows may.
     (let it : IsFound c.args.name.now c.in-Some.at c.args.self.now.engines.items = subst (λ (es : List EngineParts). IsFound c.args.name.now c.in-Some.at es) c.deref.ensures.value
     (found c.args.name.now c.in-Some.at c.deref.result.now (sym c.place_of.ensures ∙ c.in-Some.is)) in
     knows-detached T past c.args.self.now _ knows (c.chain_goes_on.ensures.is_chain (under T c.args.self.now) past knows.row.prefix).names c.args.name.now c.in-Some.at it.engine it.at
-    (entry-known T past c.args.self.now c.args.self.now knows c.in-Some.at it.engine.entry (map-at (λ (e : EngineParts). e.entry) c.args.self.now.engines.items c.in-Some.at it.engine it.at)) it.named
-    refl refl c.lower.ensures.items c.remove.ensures.capacity c.remove-2.ensures.capacity c.lower.ensures.capacity may c.ties_go_on.ensures.detaches c.remove.ensures.items c.remove-2.ensures.items)
+    (entry-known T past c.args.self.now c.args.self.now knows c.in-Some.at it.engine.entry
+    (map-at (λ (e : EngineParts). e.entry) c.args.self.now.engines.items c.in-Some.at it.engine it.at)) it.named
+    refl refl c.lower.ensures.items c.remove.ensures.capacity c.remove-2.ensures.capacity c.lower.ensures.capacity may
+    c.ties_go_on.ensures.detaches c.remove.ensures.items c.remove-2.ensures.items)

@@ -27,8 +27,12 @@ returns c = λ T past positions call known is falls.
     let own : slice_get (seqs_of c.args.self.now.calls) c.args.self.now.told ≡ Some c.at.result.now.call.seq =
     map-at (λ (s : StandingCall). s.call.seq) c.args.self.now.calls c.args.self.now.told c.at.result.now c.at.ensures in
     let number : c.at.result.now.call.seq ≡ call.seq = cc in
-    let entry : slice_get (map (λ (e : EngineParts). e.entry) c.args.self.now.engines.items) c.args.at ≡ Some e.entry = map-at (λ (e : EngineParts). e.entry) c.args.self.now.engines.items c.args.at e here in
-    holds-told (under T c.args.self.now) past c.args.self.now.attached c.args.at c.args.self.now.told call.seq c.args.self.now.engines.items c.args.self.now.calls known.knows.row.ties e c.at.result.now here
+    let entry : slice_get (map (λ (e : EngineParts). e.entry) c.args.self.now.engines.items) c.args.at
+    ≡ Some e.entry = map-at (λ (e : EngineParts). e.entry) c.args.self.now.engines.items c.args.at e here in
+    holds-told (under T c.args.self.now) past c.args.self.now.attached c.args.at c.args.self.now.told call.seq
+    c.args.self.now.engines.items c.args.self.now.calls known.knows.row.ties e c.at.result.now here
     c.at.ensures number call positions c.held.result refl (subst (λ (es : List Entry). slice_get es c.args.at ≡ Some e.entry) (told-entries T past positions c.args.self.now known) entry)
-    (first-there positions c.args.at (omega (arith, falls, known.position)) (λ some same. c.if-not-is_first_at.ensures.first (omega (arith, some, known.told)) (same ∙ sym known.position)))
+    (first-there positions c.args.at (omega (arith, falls, known.position))
+    (λ some same. c.if-not-is_first_at.ensures.first (omega (arith, some, known.told))
+    (same ∙ sym known.position)))
     c.held.ensures.holds c.held.ensures.none)

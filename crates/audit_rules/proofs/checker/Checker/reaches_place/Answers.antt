@@ -28,7 +28,9 @@ reaches-requires-clause-of_table c = c.requires.known.2.knows.of_table
 pub returns-clause-passes : goal.returns-clause-passes
 returns-clause-passes c = λ past positions seq known there.
     (let u = under c.args.table.now c.args.self.now in
-    let apart = apart-rising 0 c.args.self.now.taken c.args.self.now.calls (known-rising c.args.table.now past (record c.args.self.now { told = 0; position = MAX_ENGINES }) known.knows known.settled) in
+    let apart = apart-rising 0 c.args.self.now.taken c.args.self.now.calls
+    (known-rising c.args.table.now past (record c.args.self.now { told = 0; position = MAX_ENGINES }) known.knows
+    known.settled) in
     c.reaches.ensures.passes u past c.args.self.now.attached seq known.knows.row.prefix (rw c.deref_mut.ensures.value known.knows.row.ties) apart known.knows.row.shows there
     (subst (λ (r : ℕ). LetsAll u past seq r) (sym c.index-from.ensures)
     (zip-at (LetsAll u past) (seqs_of c.args.self.now.calls) c.args.self.now.reached.items c.args.self.now.told seq c.index-from.result.now known.knows.row.reaches there)))
@@ -36,7 +38,9 @@ returns-clause-passes c = λ past positions seq known there.
 pub returns-clause-stops : goal.returns-clause-stops
 returns-clause-stops c = λ past positions seq known there.
     (let u = under c.args.table.now c.args.self.now in
-    let apart = apart-rising 0 c.args.self.now.taken c.args.self.now.calls (known-rising c.args.table.now past (record c.args.self.now { told = 0; position = MAX_ENGINES }) known.knows known.settled) in
+    let apart = apart-rising 0 c.args.self.now.taken c.args.self.now.calls
+    (known-rising c.args.table.now past (record c.args.self.now { told = 0; position = MAX_ENGINES }) known.knows
+    known.settled) in
     c.reaches.ensures.stops u past c.args.self.now.attached seq known.knows.row.prefix (rw c.deref_mut.ensures.value known.knows.row.ties) apart known.knows.row.shows there
     (subst (λ (r : ℕ). LetsAll u past seq r) (sym c.index-from.ensures)
     (zip-at (LetsAll u past) (seqs_of c.args.self.now.calls) c.args.self.now.reached.items c.args.self.now.told seq c.index-from.result.now known.knows.row.reaches there)))
@@ -53,7 +57,9 @@ returns-clause-entries c =
 pub returns-clause-told : goal.returns-clause-told
 returns-clause-told c = λ past positions known. OnTrue_from c.reaches.result _ (λ on.
     (let u = under c.args.table.now c.args.self.now in
-    let apart = apart-rising 0 c.args.self.now.taken c.args.self.now.calls (known-rising c.args.table.now past (record c.args.self.now { told = 0; position = MAX_ENGINES }) known.knows known.settled) in
+    let apart = apart-rising 0 c.args.self.now.taken c.args.self.now.calls
+    (known-rising c.args.table.now past (record c.args.self.now { told = 0; position = MAX_ENGINES }) known.knows
+    known.settled) in
     let ties = OnTrue_at on c.reaches.ensures.ties u past c.args.self.now.attached known.knows.row.prefix (rw c.deref_mut.ensures.value known.knows.row.ties) apart in
     let lent : length c.deref_mut.result.now ≡ length c.args.self.now.engines.items = ap (λ (es : List EngineParts). length es) c.deref_mut.ensures.value in
     let many : length c.args.self.now.engines.items ≡ c.args.self.now.engines.len = omega (arith, c.args.self.now.engines.ok.0) in
@@ -65,7 +71,8 @@ returns-clause-told c = λ past positions known. OnTrue_from c.reaches.result _ 
     record {
       knows = knows-worked c.args.table.now past past (record c.args.self.now { told = 0; position = MAX_ENGINES }) _ known.knows known.settled known.settled refl known.knows.row.prefix
           (subst (λ (es : List EngineParts). AreTied u.conn past es c.args.self.now.attached c.reaches.new.calls) (sym back) ties)
-          (subst (λ (ns : List ℕ). AllZip (LetsAll u past) ns c.args.self.now.reached.items) (sym c.reaches.ensures.numbers) known.knows.row.reaches) refl c.reaches.ensures.numbers refl refl
+          (subst (λ (ns : List ℕ). AllZip (LetsAll u past) ns c.args.self.now.reached.items)
+          (sym c.reaches.ensures.numbers) known.knows.row.reaches) refl c.reaches.ensures.numbers refl refl
           (latest-same past c.args.self.now.engines.items _ c.args.self.now.latest.items entries known.knows.latest) refl known.knows.left c.reaches.ensures.of_table (omega arith) entries
           (record {
             few_engines = omega (arith, known.knows.room.few_engines, ap (λ (es : List EngineParts). length es) back, kept);

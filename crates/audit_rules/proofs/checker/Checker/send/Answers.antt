@@ -29,11 +29,14 @@ returns-then-not-reaches-clause-sends_not c = λ past knows sent.
     c.if-not-reaches.ensures.stops (under c.args.table.now c.args.self.now) past c.args.self.now.attached c.args.seq knows.row.prefix (rw c.deref_mut.ensures.value knows.row.ties)
     (apart-rising 0 c.args.self.now.taken c.args.self.now.calls (known-rising c.args.table.now past c.args.self.now knows c.requires.free)) knows.row.shows first_call
     (subst (λ (r : ℕ). LetsAll (under c.args.table.now c.args.self.now) past c.args.seq r) (sym c.index-from.ensures)
-    (zip-at (LetsAll (under c.args.table.now c.args.self.now) past) (seqs_of c.args.self.now.calls) c.args.self.now.reached.items 0 c.args.seq c.index-from.result.now knows.row.reaches first_call))
+    (zip-at (LetsAll (under c.args.table.now c.args.self.now) past) (seqs_of c.args.self.now.calls)
+    c.args.self.now.reached.items 0 c.args.seq c.index-from.result.now knows.row.reaches first_call))
     (passes-all (under c.args.table.now c.args.self.now) past c.args.seq c.args.bytes c.len-at.result sent))
 
 pub is_frame_of-requires-clause-of_table : goal.is_frame_of-requires-clause-of_table
-is_frame_of-requires-clause-of_table c = rw c.call.ensures (All-at (λ (s : StandingCall). IsCallOf c.args.table.now s.call) c.reaches.new.calls 0 c.at.result.now c.reaches.ensures.of_table c.at.ensures)
+is_frame_of-requires-clause-of_table c =
+    rw c.call.ensures (All-at (λ (s : StandingCall). IsCallOf c.args.table.now s.call) c.reaches.new.calls 0
+    c.at.result.now c.reaches.ensures.of_table c.at.ensures)
 
 pub returns-then-not-is_frame_of-clause-sends_not : goal.returns-then-not-is_frame_of-clause-sends_not
 returns-then-not-is_frame_of-clause-sends_not c = λ past knows sent.
@@ -44,14 +47,18 @@ returns-then-not-is_frame_of-clause-sends_not c = λ past knows sent.
     let ties = c.if-not-reaches.ensures.ties (under c.args.table.now c.args.self.now) past c.args.self.now.attached knows.row.prefix (rw c.deref_mut.ensures.value knows.row.ties) apart in
     let stands = c.reaches.ensures.numbers ∙ known-standing c.args.table.now past c.args.self.now knows c.requires.free in
     let first_new : slice_get (seqs_of c.reaches.new.calls) 0 ≡ Some c.args.seq = rw c.reaches.ensures.numbers first_call in
-    let long = frame-of (under c.args.table.now c.args.self.now) past c.args.self.now.attached c.args.seq c.args.bytes c.len-at.result c.reaches.new.engines c.reaches.new.calls ties stands first_new c.at.result.now c.at.ensures sent in
+    let long = frame-of (under c.args.table.now c.args.self.now) past c.args.self.now.attached c.args.seq c.args.bytes
+    c.len-at.result c.reaches.new.engines c.reaches.new.calls ties stands first_new c.at.result.now c.at.ensures
+    sent in
     let is_frame : IsTrue c.is_frame_of.result = c.is_frame_of.ensures.1 (rw c.call.ensures long) in
     let wrong : false ≡ true = sym c.if-not-is_frame_of.true ∙ is_frame in cc)
 
 pub leave-requires-clause-place : goal.leave-requires-clause-place
 leave-requires-clause-place c =
     let places = known-places c.args.table.now c.requires.knowing.0 c.args.self.now c.requires.knowing.1 in
-    let here : 0 < length (seqs_of c.reaches.new.calls) = within (seqs_of c.reaches.new.calls) 0 c.at.result.now.call.seq (map-at (λ (s : StandingCall). s.call.seq) c.reaches.new.calls 0 c.at.result.now c.at.ensures) in
+    let here : 0 < length (seqs_of c.reaches.new.calls) =
+    within (seqs_of c.reaches.new.calls) 0 c.at.result.now.call.seq
+    (map-at (λ (s : StandingCall). s.call.seq) c.reaches.new.calls 0 c.at.result.now c.at.ensures) in
     omega (arith, places, length-map c.args.self.now.calls (λ (s : StandingCall). s.call.seq), ap (λ (ns : List ℕ). length ns) c.reaches.ensures.numbers)
 
 pub returns-clause-sends : goal.returns-clause-sends
@@ -63,13 +70,18 @@ returns-clause-sends c = λ past knows.
     let ties = c.if-not-reaches.ensures.ties (under c.args.table.now c.args.self.now) past c.args.self.now.attached knows.row.prefix (rw c.deref_mut.ensures.value knows.row.ties) apart in
     let stands = c.reaches.ensures.numbers ∙ known-standing c.args.table.now past c.args.self.now knows c.requires.free in
     let first_new : slice_get (seqs_of c.reaches.new.calls) 0 ≡ Some c.args.seq = rw c.reaches.ensures.numbers first_call in
-    let lets = c.if-not-reaches.ensures.passes (under c.args.table.now c.args.self.now) past c.args.self.now.attached c.args.seq knows.row.prefix (rw c.deref_mut.ensures.value knows.row.ties) apart
+    let lets = c.if-not-reaches.ensures.passes (under c.args.table.now c.args.self.now) past c.args.self.now.attached
+    c.args.seq knows.row.prefix (rw c.deref_mut.ensures.value knows.row.ties) apart
     knows.row.shows first_call (subst (λ (r : ℕ). LetsAll (under c.args.table.now c.args.self.now) past c.args.seq r) (sym c.index-from.ensures)
-    (zip-at (LetsAll (under c.args.table.now c.args.self.now) past) (seqs_of c.args.self.now.calls) c.args.self.now.reached.items 0 c.args.seq c.index-from.result.now knows.row.reaches first_call)) in
-    let entries : length (map (λ (e : EngineParts). e.entry) c.args.self.now.engines.items) ≡ length (chain past).entries = ap (λ (c : Chain). length c.entries) knows.row.ties.same_chain in
+    (zip-at (LetsAll (under c.args.table.now c.args.self.now) past) (seqs_of c.args.self.now.calls)
+    c.args.self.now.reached.items 0 c.args.seq c.index-from.result.now knows.row.reaches first_call)) in
+    let entries : length (map (λ (e : EngineParts). e.entry) c.args.self.now.engines.items)
+    ≡ length (chain past).entries = ap (λ (c : Chain). length c.entries) knows.row.ties.same_chain in
     let all : length (chain past).entries ≤ c.len-at.result = omega (arith, entries, length-map c.args.self.now.engines.items (λ (e : EngineParts). e.entry), c.len-at.ensures) in
     let is_frame : IsTrue c.is_frame_of.result = c.if-not-is_frame_of.false in
-    sends (under c.args.table.now c.args.self.now) past c.args.self.now.attached c.args.seq c.args.bytes c.len-at.result c.reaches.new.engines c.reaches.new.calls ties stands first_new c.at.result.now c.at.ensures all lets (rw (sym c.call.ensures) (c.is_frame_of.ensures.0 is_frame)))
+    sends (under c.args.table.now c.args.self.now) past c.args.self.now.attached c.args.seq c.args.bytes
+    c.len-at.result c.reaches.new.engines c.reaches.new.calls ties stands first_new c.at.result.now c.at.ensures
+    all lets (rw (sym c.call.ensures) (c.is_frame_of.ensures.0 is_frame)))
 
 pub returns-clause-knows : goal.returns-clause-knows
 returns-clause-knows c = λ past knows may.
@@ -92,5 +104,15 @@ returns-clause-knows c = λ past knows may.
     (subst (λ (es : List EngineParts). AreTied u.conn past es c.args.self.now.attached c.reaches.new.calls) (sym back) ties)
     (subst (λ (ns : List ℕ). AllZip (LetsAll u past) ns c.args.self.now.reached.items) (sym c.reaches.ensures.numbers) knows.row.reaches) refl c.reaches.ensures.numbers refl refl
     (latest-same past c.args.self.now.engines.items _ c.args.self.now.latest.items entries knows.latest) refl knows.left c.reaches.ensures.of_table (omega arith) entries
-    (record { few_engines = omega (arith, knows.room.few_engines, ap (λ (es : List EngineParts). length es) back, kept); engines = knows.room.engines; latest = knows.room.latest; calls = knows.room.calls }))
+    (record {
+      few_engines = omega (
+        arith,
+        knows.room.few_engines,
+        ap (λ (es : List EngineParts). length es) back,
+        kept,
+      );
+      engines = knows.room.engines;
+      latest = knows.room.latest;
+      calls = knows.room.calls;
+    }))
     c.requires.free first_new may)

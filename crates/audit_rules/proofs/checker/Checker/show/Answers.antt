@@ -11,4 +11,6 @@ returns-clause-knows c = λ T past knows may.
     let many : length c.args.self.now.engines.items ≡ c.args.self.now.engines.len = omega (arith, c.args.self.now.engines.ok.0) in
     let kept : length c.clock_all.new.engines ≡ length c.args.self.now.engines.items = omega (arith, lent, c.clock_all.auto.engines) in
     knows-shown T past c.args.now c.args.self.now _ knows may c.ties_go_on.ensures.shows refl
-    (written-back c.args.self.now.engines.items c.clock_all.new.engines c.args.self.now.engines.len kept many ∙ (c.clock_all.ensures ∙ ap (λ (es : List EngineParts). map (λ e. shown c.args.now e) es) c.deref_mut.ensures.value)) refl)
+    (written-back c.args.self.now.engines.items c.clock_all.new.engines c.args.self.now.engines.len kept many
+    ∙ (c.clock_all.ensures ∙ ap (λ (es : List EngineParts). map (λ e. shown c.args.now e) es)
+    c.deref_mut.ensures.value)) refl)

@@ -14,7 +14,12 @@ use Rattle.audit_rules.proofs.checker.Checker.stands.Goals as goal
 
 pub reaches_place-requires-clause-call : goal.reaches_place-requires-clause-call
 reaches_place-requires-clause-call c =
-    omega (arith, within (seqs_of c.args.self.now.calls) c.args.self.now.told c.args.seq c.if-not-is_next_told.ensures.next, length-map c.args.self.now.calls (λ (s : StandingCall). s.call.seq))
+    omega (
+      arith,
+      within (seqs_of c.args.self.now.calls) c.args.self.now.told c.args.seq
+          c.if-not-is_next_told.ensures.next,
+      length-map c.args.self.now.calls (λ (s : StandingCall). s.call.seq),
+    )
 
 pub returns-then-not-is_next_told-clause-tells : goal.returns-then-not-is_next_told-clause-tells
 returns-then-not-is_next_told-clause-tells c = λ past positions known. (
@@ -84,7 +89,8 @@ returns-clause-tells c = λ past positions known. (
         length-map c.args.self.now.engines.items (λ (e : EngineParts). e.entry),
       ) in
       let lets = subst (λ (u : Under). LetsAll u past c.args.seq c.args.position) (sym same) (c.if-not-reaches_place.ensures.passes past positions c.args.seq known first) in
-      let named = subst (λ (es : List EngineParts). c.args.name.now ≡ name_at (map (λ e. e.entry) es) c.args.position) c.deref.ensures.value (c.is_named_at.ensures.0 c.if-not-is_named_at.false) in
+      let named = subst (λ (es : List EngineParts). c.args.name.now ≡ name_at (map (λ e. e.entry) es) c.args.position)
+      c.deref.ensures.value (c.is_named_at.ensures.0 c.if-not-is_named_at.false) in
       let equal = c.is_same_hold.ensures.0 c.if-not-is_same_hold.false in
       subst (λ (u : Under). TellsNext u past positions c.args.seq c.args.position c.args.name.now c.args.held) same
       (tells-next T past positions c1 known1 c.args.seq c.args.position c.args.name.now c.args.held first1 inside1 falls1 lets named c.held_at.result

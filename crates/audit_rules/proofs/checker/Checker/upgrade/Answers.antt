@@ -23,10 +23,12 @@ pub returns-then-not-is_same_kind-clause-refuses : goal.returns-then-not-is_same
 returns-then-not-is_same_kind-clause-refuses c = λ T past label knows.
     (let it : IsFound c.args.name.now c.in-Some.at c.args.self.now.engines.items = subst (λ (es : List EngineParts). IsFound c.args.name.now c.in-Some.at es) c.deref.ensures.value
     (found c.args.name.now c.in-Some.at c.deref.result.now (sym c.place_of.ensures ∙ c.in-Some.is)) in
-    let looked : slice_get c.args.self.now.engines.items c.in-Some.at ≡ Some c.index.result.now = there-at c.args.self.now.engines.items c.in-Some.at c.index.result.now it.within c.index.ensures in
+    let looked : slice_get c.args.self.now.engines.items c.in-Some.at ≡ Some c.index.result.now =
+    there-at c.args.self.now.engines.items c.in-Some.at c.index.result.now it.within c.index.ensures in
     let same : it.engine ≡ c.index.result.now = one-some (slice_get c.args.self.now.engines.items c.in-Some.at) it.engine c.index.result.now it.at looked in
     not-of-kind past c.args.name.now label c.args.policy c.in-Some.at it.engine.entry
-    (entry-known T past c.args.self.now c.args.self.now knows c.in-Some.at it.engine.entry (map-at (λ (e : EngineParts). e.entry) c.args.self.now.engines.items c.in-Some.at it.engine it.at)) it.named
+    (entry-known T past c.args.self.now c.args.self.now knows c.in-Some.at it.engine.entry
+    (map-at (λ (e : EngineParts). e.entry) c.args.self.now.engines.items c.in-Some.at it.engine it.at)) it.named
     (ap (λ (e : EngineParts). is_same_kind e.entry.policy c.args.policy) same
     ∙ (ap (λ (policy : Policy). is_same_kind policy c.args.policy) (sym c.policy.ensures.policy) ∙ (sym c.is_same_kind.ensures ∙ c.if-not-is_same_kind.true))))
 
@@ -34,7 +36,8 @@ pub restore-requires-clause-kind : goal.restore-requires-clause-kind
 restore-requires-clause-kind c =
     let it : IsFound c.args.name.now c.in-Some.at c.args.self.now.engines.items = subst (λ (es : List EngineParts). IsFound c.args.name.now c.in-Some.at es) c.deref.ensures.value
     (found c.args.name.now c.in-Some.at c.deref.result.now (sym c.place_of.ensures ∙ c.in-Some.is)) in
-    let looked : slice_get c.args.self.now.engines.items c.in-Some.at ≡ Some c.index.result.now = there-at c.args.self.now.engines.items c.in-Some.at c.index.result.now it.within c.index.ensures in
+    let looked : slice_get c.args.self.now.engines.items c.in-Some.at ≡ Some c.index.result.now =
+    there-at c.args.self.now.engines.items c.in-Some.at c.index.result.now it.within c.index.ensures in
     let there : slice_get c.args.self.now.engines.items c.in-Some.at ≡ Some c.decompose-state.result =
     there-at c.args.self.now.engines.items c.in-Some.at c.remove.result it.within c.remove.ensures.value ∙ ap (λ (e : EngineParts). Some e) (sym c.decompose-state.ensures) in
     let same : c.decompose-state.result ≡ c.index.result.now = one-some (slice_get c.args.self.now.engines.items c.in-Some.at) c.decompose-state.result c.index.result.now there looked in
@@ -56,11 +59,15 @@ pub returns-clause-keeps : goal.returns-clause-keeps
 returns-clause-keeps c = λ T past label knows.
     (let it : IsFound c.args.name.now c.in-Some.at c.args.self.now.engines.items = subst (λ (es : List EngineParts). IsFound c.args.name.now c.in-Some.at es) c.deref.ensures.value
     (found c.args.name.now c.in-Some.at c.deref.result.now (sym c.place_of.ensures ∙ c.in-Some.is)) in
-    let looked : slice_get c.args.self.now.engines.items c.in-Some.at ≡ Some c.index.result.now = there-at c.args.self.now.engines.items c.in-Some.at c.index.result.now it.within c.index.ensures in
+    let looked : slice_get c.args.self.now.engines.items c.in-Some.at ≡ Some c.index.result.now =
+    there-at c.args.self.now.engines.items c.in-Some.at c.index.result.now it.within c.index.ensures in
     let same : it.engine ≡ c.index.result.now = one-some (slice_get c.args.self.now.engines.items c.in-Some.at) it.engine c.index.result.now it.at looked in
-    upgrade-keeps past c.change_is_changed.ensures.unless_refused (c.chain_goes_on.ensures.is_chain (under T c.args.self.now) past knows.row.prefix) c.args.name.now label c.args.policy c.in-Some.at
+    upgrade-keeps past c.change_is_changed.ensures.unless_refused
+    (c.chain_goes_on.ensures.is_chain (under T c.args.self.now) past knows.row.prefix) c.args.name.now label
+    c.args.policy c.in-Some.at
     it.engine.entry
-    (entry-known T past c.args.self.now c.args.self.now knows c.in-Some.at it.engine.entry (map-at (λ (e : EngineParts). e.entry) c.args.self.now.engines.items c.in-Some.at it.engine it.at)) it.named
+    (entry-known T past c.args.self.now c.args.self.now knows c.in-Some.at it.engine.entry
+    (map-at (λ (e : EngineParts). e.entry) c.args.self.now.engines.items c.in-Some.at it.engine it.at)) it.named
     (ap (λ (e : EngineParts). is_same_kind e.entry.policy c.args.policy) same
     ∙ (ap (λ (policy : Policy). is_same_kind policy c.args.policy) (sym c.policy.ensures.policy) ∙ (sym c.is_same_kind.ensures ∙ c.if-not-is_same_kind.false))))
 
@@ -71,10 +78,15 @@ returns-clause-knows c = λ T past label knows may.
     let there : slice_get c.args.self.now.engines.items c.in-Some.at ≡ Some c.decompose-state.result =
     there-at c.args.self.now.engines.items c.in-Some.at c.remove.result it.within c.remove.ensures.value ∙ ap (λ (e : EngineParts). Some e) (sym c.decompose-state.ensures) in
     let same : c.decompose-state.result ≡ it.engine = one-some (slice_get c.args.self.now.engines.items c.in-Some.at) c.decompose-state.result it.engine there it.at in
-    knows-upgraded T past c.args.self.now _ knows (c.chain_goes_on.ensures.is_chain (under T c.args.self.now) past knows.row.prefix).names c.args.name.now c.in-Some.at c.decompose-state.result there
+    knows-upgraded T past c.args.self.now _ knows
+    (c.chain_goes_on.ensures.is_chain (under T c.args.self.now) past knows.row.prefix).names c.args.name.now
+    c.in-Some.at c.decompose-state.result there
     (entry-known T past c.args.self.now c.args.self.now knows c.in-Some.at c.decompose-state.result.entry
     (map-at (λ (e : EngineParts). e.entry) c.args.self.now.engines.items c.in-Some.at c.decompose-state.result there))
-    (ap (λ (e : EngineParts). e.entry.name) same ∙ it.named) refl refl c.lower.ensures.items (c.put.ensures.capacity ∙ c.remove.ensures.capacity) refl c.lower.ensures.capacity label c.args.policy
+    (ap (λ (e : EngineParts). e.entry.name) same ∙ it.named) refl refl c.lower.ensures.items
+    (c.put.ensures.capacity ∙ c.remove.ensures.capacity) refl c.lower.ensures.capacity label c.args.policy
     c.restore.result may c.ties_go_on.ensures.upgrades
-    (c.put.ensures.items ∙ (ap (λ (es : List EngineParts). insert es c.in-Some.at c.restore.result) c.remove.ensures.items ∙ put-back c.args.self.now.engines.items c.in-Some.at c.restore.result it.within))
+    (c.put.ensures.items
+    ∙ (ap (λ (es : List EngineParts). insert es c.in-Some.at c.restore.result) c.remove.ensures.items
+    ∙ put-back c.args.self.now.engines.items c.in-Some.at c.restore.result it.within))
     refl c.restore.ensures.entry c.restore.ensures.level c.restore.ensures.last c.restore.ensures.stays_true)

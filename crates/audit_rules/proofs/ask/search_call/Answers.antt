@@ -3,8 +3,8 @@ use Rattle.std.proofs.lemmas.List.{length-map}
 use Rattle.engine_core.specs.Marks.{StandingCall}
 use Rattle.audit_rules.specs.Asking.{seqs_of}
 use Rattle.audit_rules.proofs.Numbers.{less-before, more-behind, none-there, not-there}
-use Rattle.audit_rules.proofs.ask.place_of_call.Goals as goal
-use Rattle.audit_rules.proofs.ask.place_of_call.Goals.{else-low-len-via-then-low-len+else-seq_at-seq-2, else-low-len-via-else-low-len}
+use Rattle.audit_rules.proofs.ask.search_call.Goals as goal
+use Rattle.audit_rules.proofs.ask.search_call.Goals.{else-low-len-via-then-low-len+else-seq_at-seq-2, else-low-len-via-else-low-len}
 
 pub loop-low-preserved-then-seq_at-seq : goal.loop-low-preserved-then-seq_at-seq
 loop-low-preserved-then-seq_at-seq c = record {
@@ -28,6 +28,7 @@ returns-else-low-len-clause-none c = none-there 0 c.requires.0 (seqs_of c.args.c
   where
     apart : c.loop-low.low < length (seqs_of c.args.calls.now) → get_or (seqs_of c.args.calls.now) c.loop-low.low 0 ≢ c.args.seq
     apart inside = elim c.else-low-len.branch [
-      | else-low-len-via-then-low-len+else-seq_at-seq-2 w ↦ not-there (seqs_of c.args.calls.now) c.loop-low.low w.seq_at-then-low-len.result c.args.seq w.seq_at-then-low-len.ensures w.if-seq_at-seq-2.false
+      | else-low-len-via-then-low-len+else-seq_at-seq-2 w ↦ not-there (seqs_of c.args.calls.now) c.loop-low.low
+          w.seq_at-then-low-len.result c.args.seq w.seq_at-then-low-len.ensures w.if-seq_at-seq-2.false
       | else-low-len-via-else-low-len w ↦ absurd (omega (arith, length-map c.args.calls.now (λ (s : StandingCall). s.call.seq)))
     ]

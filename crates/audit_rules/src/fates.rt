@@ -1,0 +1,412 @@
+//! What becomes of a call: what is noted of it, what is cleared, that it is sent or refused.
+
+ghost use Rattle.std.specs.Bool.{OnFalse, OnTrue};
+ghost use Rattle.std.specs.Prelude.{◌≡◌, ◌≢◌, ◌+◌, ◌<◌, ◌≤◌, ◌∷◌, ◌⊎◌, ℕ, All};
+ghost use Rattle.std.specs.Prelude.{IfNone, IfSome, None, Some};
+ghost use Rattle.std.specs.Prelude.{length, map, set, slice_get, slice_index, vec_capacity};
+ghost use Rattle.std.specs.VecDeque.{deque_capacity};
+ghost use Rattle.mrpc_table.specs.Calls.{IsCallOf};
+ghost use Rattle.mrpc_table.specs.Valid.{IsValid};
+ghost use Rattle.mrpc_table.specs.declared.table.Table.{Table as TheTable};
+ghost use Rattle.engine_core.specs.Answers.{note, ticket_in};
+ghost use Rattle.engine_core.specs.Chains.{Entry};
+ghost use Rattle.engine_core.specs.Engines.{EngineParts};
+ghost use Rattle.engine_core.specs.Turns.{noted_in, refusal};
+ghost use Rattle.call_history.specs.Behind.{Behind, has_failed, policy_of};
+ghost use Rattle.call_history.specs.Events.{note_behind};
+ghost use Rattle.call_history.specs.Rules.{May};
+ghost use Rattle.call_history.specs.Rules.{IsAt, IsCalledFor, IsCleared, IsSentNext};
+ghost use Rattle.call_history.specs.Rules.{IsAnswered, IsDenied, Meets, cap_of};
+ghost use Rattle.call_history.specs.declared.happening.Cause.{Cause as TheCause};
+ghost use Rattle.call_history.specs.declared.happening.Cause.TheVariants as cause;
+ghost use Rattle.call_history.specs.declared.happening.Happening.{Happening as TheHappening};
+ghost use Rattle.call_history.specs.declared.happening.Happening.TheVariants.{Drawn};
+ghost use Rattle.call_history.specs.declared.happening.Happening.TheVariants.{Redacted, Refused, Sent};
+ghost use Rattle.audit_rules.specs.Asking.{IsAsked, seqs_of};
+ghost use Rattle.audit_rules.specs.Knowing.{HasRoom, IsFree, IsFreeFor, IsKnowing};
+ghost use Rattle.audit_rules.specs.Knowing.{Knows, LeavesOpen, under};
+ghost use Rattle.audit_rules.specs.Sorts.{IsNoLinkCause};
+ghost use Rattle.audit_rules.specs.declared.left.Left.TheVariants.{Nothing};
+
+use crate::ask::{Asked, ask, reaches};
+use crate::checker::Checker;
+use crate::left::Left;
+use crate::sorts::{cap_of, is_frame_of, is_named_rule, noted_in};
+use call_history::{Cause, chain_goes_on, forms_go_on, standing_goes_on, ties_go_on};
+use engine_core::{Noted, Outcome, Why, denied_by_a_rule, one_answer};
+use mrpc_table::{Name, Table};
+
+impl Checker {
+    // The entry of a name is asked what it answers to a call, where every entry before lets the call pass.
+    fn ask(&mut self, table: &Table, seq: u32, name: &Name, ticket: u64) -> Option<Asked>
+        requires knowing { IsKnowing table.now self.old }
+        requires free { IsFree self.old.left }
+        ensures asked { (past : Behind) → Knows table.now past self.old
+            → IfSome result (λ a. IsAsked (under table.now self.old) past self.old.attached seq name.now a self.old.calls
+            self.new.engines.items self.new.calls self.new.reached.items) }
+        ensures none { (past : Behind) → Knows table.now past self.old
+            → IfNone result ((e : Entry) → IsAt (under table.now self.old) past seq name.now e → ⊥) }
+        ensures drawn { IfSome result (λ a. (window drawn : ℕ) → noted_in a.outcome ≡ Noted.Drawn window drawn
+            → drawn ≡ ticket) }
+        ensures numbers { seqs_of self.new.calls ≡ seqs_of self.old.calls }
+        ensures entries { map (λ e. e.entry) self.new.engines.items ≡ map (λ e. e.entry) self.old.engines.items }
+        ensures of_table { All (λ s. IsCallOf table.now s.call) self.new.calls }
+        ensures places { length self.new.reached.items ≡ length self.old.reached.items }
+        ensures latest { self.new.latest ≡ self.old.latest }
+        ensures left { self.new.left ≡ self.old.left }
+        ensures rest { self.new ≡ record self.old {
+          engines = self.new.engines;
+          calls = self.new.calls;
+          reached = self.new.reached;
+        } }
+        ensures room { HasRoom self.new }
+    {
+        ask(
+            &mut self.calls,
+            &mut self.reached,
+            &mut self.engines,
+            seq,
+            name,
+            table,
+            self.moment,
+            ticket,
+        )
+    }
+
+    // A note of a call that isn't a ticket.
+    pub(crate) fn note(&mut self, table: &Table, seq: u32, name: &Name, noted: Noted) -> bool
+        requires knowing { IsKnowing table.now self.old }
+        requires free { IsFree self.old.left }
+        requires noted { noted ≢ Noted.Nothing }
+        requires no_ticket { ticket_in (note noted) ≡ None }
+        ensures due { (past : Behind) → Knows table.now past self.old
+            → OnTrue result (IsCalledFor (under table.now self.old) past seq name.now noted) }
+        ensures not_due { (past : Behind) → Knows table.now past self.old
+            → OnFalse result (IsCalledFor (under table.now self.old) past seq name.now noted → ⊥) }
+        ensures knows { (past : Behind) (what : TheHappening) → Knows table.now past self.old
+            → note_behind name.now seq noted past ≡ what ∷ past → May (under table.now self.old) past what
+            → OnTrue result (Knows table.now (what ∷ past) self.new) }
+        ensures same { (T : TheTable) → under T self.new ≡ under T self.old }
+    {
+        one_answer();
+        chain_goes_on();
+        let Some(asked) = self.ask(table, seq, name, 0) else {
+            return false;
+        };
+        if noted_in(asked.outcome) != noted {
+            return false;
+        }
+        if !self.is_next(&asked, seq) {
+            return false;
+        }
+        self.reached[asked.place] = asked.at + 1;
+        true
+    }
+
+    // Whether the entry at which a call was asked has noted nothing of a later one; then this is the latest.
+    fn is_next(&mut self, asked: &Asked, seq: u32) -> bool
+        requires { asked.now.at < length self.old.latest.items }
+        ensures next { OnTrue result (slice_index self.old.latest.items asked.now.at < seq) }
+        ensures not_next { OnFalse result (seq ≤ slice_index self.old.latest.items asked.now.at) }
+        ensures latest { OnTrue result (self.new.latest.items ≡ set self.old.latest.items asked.now.at seq) }
+        ensures rest { self.new ≡ record self.old { latest = self.new.latest } }
+        ensures capacity { vec_capacity self.new.latest ≡ vec_capacity self.old.latest }
+    {
+        if seq <= self.latest[asked.at] {
+            return false;
+        }
+        self.latest[asked.at] = seq;
+        true
+    }
+
+    // A ticket of a quota.
+    pub(crate) fn draw(
+        &mut self,
+        table: &Table,
+        seq: u32,
+        name: Name,
+        window: u64,
+        ticket: u64,
+    ) -> bool
+        requires knowing { IsKnowing table.now self.old }
+        requires free { IsFree self.old.left }
+        ensures due { (past : Behind) → Knows table.now past self.old
+            → OnTrue result (IsCalledFor (under table.now self.old) past seq name (Noted.Drawn window ticket)) }
+        ensures not_due { (past : Behind) → Knows table.now past self.old
+            → OnFalse result (IsCalledFor (under table.now self.old) past seq name (Noted.Drawn window ticket) → ⊥) }
+        ensures knows { (past : Behind) → Knows table.now past self.old
+            → May (under table.now self.old) past (Drawn seq name window ticket)
+            → OnTrue result (Knows table.now (Drawn seq name window ticket ∷ past) self.new) }
+        ensures same { (T : TheTable) → under T self.new ≡ under T self.old }
+    {
+        one_answer();
+        chain_goes_on();
+        let Some(asked) = self.ask(table, seq, &name, ticket) else {
+            return false;
+        };
+        if noted_in(asked.outcome) != (Noted::Drawn { window, ticket }) {
+            return false;
+        }
+        if !self.is_next(&asked, seq) {
+            return false;
+        }
+        self.settle(&asked, seq, name, ticket);
+        true
+    }
+
+    // A call for which a ticket was drawn passes the entry where the ticket is below the cap, and waits for its refusal
+    // where it isn't.
+    fn settle(&mut self, asked: &Asked, seq: u32, name: Name, ticket: u64)
+        requires engine { asked.now.at < length self.old.engines.items }
+        requires few { length self.old.engines.items ≤ 8 }
+        requires place { asked.now.place < length self.old.reached.items }
+        ensures rest { self.new ≡ record self.old { left = self.new.left; reached = self.new.reached } }
+        ensures free { IsFree self.old.left → IsFree self.new.left }
+        ensures left { (past : Behind) (window : ℕ) → self.old.left ≡ Nothing
+            → IfSome (slice_get self.old.engines.items asked.now.at) (λ e. policy_of name past ≡ Some e.entry.policy
+            → LeavesOpen (Drawn seq name window ticket ∷ past) self.new.left) }
+        ensures capacity { deque_capacity self.new.reached ≡ deque_capacity self.old.reached }
+        ensures reached { (self.new.reached.items ≡ self.old.reached.items)
+            ⊎ ((self.new.reached.items ≡ set self.old.reached.items asked.now.place (asked.now.at + 1))
+            × ((e : EngineParts) (cap : ℕ) → slice_get self.old.engines.items asked.now.at ≡ Some e
+            → cap_of e.entry.policy ≡ Some cap → ticket < cap)) }
+    {
+        if self.awaits_refusal(asked.at, seq, name, ticket) {
+            return;
+        }
+        self.reached[asked.place] = asked.at + 1;
+    }
+
+    // Whether the ticket of a call isn't below the cap; then it waits for its refusal.
+    fn awaits_refusal(&mut self, at: usize, seq: u32, name: Name, ticket: u64) -> bool
+        requires { at < length self.old.engines.items }
+        ensures rest { self.new ≡ record self.old { left = self.new.left } }
+        ensures free { IsFree self.old.left → IsFree self.new.left }
+        ensures left { (past : Behind) (window : ℕ) → self.old.left ≡ Nothing
+            → IfSome (slice_get self.old.engines.items at) (λ e. policy_of name past ≡ Some e.entry.policy
+            → LeavesOpen (Drawn seq name window ticket ∷ past) self.new.left) }
+        ensures below { OnFalse result ((e : EngineParts) (cap : ℕ) → slice_get self.old.engines.items at ≡ Some e
+            → cap_of e.entry.policy ≡ Some cap → ticket < cap) }
+    {
+        let Some(cap) = cap_of(self.engines[at].policy()) else {
+            return false;
+        };
+        if ticket < cap {
+            return false;
+        }
+        self.left = Left::Over {
+            seq,
+            name,
+            ticket,
+            cap,
+        };
+        true
+    }
+
+    // Fields are cleared from a call.
+    pub(crate) fn clear(&mut self, table: &Table, seq: u32, name: &Name, version: u32) -> bool
+        requires knowing { IsKnowing table.now self.old }
+        requires free { IsFree self.old.left }
+        ensures due { (past : Behind) → Knows table.now past self.old
+            → OnTrue result (IsCleared (under table.now self.old) past seq name.now version) }
+        ensures not_due { (past : Behind) → Knows table.now past self.old
+            → OnFalse result (IsCleared (under table.now self.old) past seq name.now version → ⊥) }
+        ensures knows { (past : Behind) → Knows table.now past self.old
+            → May (under table.now self.old) past (Redacted seq name.now version)
+            → OnTrue result (Knows table.now (Redacted seq name.now version ∷ past) self.new) }
+        ensures same { (T : TheTable) → under T self.new ≡ under T self.old }
+    {
+        one_answer();
+        chain_goes_on();
+        forms_go_on();
+        let Some(asked) = self.ask(table, seq, name, 0) else {
+            return false;
+        };
+        if asked.outcome != Outcome::Redacted {
+            return false;
+        }
+        if self.engines[asked.at].version() != version {
+            return false;
+        }
+        self.reached[asked.place] = 0;
+        true
+    }
+
+    // The first call is sent.
+    pub(crate) fn send(&mut self, table: &Table, seq: u32, bytes: u64) -> bool
+        requires valid { IsValid table.now }
+        requires knowing { IsKnowing table.now self.old }
+        requires free { IsFree self.old.left }
+        ensures sends { (past : Behind) → Knows table.now past self.old
+            → OnTrue result (IsSentNext (under table.now self.old) past seq bytes) }
+        ensures sends_not { (past : Behind) → Knows table.now past self.old
+            → OnFalse result (IsSentNext (under table.now self.old) past seq bytes → ⊥) }
+        ensures knows { (past : Behind) → Knows table.now past self.old
+            → May (under table.now self.old) past (Sent seq bytes)
+            → OnTrue result (Knows table.now (Sent seq bytes ∷ past) self.new) }
+        ensures same { (T : TheTable) → under T self.new ≡ under T self.old }
+    {
+        chain_goes_on();
+        ties_go_on();
+        if self.first() != Some(seq) {
+            return false;
+        }
+        let from = self.reached[0];
+        let at = self.engines.len();
+        if !reaches(
+            &mut self.calls,
+            0,
+            &mut self.engines,
+            from,
+            at,
+            table,
+            self.moment,
+        ) {
+            return false;
+        }
+        if !is_frame_of(table, self.calls.at(0).call(), bytes) {
+            return false;
+        }
+        self.leave(0);
+        true
+    }
+
+    // A call is refused.
+    pub(crate) fn refuse(&mut self, table: &Table, seq: u32, cause: Cause) -> bool
+        requires knowing { IsKnowing table.now self.old }
+        requires free { IsFreeFor cause self.old.left }
+        ensures answered { (past : Behind) → Knows table.now past self.old
+            → OnTrue result (IsAnswered (under table.now self.old) past seq cause) }
+        ensures not_answered { (past : Behind) → Knows table.now past self.old
+            → OnFalse result (IsAnswered (under table.now self.old) past seq cause → ⊥) }
+        ensures knows { (past : Behind) → Knows table.now past self.old
+            → May (under table.now self.old) past (Refused seq cause)
+            → OnTrue result (Knows table.now (Refused seq cause ∷ past) self.new) }
+        ensures same { (T : TheTable) → under T self.new ≡ under T self.old }
+    {
+        match cause {
+            Cause::Malformed => {
+                self.forget();
+                true
+            }
+            Cause::Access {
+                name,
+                version,
+                rule,
+            } => self.deny(table, seq, &name, version, &rule),
+            Cause::Rate { name, level, cost } => {
+                self.answers(table, seq, &name, Why::Short { level, cost })
+            }
+            Cause::Quota { name, ticket, cap } => {
+                self.answers(table, seq, &name, Why::Over { ticket, cap })
+            }
+            Cause::Transport => {
+                self.lose();
+                true
+            }
+        }
+    }
+
+    // The malformed call that waits has its refusal.
+    fn forget(&mut self)
+        ensures knows { (T : TheTable) (past : Behind) (seq : ℕ) → Knows T past self.old
+            → May (under T self.old) past (Refused seq cause.Malformed)
+            → Knows T (Refused seq cause.Malformed ∷ past) self.new }
+        ensures same { (T : TheTable) → under T self.new ≡ under T self.old }
+    {
+        ties_go_on();
+        standing_goes_on();
+        self.left = Left::Nothing;
+    }
+
+    // The link has failed, and the first call that stands is refused for it.
+    fn lose(&mut self)
+        requires places { length self.old.reached.items ≡ length self.old.calls }
+        ensures knows { (T : TheTable) (past : Behind) (seq : ℕ) → Knows T past self.old → IsFree self.old.left
+            → May (under T self.old) past (Refused seq cause.Transport)
+            → Knows T (Refused seq cause.Transport ∷ past) self.new }
+        ensures same { (T : TheTable) → under T self.new ≡ under T self.old }
+    {
+        if self.calls.is_empty() {
+            return;
+        }
+        self.leave(0);
+        self.failed = true;
+    }
+
+    // A refusal is the answer of the entry of a name.
+    fn answers(&mut self, table: &Table, seq: u32, name: &Name, why: Why) -> bool
+        requires knowing { IsKnowing table.now self.old }
+        requires free { IsFree self.old.left }
+        ensures answered { (past : Behind) → Knows table.now past self.old
+            → OnTrue result (Meets (under table.now self.old) past seq name.now (refusal why)) }
+        ensures not_answered { (past : Behind) → Knows table.now past self.old
+            → OnFalse result (Meets (under table.now self.old) past seq name.now (refusal why) → ⊥) }
+        ensures knows { (past : Behind) (cause : TheCause) → Knows table.now past self.old → IsNoLinkCause cause
+            → May (under table.now self.old) past (Refused seq cause)
+            → OnTrue result (Knows table.now (Refused seq cause ∷ past) self.new) }
+        ensures same { (T : TheTable) → under T self.new ≡ under T self.old }
+    {
+        one_answer();
+        chain_goes_on();
+        let Some(asked) = self.ask(table, seq, name, 0) else {
+            return false;
+        };
+        if asked.outcome != Outcome::Refused(Noted::Nothing, why) {
+            return false;
+        }
+        self.leave(asked.place);
+        true
+    }
+
+    // The entry of a name denies a call by the rule of a name.
+    fn deny(&mut self, table: &Table, seq: u32, name: &Name, version: u32, rule: &Name) -> bool
+        requires knowing { IsKnowing table.now self.old }
+        requires free { IsFree self.old.left }
+        ensures denied { (past : Behind) → Knows table.now past self.old
+            → OnTrue result (IsDenied (under table.now self.old) past seq name.now version rule.now) }
+        ensures not_denied { (past : Behind) → Knows table.now past self.old
+            → OnFalse result (IsDenied (under table.now self.old) past seq name.now version rule.now → ⊥) }
+        ensures knows { (past : Behind) (cause : TheCause) → Knows table.now past self.old → IsNoLinkCause cause
+            → May (under table.now self.old) past (Refused seq cause)
+            → OnTrue result (Knows table.now (Refused seq cause ∷ past) self.new) }
+        ensures same { (T : TheTable) → under T self.new ≡ under T self.old }
+    {
+        one_answer();
+        chain_goes_on();
+        denied_by_a_rule();
+        let Some(asked) = self.ask(table, seq, name, 0) else {
+            return false;
+        };
+        let engine = &self.engines[asked.at];
+        if engine.version() != version {
+            return false;
+        }
+        if !is_named_rule(engine, asked.outcome, rule) {
+            return false;
+        }
+        self.leave(asked.place);
+        true
+    }
+
+    // The call at a place has its fate.
+    fn leave(&mut self, place: usize)
+        requires call { place < length self.old.calls }
+        requires place { place < length self.old.reached.items }
+        ensures sent { (T : TheTable) (past : Behind) (seq bytes : ℕ) → Knows T past self.old → IsFree self.old.left
+            → slice_get (seqs_of self.old.calls) place ≡ Some seq → May (under T self.old) past (Sent seq bytes)
+            → Knows T (Sent seq bytes ∷ past) self.new }
+        ensures refused { (T : TheTable) (past : Behind) (seq : ℕ) (why : TheCause) → Knows T past self.old
+            → IsFree self.old.left → slice_get (seqs_of self.old.calls) place ≡ Some seq
+            → May (under T self.old) past (Refused seq why) → Knows T (Refused seq why ∷ past)
+            (record self.new { failed = has_failed (Refused seq why ∷ past) }) }
+        ensures failed { self.new.failed ≡ self.old.failed }
+        ensures same { (T : TheTable) → under T self.new ≡ under T self.old }
+    {
+        ties_go_on();
+        standing_goes_on();
+        let _ = self.calls.take(place);
+        let _ = self.reached.remove(place);
+        self.left = Left::Nothing;
+    }
+}
