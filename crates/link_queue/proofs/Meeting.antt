@@ -3,13 +3,13 @@ use Rattle.std.proofs.Common.{◌≡◌, ◌≤◌, ℕ, Bool, true, List, ◌++
 use mathlib.Core.List.{IsPrefix}
 use Rattle.mrpc_base.specs.Faults.{Rose, raised}
 use Rattle.one_way_queue.specs.declared.piece.Piece.{Piece}
-use Rattle.one_way_queue.specs.Pieces.{bytes_of, marks_of}
+use Rattle.one_way_queue.specs.Pieces.{bytes_of, marks_of, frames_of}
 use Rattle.link_queue.specs.declared.marks.Order.{Order}
 use Rattle.link_queue.specs.declared.marks.News.{News}
 use Rattle.link_queue.specs.declared.marks.News.TheVariants.{End, Failed}
 use Rattle.link_queue.specs.declared.marks.Health.{Health}
 use Rattle.link_queue.specs.declared.marks.Health.TheVariants.{Working, Failed as HasFailed, Memory as LacksMemory}
-use Rattle.link_queue.specs.Marks.{Among, frames_of, is_closed, PassesOn, HasBroughtBack}
+use Rattle.link_queue.specs.Marks.{Among, is_closed, PassesOn, HasBroughtBack}
 use Rattle.link_queue.proofs.Pieces.{closed_whole, among_whole, end_whole, begins_prefix}
 
 -- a count that was raised rose
@@ -17,14 +17,18 @@ pub raised_rose : (old new : ℕ) → raised old ≤ new → Rose old new
 raised_rose old new h = grind arith
 
 -- all that was put was taken
-pub all_taken : (taken put : List (Piece Order)) (passed : List (List ℕ)) (health : Health) → PassesOn taken passed true health → is_closed put ≡ true → IsPrefix taken put → taken ≡ put
+pub all_taken : (taken put : List (Piece Order)) (passed : List (List ℕ)) (health : Health)
+    → PassesOn taken passed true health → is_closed put ≡ true → IsPrefix taken put → taken ≡ put
 all_taken taken put passed health h closed p = closed_whole taken put (h.closed_last refl) closed p
 
-pub passed_in_order : (taken put : List (Piece Order)) (passed : List (List ℕ)) (health : Health) → PassesOn taken passed true health → is_closed put ≡ true → IsPrefix taken put → IsPrefix passed (frames_of put)
+pub passed_in_order : (taken put : List (Piece Order)) (passed : List (List ℕ)) (health : Health)
+    → PassesOn taken passed true health → is_closed put ≡ true → IsPrefix taken put → IsPrefix passed (frames_of put)
 passed_in_order taken put passed health h closed p =
     subst (λ (l : List (Piece Order)). IsPrefix passed (frames_of l)) (all_taken taken put passed health h closed p) (begins_prefix (frames_of taken) passed h.in_order)
 
-pub passed_whole : (taken put : List (Piece Order)) (passed : List (List ℕ)) (health : Health) → PassesOn taken passed true health → is_closed put ≡ true → IsPrefix taken put → (health ≡ HasFailed → ⊥) → (health ≡ LacksMemory → ⊥) → passed ≡ frames_of put
+pub passed_whole : (taken put : List (Piece Order)) (passed : List (List ℕ)) (health : Health)
+    → PassesOn taken passed true health → is_closed put ≡ true → IsPrefix taken put → (health ≡ HasFailed → ⊥)
+    → (health ≡ LacksMemory → ⊥) → passed ≡ frames_of put
 passed_whole taken put passed health h closed p well ample = works health refl well ample ∙ ap frames_of (all_taken taken put passed health h closed p)
   where
     works : (x : Health) → health ≡ x → (health ≡ HasFailed → ⊥) → (health ≡ LacksMemory → ⊥) → passed ≡ frames_of taken
@@ -33,16 +37,21 @@ passed_whole taken put passed health h closed p well ample = works health refl w
     works LacksMemory e well ample = absurd (ample e)
 
 -- what came is a beginning of what was brought
-pub came_in_order : (given came : List ℕ) (put : List (Piece News)) (ended : Bool) (health : Health) → HasBroughtBack put came ended health → IsPrefix given (bytes_of put) → IsPrefix given came
+pub came_in_order : (given came : List ℕ) (put : List (Piece News)) (ended : Bool) (health : Health)
+    → HasBroughtBack put came ended health → IsPrefix given (bytes_of put) → IsPrefix given came
 came_in_order given came put ended health h p =
     let q = begins_prefix came (bytes_of put) h.in_order in
     (p.0 ++ q.0, sym (append_assoc given p.0 q.0) ∙ ap (λ (l : List ℕ). l ++ q.0) p.1 ∙ q.1)
 
-pub came_whole : (given came : List ℕ) (taken put : List (Piece News)) (ended : Bool) (health : Health) → HasBroughtBack put came ended health → IsPrefix taken put → Among End (marks_of taken) → given ≡ bytes_of taken → given ≡ came
+pub came_whole : (given came : List ℕ) (taken put : List (Piece News)) (ended : Bool) (health : Health)
+    → HasBroughtBack put came ended health → IsPrefix taken put → Among End (marks_of taken) → given ≡ bytes_of taken
+    → given ≡ came
 came_whole given came taken put ended health h p a all = all ∙ end_whole taken put h.ends_once p a ∙ h.whole (among_whole End taken put p a)
 
-pub ended_first : (came : List ℕ) (taken put : List (Piece News)) (ended : Bool) (health : Health) → HasBroughtBack put came ended health → IsPrefix taken put → Among End (marks_of taken) → ended ≡ true
+pub ended_first : (came : List ℕ) (taken put : List (Piece News)) (ended : Bool) (health : Health)
+    → HasBroughtBack put came ended health → IsPrefix taken put → Among End (marks_of taken) → ended ≡ true
 ended_first came taken put ended health h p a = h.ended_first (among_whole End taken put p a)
 
-pub failed_first : (came : List ℕ) (taken put : List (Piece News)) (ended : Bool) (health : Health) → HasBroughtBack put came ended health → IsPrefix taken put → Among Failed (marks_of taken) → health ≡ HasFailed
+pub failed_first : (came : List ℕ) (taken put : List (Piece News)) (ended : Bool) (health : Health)
+    → HasBroughtBack put came ended health → IsPrefix taken put → Among Failed (marks_of taken) → health ≡ HasFailed
 failed_first came taken put ended health h p a = h.failed_first (among_whole Failed taken put p a)

@@ -1,17 +1,18 @@
 -- Pieces that go to a writer and come back from it.
-use Rattle.std.proofs.Common.{◌≡◌, ℕ, Bool, true, false, true≢false, List, [], ◌∷◌, ◌++◌, Option, None, Some, length, take, drop, refl, ap, sym, ◌∙◌, append_assoc, subst, inl, inr, ⊎_elim}
+use Rattle.std.proofs.Common.{◌≡◌, ℕ, Bool, true, false, true≢false, List, [], ◌∷◌, ◌++◌, Option, None, Some, length}
+use Rattle.std.proofs.Common.{take, drop, refl, ap, sym, ◌∙◌, append_assoc, subst, inl, inr, ⊎_elim}
 use Rattle.std.proofs.lemmas.List.{append-nil, take-append-drop}
 use Rattle.std.proofs.Math.Seq.{take-length, take-append_seam}
 use mathlib.Core.List.{IsPrefix}
 use Rattle.one_way_queue.specs.declared.piece.Piece.{Piece}
 use Rattle.one_way_queue.specs.declared.piece.Piece.TheVariants.{Bytes, Mark}
-use Rattle.one_way_queue.specs.Pieces.{bytes_of, marks_of}
+use Rattle.one_way_queue.specs.Pieces.{bytes_of, marks_of, frames_of}
 use Rattle.link_queue.specs.declared.marks.Order.{Order}
 use Rattle.link_queue.specs.declared.marks.Order.TheVariants.{Finish, Close}
 use Rattle.link_queue.specs.declared.marks.News.{News}
 use Rattle.link_queue.specs.declared.marks.News.TheVariants.{End, Failed, Memory}
 use Rattle.link_queue.specs.Known.{BeginsWith}
-use Rattle.link_queue.specs.Marks.{Among, frames_of, is_open, is_closed, has_finished, has_no_bytes, ends_once, held_bytes, may_hold}
+use Rattle.link_queue.specs.Marks.{Among, is_open, is_closed, has_finished, has_no_bytes, ends_once, held_bytes, may_hold}
 
 module _ {M : Type 0} where
   pub frames_snoc_bytes : (pieces : List (Piece M)) (frame : List ℕ) → frames_of (pieces ++ Bytes frame ∷ []) ≡ frames_of pieces ++ frame ∷ []
@@ -148,7 +149,8 @@ ends_snoc_mark (Mark End ∷ ps) m h = marks_only_snoc ps m h
 ends_snoc_mark (Mark Failed ∷ ps) m h = ends_snoc_mark ps m h
 ends_snoc_mark (Mark Memory ∷ ps) m h = ends_snoc_mark ps m h
 
-pub ends_snoc_bytes : (pieces : List (Piece News)) (bytes : List ℕ) → ends_once pieces ≡ true → (Among End (marks_of pieces) → ⊥) → ends_once (pieces ++ Bytes bytes ∷ []) ≡ true
+pub ends_snoc_bytes : (pieces : List (Piece News)) (bytes : List ℕ) → ends_once pieces ≡ true
+    → (Among End (marks_of pieces) → ⊥) → ends_once (pieces ++ Bytes bytes ∷ []) ≡ true
 ends_snoc_bytes [] bytes h apart = refl
 ends_snoc_bytes (Bytes b ∷ ps) bytes h apart = ends_snoc_bytes ps bytes h apart
 ends_snoc_bytes (Mark End ∷ ps) bytes h apart = absurd (apart (inl refl))
@@ -187,19 +189,22 @@ pub put_bytes : (pieces : List (Piece News)) (piece : Piece News) → bytes_of (
 put_bytes pieces (Bytes b) = bytes_snoc_bytes pieces b
 put_bytes pieces (Mark m) = bytes_snoc_mark pieces m ∙ sym (append-nil (bytes_of pieces))
 
-pub put_ends : (ended : Bool) (pieces : List (Piece News)) (piece : Piece News) → may_hold ended (Some piece) ≡ true → (Among End (marks_of pieces) → ended ≡ true) → ends_once pieces ≡ true → ends_once (pieces ++ piece ∷ []) ≡ true
+pub put_ends : (ended : Bool) (pieces : List (Piece News)) (piece : Piece News) → may_hold ended (Some piece) ≡ true
+    → (Among End (marks_of pieces) → ended ≡ true) → ends_once pieces ≡ true → ends_once (pieces ++ piece ∷ []) ≡ true
 put_ends true pieces (Bytes b) may first h = absurd (cc (may))
 put_ends false pieces (Bytes b) may first h = ends_snoc_bytes pieces b h (λ a. true≢false (sym (first a)))
 put_ends ended pieces (Mark m) may first h = ends_snoc_mark pieces m h
 
-pub put_ended : (ended : Bool) (pieces : List (Piece News)) (piece : Piece News) → may_hold ended (Some piece) ≡ true → (Among End (marks_of pieces) → ended ≡ true) → Among End (marks_of (pieces ++ piece ∷ [])) → ended ≡ true
+pub put_ended : (ended : Bool) (pieces : List (Piece News)) (piece : Piece News) → may_hold ended (Some piece) ≡ true
+    → (Among End (marks_of pieces) → ended ≡ true) → Among End (marks_of (pieces ++ piece ∷ [])) → ended ≡ true
 put_ended ended pieces (Bytes b) may first a = first (subst (Among End) (marks_snoc_bytes pieces b) a)
 put_ended true pieces (Mark m) may first a = refl
 put_ended false pieces (Mark End) may first a = absurd (cc (may))
 put_ended false pieces (Mark Failed) may first a = absurd (cc (may))
 put_ended false pieces (Mark Memory) may first a = absurd (cc (may))
 
-pub put_failed : (ended : Bool) (pieces : List (Piece News)) (piece : Piece News) → may_hold ended (Some piece) ≡ true → Among Failed (marks_of (pieces ++ piece ∷ [])) → Among Failed (marks_of pieces)
+pub put_failed : (ended : Bool) (pieces : List (Piece News)) (piece : Piece News) → may_hold ended (Some piece) ≡ true
+    → Among Failed (marks_of (pieces ++ piece ∷ [])) → Among Failed (marks_of pieces)
 put_failed ended pieces (Bytes b) may a = subst (Among Failed) (marks_snoc_bytes pieces b) a
 put_failed ended pieces (Mark End) may a = among_front Failed End (marks_of pieces) (λ e. cc (e)) (subst (Among Failed) (marks_snoc_mark pieces End) a)
 put_failed ended pieces (Mark Failed) may a = absurd (cc (may))

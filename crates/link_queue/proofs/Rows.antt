@@ -9,8 +9,9 @@ use Rattle.link_queue.specs.declared.marks.News.{News}
 use Rattle.link_queue.specs.declared.marks.News.TheVariants.{End, Failed, Memory}
 use Rattle.link_queue.specs.declared.marks.Health.TheVariants.{Working, Failed as HasFailed, Memory as LacksMemory}
 use Rattle.link_queue.specs.Known.{TellsMore, since}
-use Rattle.link_queue.specs.Marks.{Among, frames_of, is_open, is_closed, has_finished, ends_once, may_hold, IsNewsOf}
-use Rattle.link_queue.specs.Marks.{QueuesUp, HasQueuedUp, PassesOn, BringsBack, HasBroughtBack}
+use Rattle.one_way_queue.specs.Pieces.{frames_of}
+use Rattle.link_queue.specs.Marks.{Among, is_open, is_closed, has_finished, ends_once, may_hold, IsNewsOf}
+use Rattle.link_queue.specs.Marks.{QueuesUp, HearsBack, HasQueuedUp, PassesOn, BringsBack, HasBroughtBack}
 
 abbrev orders : List (Piece Order)
 orders = Bytes (1 ∷ 2 ∷ []) ∷ Mark Finish ∷ Bytes (3 ∷ []) ∷ Mark Close ∷ []
@@ -146,30 +147,31 @@ no_end_with_a_rest h = let e = h.whole (inl refl) in cc (e)
 abbrev bytes_and_end : List (Piece News)
 bytes_and_end = Bytes (7 ∷ 8 ∷ []) ∷ Mark End ∷ []
 
-abbrev queues : ℕ → Bool → List (Piece News) → List ℕ → Bool → ℕ → Type 0
-queues free finished taken given ended faults =
-    QueuesUp 1 3 free (Bytes (1 ∷ []) ∷ Mark Finish ∷ []) finished taken given ended Working faults
+abbrev queues : ℕ → Bool → Type 0
+queues free finished = QueuesUp 1 3 free (Bytes (1 ∷ []) ∷ Mark Finish ∷ []) finished
 
-still_comes : queues 1 true (Bytes (7 ∷ 8 ∷ []) ∷ []) (7 ∷ []) false 0
-still_comes = record {
+abbrev hears : List (Piece News) → List ℕ → Bool → ℕ → Type 0
+hears taken given ended faults = HearsBack taken given ended Working faults
+
+one_place_is_left : queues 1 true
+one_place_is_left = record {
   places = refl;
   for_the_end = λ e. absurd (true≢false e);
   for_the_closing = omega arith;
   unclosed = refl;
   finishes = refl;
+}
+
+still_comes : hears (Bytes (7 ∷ 8 ∷ []) ∷ []) (7 ∷ []) false 0
+still_comes = record {
   ends = λ e. absurd (true≢false (sym e));
   gave = λ e. absurd (true≢false (sym e));
   fails = λ e. absurd (cc (e));
   counts = λ some. absurd (omega (arith, some));
 }
 
-all_came : queues 1 true bytes_and_end (7 ∷ 8 ∷ []) true 0
+all_came : hears bytes_and_end (7 ∷ 8 ∷ []) true 0
 all_came = record {
-  places = refl;
-  for_the_end = λ e. absurd (true≢false e);
-  for_the_closing = omega arith;
-  unclosed = refl;
-  finishes = refl;
   ends = λ _. inl refl;
   gave = λ _. refl;
   fails = λ e. absurd (cc (e));
@@ -177,21 +179,21 @@ all_came = record {
 }
 
 -- it ends only at the mark of the end, and once every byte before it was given; its finish puts a mark
-no_end_without_the_mark : queues 1 true (Bytes (7 ∷ []) ∷ []) (7 ∷ []) true 0 → ⊥
+no_end_without_the_mark : hears (Bytes (7 ∷ []) ∷ []) (7 ∷ []) true 0 → ⊥
 no_end_without_the_mark h = absurd (h.ends refl)
 
-no_end_with_bytes_left : queues 1 true bytes_and_end (7 ∷ []) true 0 → ⊥
+no_end_with_bytes_left : hears bytes_and_end (7 ∷ []) true 0 → ⊥
 no_end_with_bytes_left h = let e = h.gave refl in cc (e)
 
-no_mark_without_finish : queues 1 false [] [] false 0 → ⊥
+no_mark_without_finish : queues 1 false → ⊥
 no_mark_without_finish h = true≢false h.finishes
 
 -- the places of the marks that are yet to come are free
-no_place_to_close : queues 0 true [] [] false 0 → ⊥
+no_place_to_close : queues 0 true → ⊥
 no_place_to_close h = omega (arith, h.for_the_closing)
 
 -- it counts no fault while the inner link works
-no_fault_of_its_own : queues 1 true [] [] false 1 → ⊥
+no_fault_of_its_own : hears [] [] false 1 → ⊥
 no_fault_of_its_own h = let e = h.counts (omega arith) in cc (e)
 
 -- a closed link put the closing mark last, and has learnt of a failure only by its mark

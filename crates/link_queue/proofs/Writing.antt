@@ -3,7 +3,7 @@ use Rattle.std.proofs.Common.{◌≡◌, ◌≢◌, ℕ, Bool, true, false, true
 use Rattle.std.proofs.lemmas.List.{append-nil}
 use Rattle.one_way_queue.specs.declared.piece.Piece.{Piece}
 use Rattle.one_way_queue.specs.declared.piece.Piece.TheVariants.{Bytes, Mark}
-use Rattle.one_way_queue.specs.Pieces.{bytes_of, marks_of}
+use Rattle.one_way_queue.specs.Pieces.{bytes_of, marks_of, frames_of}
 use Rattle.link_queue.specs.declared.marks.Order.{Order}
 use Rattle.link_queue.specs.declared.marks.Order.TheVariants.{Finish, Close}
 use Rattle.link_queue.specs.declared.marks.News.{News}
@@ -11,14 +11,19 @@ use Rattle.link_queue.specs.declared.marks.News.TheVariants.{End, Failed, Memory
 use Rattle.link_queue.specs.declared.marks.Health.{Health}
 use Rattle.link_queue.specs.declared.marks.Health.TheVariants.{Working, Failed as HasFailed, Memory as LacksMemory}
 use Rattle.link_queue.specs.Known.{BeginsWith}
-use Rattle.link_queue.specs.Marks.{Among, frames_of, is_open, is_closed, ends_once, held_bytes, may_hold, IsNewsOf, PassesOn, BringsBack, HasBroughtBack}
-use Rattle.link_queue.proofs.Pieces.{frames_snoc_bytes, frames_snoc_mark, open_snoc_bytes, open_snoc_finish, closed_snoc_close, put_bytes, put_ends, put_ended, put_failed, told_ended, told_failed, ends_snoc_mark, bytes_snoc_mark, ended_holds_none, begins_same, begins_append, begins_more}
+use Rattle.link_queue.specs.Marks.{Among, is_open, is_closed, ends_once, held_bytes, may_hold, IsNewsOf, PassesOn, BringsBack, HasBroughtBack}
+use Rattle.link_queue.proofs.Pieces.{frames_snoc_bytes, frames_snoc_mark, open_snoc_bytes, open_snoc_finish}
+use Rattle.link_queue.proofs.Pieces.{closed_snoc_close, put_bytes, put_ends, put_ended, put_failed, told_ended}
+use Rattle.link_queue.proofs.Pieces.{told_failed, ends_snoc_mark, bytes_snoc_mark, ended_holds_none, begins_same}
+use Rattle.link_queue.proofs.Pieces.{begins_append, begins_more}
 
 -- ---- to the inner link
 
 -- a frame went to the inner link, and was passed on unless it fails from now on
-pub frame_was_sent : (taken taken' : List (Piece Order)) (passed passed' : List (List ℕ)) (frame : List ℕ) (closed : Bool) (before after : Health) → before ≡ Working → closed ≡ false → taken' ≡ taken ++ Bytes frame ∷ []
-    → (after ≡ Working → passed' ≡ passed ++ frame ∷ []) → (after ≢ Working → passed' ≡ passed) → PassesOn taken passed closed before → PassesOn taken' passed' closed after
+pub frame_was_sent : (taken taken' : List (Piece Order)) (passed passed' : List (List ℕ)) (frame : List ℕ)
+    (closed : Bool) (before after : Health) → before ≡ Working → closed ≡ false → taken' ≡ taken ++ Bytes frame ∷ []
+    → (after ≡ Working → passed' ≡ passed ++ frame ∷ []) → (after ≢ Working → passed' ≡ passed)
+    → PassesOn taken passed closed before → PassesOn taken' passed' closed after
 frame_was_sent taken taken' passed passed' frame closed before after works unclosed more done kept h =
     let all : frames_of taken' ≡ frames_of taken ++ frame ∷ [] = ap frames_of more ∙ frames_snoc_bytes taken frame in
     record {
@@ -28,13 +33,18 @@ frame_was_sent taken taken' passed passed' frame closed before after works unclo
       whole = λ e. done e ∙ ap (λ (l : List (List ℕ)). l ++ frame ∷ []) (h.whole works) ∙ sym all;
     }
   where
-    order : (after : Health) → (after ≡ Working → passed' ≡ passed ++ frame ∷ []) → (after ≢ Working → passed' ≡ passed) → frames_of taken' ≡ frames_of taken ++ frame ∷ [] → BeginsWith (frames_of taken') passed'
+    order : (after : Health) → (after ≡ Working → passed' ≡ passed ++ frame ∷ [])
+        → (after ≢ Working → passed' ≡ passed) → frames_of taken' ≡ frames_of taken ++ frame ∷ []
+        → BeginsWith (frames_of taken') passed'
     order Working done kept all = begins_same (frames_of taken') passed' (done refl ∙ ap (λ (l : List (List ℕ)). l ++ frame ∷ []) (h.whole works) ∙ sym all)
-    order HasFailed done kept all = subst (λ (p : List (List ℕ) × List (List ℕ)). BeginsWith p.0 p.1) (λ i. (sym all i, sym (kept (λ e. cc (e))) i)) (begins_more (frames_of taken) passed (frame ∷ []) h.in_order)
-    order LacksMemory done kept all = subst (λ (p : List (List ℕ) × List (List ℕ)). BeginsWith p.0 p.1) (λ i. (sym all i, sym (kept (λ e. cc (e))) i)) (begins_more (frames_of taken) passed (frame ∷ []) h.in_order)
+    order HasFailed done kept all = subst (λ (p : List (List ℕ) × List (List ℕ)). BeginsWith p.0 p.1)
+        (λ i. (sym all i, sym (kept (λ e. cc (e))) i)) (begins_more (frames_of taken) passed (frame ∷ []) h.in_order)
+    order LacksMemory done kept all = subst (λ (p : List (List ℕ) × List (List ℕ)). BeginsWith p.0 p.1)
+        (λ i. (sym all i, sym (kept (λ e. cc (e))) i)) (begins_more (frames_of taken) passed (frame ∷ []) h.in_order)
 
 -- a frame was taken, and not passed on
-pub frame_was_left : (taken taken' : List (Piece Order)) (passed : List (List ℕ)) (frame : List ℕ) (closed : Bool) (health : Health) → health ≢ Working → closed ≡ false → taken' ≡ taken ++ Bytes frame ∷ []
+pub frame_was_left : (taken taken' : List (Piece Order)) (passed : List (List ℕ)) (frame : List ℕ) (closed : Bool)
+    (health : Health) → health ≢ Working → closed ≡ false → taken' ≡ taken ++ Bytes frame ∷ []
     → PassesOn taken passed closed health → PassesOn taken' passed closed health
 frame_was_left taken taken' passed frame closed health fails unclosed more h =
     let all : frames_of taken' ≡ frames_of taken ++ frame ∷ [] = ap frames_of more ∙ frames_snoc_bytes taken frame in
@@ -46,7 +56,9 @@ frame_was_left taken taken' passed frame closed health fails unclosed more h =
     }
 
 -- the sending side was ended
-pub finish_was_passed : (taken taken' : List (Piece Order)) (passed passed' : List (List ℕ)) (closed : Bool) (health health' : Health) → closed ≡ false → taken' ≡ taken ++ Mark Finish ∷ [] → passed' ≡ passed → health' ≡ health
+pub finish_was_passed : (taken taken' : List (Piece Order)) (passed passed' : List (List ℕ)) (closed : Bool)
+    (health health' : Health) → closed ≡ false → taken' ≡ taken ++ Mark Finish ∷ [] → passed' ≡ passed
+    → health' ≡ health
     → PassesOn taken passed closed health → PassesOn taken' passed' closed health'
 finish_was_passed taken taken' passed passed' closed health health' unclosed more same stays h =
     let all : frames_of taken' ≡ frames_of taken = ap frames_of more ∙ frames_snoc_mark taken Finish in
@@ -58,7 +70,9 @@ finish_was_passed taken taken' passed passed' closed health health' unclosed mor
     }
 
 -- the link was closed
-pub close_was_passed : (taken taken' : List (Piece Order)) (passed passed' : List (List ℕ)) (closed : Bool) (health health' : Health) → closed ≡ false → taken' ≡ taken ++ Mark Close ∷ [] → passed' ≡ passed → health' ≡ health
+pub close_was_passed : (taken taken' : List (Piece Order)) (passed passed' : List (List ℕ)) (closed : Bool)
+    (health health' : Health) → closed ≡ false → taken' ≡ taken ++ Mark Close ∷ [] → passed' ≡ passed
+    → health' ≡ health
     → PassesOn taken passed closed health → PassesOn taken' passed' true health'
 close_was_passed taken taken' passed passed' closed health health' unclosed more same stays h =
     let all : frames_of taken' ≡ frames_of taken = ap frames_of more ∙ frames_snoc_mark taken Close in
@@ -70,7 +84,9 @@ close_was_passed taken taken' passed passed' closed health health' unclosed more
     }
 
 -- the inner link may fail from now on
-pub passes_on_less : (taken : List (Piece Order)) (passed passed' : List (List ℕ)) (closed : Bool) (before after : Health) → before ≡ Working → passed' ≡ passed → PassesOn taken passed closed before → PassesOn taken passed' closed after
+pub passes_on_less : (taken : List (Piece Order)) (passed passed' : List (List ℕ)) (closed : Bool)
+    (before after : Health) → before ≡ Working → passed' ≡ passed → PassesOn taken passed closed before
+    → PassesOn taken passed' closed after
 passes_on_less taken passed passed' closed before after works same h = record {
   unclosed = h.unclosed;
   closed_last = h.closed_last;
@@ -81,12 +97,15 @@ passes_on_less taken passed passed' closed before after works same h = record {
 -- ---- back from it
 
 -- what was held went into the queue
-pub held_was_put : (put put' : List (Piece News)) (piece : Piece News) (held held' : Option (Piece News)) (came : List ℕ) (ended : Bool) (health : Health) → held ≡ Some piece → held' ≡ None → put' ≡ put ++ piece ∷ []
+pub held_was_put : (put put' : List (Piece News)) (piece : Piece News) (held held' : Option (Piece News))
+    (came : List ℕ) (ended : Bool) (health : Health) → held ≡ Some piece → held' ≡ None → put' ≡ put ++ piece ∷ []
     → BringsBack put held came ended health → BringsBack put' held' came ended health
 held_was_put put put' piece held held' came ended health was is more h =
     let may : may_hold ended (Some piece) ≡ true = subst (λ (o : Option (Piece News)). may_hold ended o ≡ true) was h.holds in
     record {
-      in_order = ap (λ (o : Option (Piece News)). bytes_of put' ++ held_bytes o) is ∙ append-nil (bytes_of put') ∙ ap bytes_of more ∙ put_bytes put piece ∙ ap (λ (o : Option (Piece News)). bytes_of put ++ held_bytes o) (sym was) ∙ h.in_order;
+      in_order = ap (λ (o : Option (Piece News)). bytes_of put' ++ held_bytes o) is ∙ append-nil (bytes_of put')
+          ∙ ap bytes_of more ∙ put_bytes put piece ∙ ap (λ (o : Option (Piece News)). bytes_of put ++ held_bytes o)
+          (sym was) ∙ h.in_order;
       ends_once = ap ends_once more ∙ put_ends ended put piece may h.ended_first h.ends_once;
       ended_first = λ a. put_ended ended put piece may h.ended_first (subst (λ (l : List (Piece News)). Among End (marks_of l)) more a);
       holds = ap (λ (o : Option (Piece News)). may_hold ended o) is;
@@ -94,11 +113,16 @@ held_was_put put put' piece held held' came ended health was is more h =
     }
 
 -- what was held stays so
-pub held_is_kept : (put put' : List (Piece News)) (held held' : Option (Piece News)) (came : List ℕ) (ended : Bool) (health : Health) → held' ≡ held → put' ≡ put → BringsBack put held came ended health → BringsBack put' held' came ended health
-held_is_kept put put' held held' came ended health is same h = subst (λ (p : List (Piece News) × Option (Piece News)). BringsBack p.0 p.1 came ended health) (λ i. (sym same i, sym is i)) h
+pub held_is_kept : (put put' : List (Piece News)) (held held' : Option (Piece News)) (came : List ℕ) (ended : Bool)
+    (health : Health) → held' ≡ held → put' ≡ put → BringsBack put held came ended health
+    → BringsBack put' held' came ended health
+held_is_kept put put' held held' came ended health is same h =
+    subst (λ (p : List (Piece News) × Option (Piece News)). BringsBack p.0 p.1 came ended health)
+    (λ i. (sym same i, sym is i)) h
 
 -- the inner link may fail from now on
-pub brings_back_still : (put : List (Piece News)) (held : Option (Piece News)) (came came' : List ℕ) (ended ended' : Bool) (before after : Health) → before ≡ Working → came' ≡ came → ended' ≡ ended
+pub brings_back_still : (put : List (Piece News)) (held : Option (Piece News)) (came came' : List ℕ)
+    (ended ended' : Bool) (before after : Health) → before ≡ Working → came' ≡ came → ended' ≡ ended
     → BringsBack put held came ended before → BringsBack put held came' ended' after
 brings_back_still put held came came' ended ended' before after works same stays h = record {
   in_order = h.in_order ∙ sym same;
@@ -109,7 +133,8 @@ brings_back_still put held came came' ended ended' before after works same stays
 }
 
 -- nothing changed
-pub brings_back_same : (put : List (Piece News)) (held : Option (Piece News)) (came came' : List ℕ) (ended ended' : Bool) (health health' : Health) → came' ≡ came → ended' ≡ ended → health' ≡ health
+pub brings_back_same : (put : List (Piece News)) (held : Option (Piece News)) (came came' : List ℕ)
+    (ended ended' : Bool) (health health' : Health) → came' ≡ came → ended' ≡ ended → health' ≡ health
     → BringsBack put held came ended health → BringsBack put held came' ended' health'
 brings_back_same put held came came' ended ended' health health' same stays too h = record {
   in_order = h.in_order ∙ sym same;
@@ -120,7 +145,9 @@ brings_back_same put held came came' ended ended' health health' same stays too 
 }
 
 -- the link was told how the inner link does
-pub news_was_told : (news : News) (put put' : List (Piece News)) (held : Option (Piece News)) (came : List ℕ) (ended : Bool) (health : Health) → IsNewsOf health news → put' ≡ put ++ Mark news ∷ [] → BringsBack put held came ended health → held ≡ None
+pub news_was_told : (news : News) (put put' : List (Piece News)) (held : Option (Piece News)) (came : List ℕ)
+    (ended : Bool) (health : Health) → IsNewsOf health news → put' ≡ put ++ Mark news ∷ []
+    → BringsBack put held came ended health → held ≡ None
     → BringsBack put' held came ended health
 news_was_told End put put' held came ended health so more h holds = absurd so
 news_was_told Failed put put' held came ended health so more h holds = record {
@@ -139,7 +166,9 @@ news_was_told Memory put put' held came ended health so more h holds = record {
 }
 
 -- bytes came
-pub bytes_came : (put : List (Piece News)) (held : Option (Piece News)) (bytes came came' : List ℕ) (ended ended' : Bool) (before after : Health) → held ≡ None → ended ≡ false → ended' ≡ ended → before ≡ Working → came' ≡ came ++ bytes
+pub bytes_came : (put : List (Piece News)) (held : Option (Piece News)) (bytes came came' : List ℕ)
+    (ended ended' : Bool) (before after : Health) → held ≡ None → ended ≡ false → ended' ≡ ended → before ≡ Working
+    → came' ≡ came ++ bytes
     → BringsBack put held came ended before → BringsBack put (Some (Bytes bytes)) came' ended' after
 bytes_came put held bytes came came' ended ended' before after holds unended stays works more h =
     let brought : bytes_of put ≡ came = sym (append-nil (bytes_of put)) ∙ ap (λ (o : Option (Piece News)). bytes_of put ++ held_bytes o) (sym holds) ∙ h.in_order in
@@ -152,7 +181,8 @@ bytes_came put held bytes came came' ended ended' before after holds unended sta
     }
 
 -- the inner link answered that the other side has finished
-pub end_came : (put : List (Piece News)) (held : Option (Piece News)) (came came' : List ℕ) (ended ended' : Bool) (before after : Health) → held ≡ None → ended' ≡ true → before ≡ Working → came' ≡ came
+pub end_came : (put : List (Piece News)) (held : Option (Piece News)) (came came' : List ℕ) (ended ended' : Bool)
+    (before after : Health) → held ≡ None → ended' ≡ true → before ≡ Working → came' ≡ came
     → BringsBack put held came ended before → BringsBack put (Some (Mark End)) came' ended' after
 end_came put held came came' ended ended' before after holds now works same h = record {
   in_order = ap (λ (o : Option (Piece News)). bytes_of put ++ held_bytes o) (sym holds) ∙ h.in_order ∙ sym same;
@@ -163,10 +193,13 @@ end_came put held came came' ended ended' before after holds now works same h = 
 }
 
 -- what is still held is left out
-pub held_was_left : (put : List (Piece News)) (held : Option (Piece News)) (came : List ℕ) (ended : Bool) (health : Health) → BringsBack put held came ended health → HasBroughtBack put came ended health
+pub held_was_left : (put : List (Piece News)) (held : Option (Piece News)) (came : List ℕ) (ended : Bool)
+    (health : Health) → BringsBack put held came ended health → HasBroughtBack put came ended health
 held_was_left put held came ended health h = record {
   in_order = subst (λ (l : List ℕ). BeginsWith l (bytes_of put)) h.in_order (begins_append (bytes_of put) (held_bytes held));
-  whole = λ a. sym (append-nil (bytes_of put)) ∙ ap (λ (l : List ℕ). bytes_of put ++ l) (sym (ended_holds_none held (subst (λ (e : Bool). may_hold e held ≡ true) (h.ended_first a) h.holds))) ∙ h.in_order;
+  whole = λ a. sym (append-nil (bytes_of put)) ∙ ap (λ (l : List ℕ). bytes_of put ++ l)
+      (sym (ended_holds_none held (subst (λ (e : Bool). may_hold e held ≡ true) (h.ended_first a) h.holds)))
+      ∙ h.in_order;
   ends_once = h.ends_once;
   ended_first = h.ended_first;
   failed_first = h.failed_first;

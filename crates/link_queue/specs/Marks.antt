@@ -1,8 +1,8 @@
--- What goes to a writer and what comes back from it.
+-- The code's own: what goes to a writer and what comes back from it.
 use Rattle.std.specs.Prelude.{◌≡◌, ◌⊎◌, ◌<◌, ◌≤◌, ◌+◌, ◌++◌, ℕ, Bool, true, false, List, [], ◌∷◌, Option, None, Some}
 use Rattle.one_way_queue.specs.declared.piece.Piece.{Piece}
 use Rattle.one_way_queue.specs.declared.piece.Piece.TheVariants.{Bytes, Mark}
-use Rattle.one_way_queue.specs.Pieces.{bytes_of, marks_of}
+use Rattle.one_way_queue.specs.Pieces.{bytes_of, frames_of, marks_of}
 use Rattle.link_queue.specs.declared.marks.Health.{Health}
 use Rattle.link_queue.specs.declared.marks.Health.TheVariants.{Working, Failed as HasFailed, Memory as LacksMemory}
 use Rattle.link_queue.specs.Known.{BeginsWith}
@@ -15,12 +15,6 @@ use Rattle.link_queue.specs.declared.marks.News.TheVariants.{End, Failed, Memory
 abbrev pub Among : {M : Type 0} → M → List M → Type 0
 Among mark [] = ⊥
 Among mark (x ∷ xs) = (x ≡ mark) ⊎ Among mark xs
-
--- the frames among some pieces
-abbrev pub frames_of : {M : Type 0} → List (Piece M) → List (List ℕ)
-frames_of [] = []
-frames_of (Bytes frame ∷ pieces) = frame ∷ frames_of pieces
-frames_of (Mark mark ∷ pieces) = frames_of pieces
 
 -- no closing mark has been put
 abbrev pub is_open : List (Piece Order) → Bool
@@ -79,23 +73,25 @@ may_hold ended (Some (Mark End)) = ended
 may_hold ended (Some (Mark Failed)) = false
 may_hold ended (Some (Mark Memory)) = false
 
--- what a link put into the queue, and what it took of the queue back: the queue has two places for the marks, which are
--- known to be free until these are put, it is open, it was finished where a mark says so, it ended only at the end mark
--- and with every byte before it, it learnt of a failure only at that mark, and it counts faults of its own only since
--- then
-pub record QueuesUp (most capacity free : ℕ) (put : List (Piece Order)) (finished : Bool)
-    (taken : List (Piece News)) (given : List ℕ) (ended : Bool) (health : Health) (faults : ℕ) : Type 0 where
+-- what a link put into the queue: the queue has two places for the marks, which are known to be free until these are
+-- put, it is open, and it was finished where a mark says so
+pub record QueuesUp (most capacity free : ℕ) (put : List (Piece Order)) (finished : Bool) : Type 0 where
   pub places : capacity ≡ most + 2
   pub for_the_end : finished ≡ false → 2 ≤ free
   pub for_the_closing : 1 ≤ free
   pub unclosed : is_open put ≡ true
   pub finishes : has_finished put ≡ finished
+
+-- what a link took of the queue back: it ended only at the end mark and with every byte before it, it learnt of a failure
+-- only at that mark, and it counts faults of its own only since then
+pub record HearsBack (taken : List (Piece News)) (given : List ℕ) (ended : Bool) (health : Health)
+    (faults : ℕ) : Type 0 where
   pub ends : ended ≡ true → Among End (marks_of taken)
   pub gave : ended ≡ true → given ≡ bytes_of taken
   pub fails : health ≡ HasFailed → Among Failed (marks_of taken)
   pub counts : 0 < faults → health ≡ HasFailed
 
--- the same of a closed link
+-- both of a closed link
 pub record HasQueuedUp (put : List (Piece Order)) (taken : List (Piece News)) (given : List ℕ)
     (ended failed : Bool) : Type 0 where
   pub closed_last : is_closed put ≡ true

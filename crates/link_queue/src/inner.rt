@@ -1,4 +1,5 @@
-// An inner link in the hands of its writer.
+//! An inner link in the hands of its writer.
+
 ghost use Rattle.std.specs.Prelude.{◌≡◌, ◌≢◌, ◌≤◌, ◌++◌, true};
 ghost use Rattle.mrpc_base.specs.Faults.{raised};
 ghost use Rattle.link_queue.specs.declared.marks.Health.TheVariants.{Failed};

@@ -1,4 +1,5 @@
-// An inner link, as it was and as it is.
+//! An inner link, as it was and as it is.
+
 ghost use Rattle.std.specs.Prelude.{◌≡◌, ◌≢◌, ◌<◌, ◌≤◌, [], ◌∷◌, ◌++◌, IsTrue, length, take};
 ghost use Rattle.std.specs.Io.KnownBytes.{Appends, Keeps};
 ghost use Rattle.mrpc_base.specs.Faults.{HasCause};

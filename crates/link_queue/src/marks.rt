@@ -1,4 +1,4 @@
-// The marks that stand between frames on their way to a writer, and between bytes on their way back.
+//! The marks that stand between frames on their way to a writer, and between bytes on their way back.
 
 // What a writer is asked besides to pass frames on.
 #[derive(Drop)]

@@ -1,4 +1,5 @@
-// How a queue is opened.
+//! How a queue is opened.
+
 ghost use Rattle.std.specs.Prelude.{◌≡◌, ◌≤◌, [], false, IfOk};
 ghost use Rattle.link_queue.specs.declared.limits.TheConstants.{MAX_CAPACITY};
 ghost use Rattle.link_queue.specs.Writers.{writer_start, writer_forward, writer_backward};

@@ -1,4 +1,5 @@
-// The link whose frames a writer passes on.
+//! The link whose frames a writer passes on.
+
 ghost use Rattle.std.specs.Prelude.{◌≡◌, ◌≢◌, ◌<◌, ◌≤◌, ◌+◌, ◌↔◌, [], ◌∷◌, ◌++◌, IsTrue, length, take, true, false};
 ghost use mathlib.Core.List.{IsPrefix};
 ghost use Rattle.mrpc_base.specs.Faults.{HasCause, raised};
@@ -41,9 +42,9 @@ impl<'r, R: Wait> Drop for QueueLink<'r, R> {
 
 impl<'r, R: Wait> Model for QueueLink<'r, R> {
     ghost use Rattle.one_way_queue.specs.Ends.{put_of, capacity_of, free_of, producer_queue};
-    ghost use Rattle.one_way_queue.specs.Pieces.{bytes_of};
+    ghost use Rattle.one_way_queue.specs.Pieces.{bytes_of, frames_of};
     ghost use Rattle.one_way_queue.specs.Readers.{given_by, taken_by, told_by, reader_queue};
-    ghost use Rattle.link_queue.specs.Marks.{frames_of, QueuesUp};
+    ghost use Rattle.link_queue.specs.Marks.{QueuesUp, HearsBack};
     ghost use Rattle.link_queue.specs.Queueing.{Queueing};
 
     ghost Value = { Queueing };
@@ -62,7 +63,7 @@ impl<'r, R: Wait> Model for QueueLink<'r, R> {
     } };
 
     ghost invariant = { λ l. QueuesUp l.most (capacity_of l.out) (free_of l.out) (put_of l.out) l.finished
-        (taken_by l.incoming) (given_by l.incoming) l.ended l.health l.faults };
+        × HearsBack (taken_by l.incoming) (given_by l.incoming) l.ended l.health l.faults };
 }
 
 impl<'r, R: Wait> QueueLink<'r, R> {
@@ -303,7 +304,8 @@ pub struct Passed {
 impl Model for Passed {
     ghost use Rattle.one_way_queue.specs.Ends.{put_of, producer_queue};
     ghost use Rattle.one_way_queue.specs.Readers.{given_by, taken_by, reader_queue};
-    ghost use Rattle.link_queue.specs.Marks.{frames_of, HasQueuedUp};
+    ghost use Rattle.one_way_queue.specs.Pieces.{frames_of};
+    ghost use Rattle.link_queue.specs.Marks.{HasQueuedUp};
     ghost use Rattle.link_queue.specs.Queueing.{PassedOn};
 
     ghost Value = { PassedOn };

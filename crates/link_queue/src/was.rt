@@ -1,4 +1,5 @@
-// A link as it was. Only contracts read it, and it takes no memory.
+//! A link as it was. Only contracts read it, and it takes no memory.
+
 ghost use Rattle.std.specs.Prelude.{◌≡◌};
 ghost use Rattle.std.specs.Borrow.{ftrue};
 

@@ -2,7 +2,8 @@ use Rattle.std.proofs.Common.{◌≡◌, ◌<◌, ℕ, true, rules, ap, sym, sub
 use Rattle.one_way_queue.specs.Ends.{put_of}
 use Rattle.link_queue.specs.declared.marks.Order.TheVariants.{Close}
 use Rattle.link_queue.specs.declared.marks.Health.TheVariants.{Failed}
-use Rattle.link_queue.specs.Marks.{frames_of, is_closed}
+use Rattle.one_way_queue.specs.Pieces.{frames_of}
+use Rattle.link_queue.specs.Marks.{is_closed}
 use Rattle.link_queue.proofs.Pieces.{closed_snoc_close, frames_snoc_mark}
 use Rattle.link_queue.proofs.queue_link.QueueLink.close.Goals as goal
 
@@ -11,10 +12,10 @@ invariant_of-result g c =
     let inv = c.self.invariant in
     let fails : (c.eq.result ≡ true → c.self.inside.health ≡ Failed) = search rules in
     record {
-      closed_last = ap is_closed c.put_reserved.ensures.done ∙ closed_snoc_close (put_of c.self.inside.out) inv.unclosed;
-      ends = inv.ends;
-      gave = inv.gave;
-      fails = λ e. inv.fails (fails e);
+      closed_last = ap is_closed c.put_reserved.ensures.done ∙ closed_snoc_close (put_of c.self.inside.out) inv.0.unclosed;
+      ends = inv.1.ends;
+      gave = inv.1.gave;
+      fails = λ e. inv.1.fails (fails e);
     }
 
 pub returns-clause-handed : goal.returns-clause-handed
@@ -24,6 +25,6 @@ pub returns-clause-counted : goal.returns-clause-counted
 returns-clause-counted g c = λ some.
     let same = ap (λ v. v.faults) c.self.view_is in
     let rose : 0 < c.self.inside.faults = subst (λ (n : ℕ). 0 < n) (sym same) some in
-    let fails : c.self.inside.health ≡ Failed = c.self.invariant.counts rose in
+    let fails : c.self.inside.health ≡ Failed = c.self.invariant.1.counts rose in
     let says : (c.self.inside.health ≡ Failed → c.eq.result ≡ true) = search rules in
     says fails

@@ -7,5 +7,6 @@ invariant_of-self g c =
     let old = c.args.self.now in
     record {
       passes = old.passes;
-      brings = news_was_told c.args.news (put_of old.out) _ old.held old.inner.came.bytes old.inner.ended old.inner.health c.requires.so_it_is c.in-Ok.ensures.done old.brings c.requires.holds_nothing;
+      brings = news_was_told c.args.news (put_of old.out) _ old.held old.inner.came.bytes old.inner.ended
+          old.inner.health c.requires.so_it_is c.in-Ok.ensures.done old.brings c.requires.holds_nothing;
     }

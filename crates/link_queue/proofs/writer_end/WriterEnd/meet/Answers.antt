@@ -42,7 +42,9 @@ returns-clause-all_came g c = λ ended.
     let back = subst (λ (p : List (Piece News) × List (Piece News)). IsPrefix p.0 p.1) (λ i. (e.taken i, e.put i)) e.in_order in
     let was = ap (λ v. v.ended) c.passed.view_is ∙ ended in
     ap (λ v. v.given) (sym c.passed.view_is)
-    ∙ came_whole (given_by c.passed.inside.incoming) w.inner.came.bytes (taken_by c.passed.inside.incoming) (put_of w.out) w.inner.ended w.inner.health w.brings back (c.passed.invariant.ends was) (c.passed.invariant.gave was)
+    ∙ came_whole (given_by c.passed.inside.incoming) w.inner.came.bytes (taken_by c.passed.inside.incoming)
+    (put_of w.out) w.inner.ended w.inner.health w.brings back (c.passed.invariant.ends was)
+    (c.passed.invariant.gave was)
 
 pub returns-clause-ended : goal.returns-clause-ended
 returns-clause-ended g c = λ ended.
