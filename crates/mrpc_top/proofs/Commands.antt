@@ -11,7 +11,7 @@ use Rattle.text_commands.specs.Decoded.{CutsText, DecodesText, HasDecodeFault}
 use Rattle.text_commands.specs.Decoded.HasDecodeFault.{fault_in_text, fault_in_stream}
 use Rattle.text_commands.specs.Decoding.{IsCutAt, IsDecoded}
 use Rattle.text_commands.specs.declared.check.Spot.{Spot}
-use Rattle.mrpc_top.specs.Command.{IsFaulty, Refuses}
+use Rattle.mrpc_top.specs.Command.{IsFaulty, Refuses, StopsOn}
 use Rattle.mrpc_top.specs.declared.command.Command.{Command}
 use Rattle.mrpc_top.specs.declared.command.Command.TheVariants.{Replay, Decode, Check, Audit}
 
@@ -65,3 +65,10 @@ pub no_audit : NeverFaulty → (command : Command) (text : List ℕ) (o o' : Opt
 no_audit never command text o o' e fault d =
     let f : HasAuditFault text = subst (λ (k : Command). IsFaulty k text) e fault in
     never text d.answer f.1 f.0 d.is_answer f.2
+
+-- what is said of the command and the text that were found holds of the same ones
+pub stops-of : (found command : Command) (whole text : List ℕ) (out out' wire wire' : Option (List ℕ)) → found ≡ command
+    → whole ≡ text → StopsOn found whole out out' wire wire' → StopsOn command text out out' wire wire'
+stops-of found command whole text out out' wire wire' same is stops =
+    subst (λ (t : List ℕ). StopsOn command t out out' wire wire') is
+    (subst (λ (k : Command). StopsOn k whole out out' wire wire') same stops)

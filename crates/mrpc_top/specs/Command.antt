@@ -3,6 +3,7 @@ use Rattle.std.specs.Prelude.{◌≡◌, ℕ, ◌<◌, ◌≤◌, ◌⊎◌, Lis
 use Rattle.std.specs.declared.alloc.Global.{Global}
 use Rattle.std.specs.Io.KnownBytes.{Appends}
 use Rattle.text_commands.specs.FaultLines.{WritesFront, fault_line}
+use Rattle.text_commands.specs.Stopping.{EndsEarly}
 use Rattle.text_commands.specs.Auditing.{AuditsText, RefusesAudit, HasAuditFault}
 use Rattle.text_commands.specs.Checking.{ChecksText, IsCheckFault, RefusesProto}
 use Rattle.text_commands.specs.Decoded.{CutsText, DecodesText, HasDecodeFault}
@@ -82,17 +83,28 @@ IsRefused command left left' out out' =
 abbrev pub HasFault : Command → List ℕ → Type 0
 HasFault command text = (INPUT_LIMIT < length text) ⊎ IsFaulty command text
 
--- ---- replays that end early
+-- ---- replays whose frames can't be written
 
 -- an input is that of a script, which was run up to a sending that failed
 abbrev pub IsBroken : Option (List ℕ) → Option (List ℕ) → Option (List ℕ) → Option (List ℕ) → Option (List ℕ) → Type 0
 IsBroken left out out' wire wire' = (text : List ℕ) × IsInput left text × BreaksText text out out' wire wire'
 
--- A replay ended early, and what it wrote is in front of what it may write: nothing, where the input wasn't read to its
--- end, some of the line of its fault, where it is too long, or what `StopsText` says.
-pub data IsCutShort (left left' out out' wire wire' : Option (List ℕ)) : Type 0 where
-  unread : Appends out out' [] → Appends wire wire' [] → IsCutShort left left' out out' wire wire'
+-- ---- commands that end early
+
+-- The command ended early on a text, and what it wrote is in front of what it may write: `StopsText` says it of a replay,
+-- of the others that it is a front of what they write where they work on the text or refuse it.
+abbrev pub StopsOn : Command → List ℕ → Option (List ℕ) → Option (List ℕ) → Option (List ℕ) → Option (List ℕ)
+    → Type 0
+StopsOn Replay text out out' wire wire' = StopsText text out out' wire wire'
+StopsOn Decode text out out' wire wire' = EndsEarly (DecodesText text) (CutsText text) out out'
+StopsOn Check text out out' wire wire' = EndsEarly (ChecksText text) (RefusesProto text) out out'
+StopsOn Audit text out out' wire wire' = EndsEarly (AuditsText text) (RefusesAudit text) out out'
+
+-- A command ended early, and what it wrote is in front of what it may write: nothing, where the input wasn't read to its
+-- end, some of the line of its fault, where it is too long, or what `StopsOn` says.
+pub data IsCutShort (command : Command) (left left' out out' wire wire' : Option (List ℕ)) : Type 0 where
+  unread : Appends out out' [] → Appends wire wire' [] → IsCutShort command left left' out out' wire wire'
   too_long : ReadsPast INPUT_LIMIT left left' → WritesFront out out' (fault_line INPUT_LIMIT (codes "Input"))
-      → Appends wire wire' [] → IsCutShort left left' out out' wire wire'
-  of_text : (text : List ℕ) → IsInput left text → StopsText text out out' wire wire'
-      → IsCutShort left left' out out' wire wire'
+      → Appends wire wire' [] → IsCutShort command left left' out out' wire wire'
+  of_text : (text : List ℕ) → IsInput left text → StopsOn command text out out' wire wire'
+      → IsCutShort command left left' out out' wire wire'

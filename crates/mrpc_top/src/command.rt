@@ -2,7 +2,7 @@
 
 ghost use Rattle.std.specs.Prelude.{◌≡◌, ◌≢◌, ◌↔◌, ◌≤◌, ◌⊎◌, List, ℕ, length, IfSome, IfNone, Some};
 ghost use Rattle.mrpc_base.specs.Faults.{HasCause, Rose};
-ghost use Rattle.mrpc_top.specs.Command.{command_word, Names, IsReplay, IsCommand, IsDone, IsRefused, IsBroken, IsCutShort, HasFault, IsFaulty, WorksOn, Refuses};
+ghost use Rattle.mrpc_top.specs.Command.{command_word, Names, IsReplay, IsCommand, IsDone, IsRefused, IsBroken, IsCutShort, HasFault, IsFaulty, WorksOn, Refuses, StopsOn};
 ghost use Rattle.mrpc_top.specs.Replaying.{RunsText, BreaksText, StopsText, RefusesScript, HasScriptFault};
 ghost use Rattle.replay_run.specs.Running.{Breaks, Replays, Stops};
 ghost use Rattle.script_text.specs.Lines.{IsScript};
@@ -22,7 +22,7 @@ use text_commands::{
 
 /// Runs the command that the words name, and answers its exit status.
 ///
-/// `replay` reads a script from `input`, runs it, and writes the audit to `out`, each line as it happens, and the frames
+/// `replay` reads a script from `input`, runs it, and writes the audit to `out`, line by line of it, and the frames
 /// to `wire`; the calls that stand at the end are told last. The first fault of a text that is no script (`script_text`
 /// says which are) is written to `out` as one line `fault LINE REASON`. Where a frame can't be written, the calls that
 /// stand on its connection are refused, the calls that still stand are told, and the lines of the script behind do
@@ -83,12 +83,12 @@ pub fn run_still<S: Source, K: Sink, W: Sink>(
     ensures sound_alone { (text : List ℕ) → IsReplay words.now.items → S.left input.old ≡ Some text
         → HasFault Command.Replay text → wire.new ≡ wire.old }
 
-    // A replay whose frames can't be written is one up to the sending that failed. What another one wrote that ends early
-    // is in front of what it may write.
+    // A replay whose frames can't be written is one up to the sending that failed.
     ensures broken { result ≡ WIRE_FAILED → IsReplay words.now.items × IsBroken (S.left input.old)
         (K.written out.old) (K.written out.new) (W.written wire.old) (W.written wire.new) }
-    ensures cut_short { IsReplay words.now.items → (result ≡ NO_MEMORY) ⊎ (result ≡ OUTPUT_FAILED)
-        → IsCutShort (S.left input.old) (S.left input.new)
+    // What a command wrote that ends early is in front of what it may write.
+    ensures cut_short { (command : Command) → Names words.now.items command
+        → (result ≡ NO_MEMORY) ⊎ (result ≡ OUTPUT_FAILED) → IsCutShort command (S.left input.old) (S.left input.new)
         (K.written out.old) (K.written out.new) (W.written wire.old) (W.written wire.new) }
 
     // Each device is answered for by its own status. Behind a frame that couldn't be written the output may fail, or memory
@@ -111,7 +111,7 @@ pub fn run_still<S: Source, K: Sink, W: Sink>(
     }
 }
 
-/// A command of the program.
+// A command of the program.
 #[derive(Clone, Copy)]
 enum Command {
     Replay,
@@ -139,7 +139,7 @@ fn run<K: Sink, W: Sink>(
     ensures sound_alone { command ≡ Command.Replay → IsFaulty Command.Replay text.now → wire.new ≡ wire.old }
     ensures broken { result ≡ WIRE_FAILED → (command ≡ Command.Replay) × BreaksText text.now
         (K.written out.old) (K.written out.new) (W.written wire.old) (W.written wire.new) }
-    ensures cut_short { command ≡ Command.Replay → (result ≡ NO_MEMORY) ⊎ (result ≡ OUTPUT_FAILED) → StopsText text.now
+    ensures cut_short { (result ≡ NO_MEMORY) ⊎ (result ≡ OUTPUT_FAILED) → StopsOn command text.now
         (K.written out.old) (K.written out.new) (W.written wire.old) (W.written wire.new) }
     ensures out_cause { HasCause (result ≡ OUTPUT_FAILED) (K.faults out.old) (K.faults out.new) }
     ensures wire_rose { result ≡ WIRE_FAILED → Rose (W.faults wire.old) (W.faults wire.new) }

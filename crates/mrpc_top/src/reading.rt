@@ -8,7 +8,7 @@ use mrpc_base::{Got, Source};
 use std::alloc::{AllocError, Global};
 use text_commands::INPUT_LIMIT;
 
-/// How many bytes are asked for in one read, at the most.
+// How many bytes are asked for in one read, at the most.
 const PIECE: usize = 65_536;
 
 /// How reading an input ended.

@@ -68,8 +68,10 @@ pub fn run_command<
         → HasFault Replay text → wire.new ≡ wire.old }
     ensures broken { IsCommand words.now.items → result ≡ WIRE_FAILED → IsReplay words.now.items × IsBroken
         (S.left input.old) (K.written out.old) (K.written out.new) (W.written wire.old) (W.written wire.new) }
-    ensures cut_short { IsReplay words.now.items → (result ≡ NO_MEMORY) ⊎ (result ≡ OUTPUT_FAILED)
-        → IsCutShort (S.left input.old) (S.left input.new)
+
+    // What a command wrote that ends early, for want of memory or since the output failed, is in front of what it may write.
+    ensures cut_short { (command : Command) → Names words.now.items command
+        → (result ≡ NO_MEMORY) ⊎ (result ≡ OUTPUT_FAILED) → IsCutShort command (S.left input.old) (S.left input.new)
         (K.written out.old) (K.written out.new) (W.written wire.old) (W.written wire.new) }
 
     // What was run has done what a run does, and told it: at `DONE` no link failed, at `LINK_FAILED` one did.

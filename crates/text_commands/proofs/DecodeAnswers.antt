@@ -17,14 +17,17 @@ pub no_fault_in : MeaningLaw → (T : Table) (f : Frame) (line : List ℕ) (plac
 no_fault_in law T f line place word (line_of_hello kind is) (no_method other lacks at is') = other kind
 no_fault_in law T f line place word (line_of_hello kind is) (in_payload reason at other known first at_is is') = other kind
 no_fault_in law T f line place word (line_of_call t other known means is) (no_method other' lacks at is') = omega (arith, known, lacks)
-no_fault_in law T f line place word (line_of_call t other known means is) (in_payload reason at other' known' first at_is is') = law.not_both T (message_in T f) f.payload t reason at means first
+no_fault_in law T f line place word (line_of_call t other known means is)
+    (in_payload reason at other' known' first at_is is') =
+    law.not_both T (message_in T f) f.payload t reason at means first
 
 -- whole frames stand in front of a stream
 pub whole_front : (start : ℕ) (stream : List ℕ) (fs : List Frame) (rest : List ℕ) → Splits start stream fs rest → StandInFront start stream fs
 whole_front start stream fs rest s = record { more = rest; whole = s.whole; each = s.each; places = s.places }
 
 -- the first of two rows of frames is one, and both rows go on behind it
-pub behind : (start : ℕ) (stream : List ℕ) (h : Frame) (hs : List Frame) (a : StandInFront start stream (h ∷ hs)) → StandInFront (start + length (bytes_of h)) (joined hs ++ a.more) hs
+pub behind : (start : ℕ) (stream : List ℕ) (h : Frame) (hs : List Frame) (a : StandInFront start stream (h ∷ hs))
+    → StandInFront (start + length (bytes_of h)) (joined hs ++ a.more) hs
 behind start stream h hs a = record { more = a.more; whole = refl; each = All-tail IsFrame h hs a.each; places = a.places.1 }
 
 pub next : MeaningLaw → (start : ℕ) (stream : List ℕ) (h g : Frame) (hs gs : List Frame) (a : StandInFront start stream (h ∷ hs))

@@ -1,5 +1,6 @@
 -- A text in front of a stream is of a table or has a fault, and a stream is decoded or cut.
-use Rattle.std.proofs.Common.{◌≡◌, ◌≢◌, ℕ, ◌+◌, ◌<◌, ◌⊎◌, inl, inr, List, [], ◌∷◌, ◌++◌, length, Option, Some, None, refl, sym, ap, subst, ◌∙◌, append_assoc}
+use Rattle.std.proofs.Common.{◌≡◌, ◌≢◌, ℕ, ◌+◌, ◌<◌, ◌⊎◌, inl, inr, List, [], ◌∷◌, ◌++◌, length, Option, Some, None}
+use Rattle.std.proofs.Common.{refl, sym, ap, subst, ◌∙◌, append_assoc}
 use Rattle.std.specs.Prelude.{All, codes}
 use Rattle.std.proofs.lemmas.Bool.{cases_eq, cases_lt}
 use Rattle.std.proofs.lemmas.List.Elements.{All-cons, All-head, All-nil, All-tail}
@@ -207,9 +208,15 @@ front_of start stream before f others rest s = record {
   places = front_places start before f others s.places;
 }
 
-abbrev IsToldOrCut : Table → List ℕ → Type 0
-IsToldOrCut T stream = ((told : List ℕ) × IsDecoded T stream told)
-    ⊎ ((told : List ℕ) × (place : ℕ) × (word : List ℕ) × IsCutAt T 0 stream told place word)
+-- the stream, whose first byte has this place, is frames to its end, and the text is their lines
+pub record IsDecodedFrom (T : Table) (start : ℕ) (stream text : List ℕ) : Type 0 where
+  pub frames : List Frame
+  pub splits : Splits start stream frames []
+  pub lines : AreLinesOf T frames text
+
+abbrev pub IsToldOrCut : Table → ℕ → List ℕ → Type 0
+IsToldOrCut T start stream = ((told : List ℕ) × IsDecodedFrom T start stream told)
+    ⊎ ((told : List ℕ) × (place : ℕ) × (word : List ℕ) × IsCutAt T start stream told place word)
 
 no_memory_at : (place : ℕ) (bytes : List ℕ) → IsFaultAt place bytes Memory → ⊥
 no_memory_at place bytes (long there past is) = cc
@@ -228,40 +235,51 @@ empty_or_not [] = inl refl
 empty_or_not (x ∷ xs) = inr (λ e. cc)
 
 -- where each whole frame has a line
-told_to_end : (T : Table) (stream : List ℕ) (fault : Option FeedFault) (e : Ends 0 stream fault) (text : List ℕ)
-    → AreLinesOf T e.frames text → IsToldOrCut T stream
-told_to_end T stream (Some fault) e text lines =
-    let header = header_word (0 + length (joined e.frames)) e.rest fault e.first in
+told_to_end : (T : Table) (start : ℕ) (stream : List ℕ) (fault : Option FeedFault) (e : Ends start stream fault) (text : List ℕ)
+    → AreLinesOf T e.frames text → IsToldOrCut T start stream
+told_to_end T start stream (Some fault) e text lines =
+    let header = header_word (start + length (joined e.frames)) e.rest fault e.first in
     inr (text, header.0, header.1, in_header e.frames e.rest fault e.splits lines e.first header.2)
-told_to_end T stream None e text lines =
+told_to_end T start stream None e text lines =
     elim (empty_or_not e.rest) [
       | inl none ↦
-          let splits : Splits 0 stream e.frames [] = subst (λ (r : List ℕ). Splits 0 stream e.frames r) none e.splits in
+          let splits : Splits start stream e.frames [] = subst (λ (r : List ℕ). Splits start stream e.frames r) none e.splits in
           inl (text, record { frames = e.frames; splits = splits; lines = lines })
       | inr some ↦ inr (
         text,
-        0 + length (joined e.frames),
+        start + length (joined e.frames),
         codes "Short",
         in_short_frame e.frames e.rest e.splits lines e.first some refl refl,
       )
     ]
 
-cut_in_front : (T : Table) (stream : List ℕ) (fs : List Frame) (rest : List ℕ) → Splits 0 stream fs rest → FirstFaulty T fs
-    → IsToldOrCut T stream
-cut_in_front T stream fs rest s u =
-    let splits : Splits 0 stream (u.before ++ u.frame ∷ u.others) rest =
-    subst (λ (gs : List Frame). Splits 0 stream gs rest) u.whole s in
+cut_in_front : (T : Table) (start : ℕ) (stream : List ℕ) (fs : List Frame) (rest : List ℕ) → Splits start stream fs rest → FirstFaulty T fs
+    → IsToldOrCut T start stream
+cut_in_front T start stream fs rest s u =
+    let splits : Splits start stream (u.before ++ u.frame ∷ u.others) rest =
+    subst (λ (gs : List Frame). Splits start stream gs rest) u.whole s in
     inr (
       u.text,
       u.place,
       u.word,
-      in_frame u.before u.frame (front_of 0 stream u.before u.frame u.others rest splits) u.lines u.fault,
+      in_frame u.before u.frame (front_of start stream u.before u.frame u.others rest splits) u.lines u.fault,
     )
 
-pub told_or_cut : MeaningLaw → (T : Table) (stream : List ℕ) → All (λ byte. byte < 256) stream → IsToldOrCut T stream
-told_or_cut law T stream bytes =
-    let ends = law.frames.ends 0 stream bytes in
+-- from a place on, the bytes of a stream are decoded or cut
+pub told_or_cut_from : MeaningLaw → (T : Table) (start : ℕ) (stream : List ℕ) → All (λ byte. byte < 256) stream
+    → IsToldOrCut T start stream
+told_or_cut_from law T start stream bytes =
+    let ends = law.frames.ends start stream bytes in
     elim (all_lines law T ends.1.frames) [
-      | inl told ↦ told_to_end T stream ends.0 ends.1 told.0 told.1
-      | inr faulty ↦ cut_in_front T stream ends.1.frames ends.1.rest ends.1.splits faulty
+      | inl told ↦ told_to_end T start stream ends.0 ends.1 told.0 told.1
+      | inr faulty ↦ cut_in_front T start stream ends.1.frames ends.1.rest ends.1.splits faulty
+    ]
+
+pub told_or_cut : MeaningLaw → (T : Table) (stream : List ℕ) → All (λ byte. byte < 256) stream
+    → ((told : List ℕ) × IsDecoded T stream told)
+    ⊎ ((told : List ℕ) × (place : ℕ) × (word : List ℕ) × IsCutAt T 0 stream told place word)
+told_or_cut law T stream bytes =
+    elim (told_or_cut_from law T 0 stream bytes) [
+      | inl d ↦ inl (d.0, record { frames = d.1.frames; splits = d.1.splits; lines = d.1.lines })
+      | inr cut ↦ inr cut
     ]

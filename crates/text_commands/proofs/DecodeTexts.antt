@@ -29,5 +29,6 @@ endless_of text behind rest first second none =
     record { text_is = first_is ∙ ap (λ (t : List ℕ). first_line ++ t) second_is; endless = none }
 
 -- what was told of a fault
-pub told_fault : {X : Type 0} (P : ℕ → List ℕ → Type 0) (r : Result X Cut) (cut : Cut) (place : ℕ) (word : Bor (List ℕ)) → r ≡ Err cut → cut ≡ Fault place word → IfErr r (OnFault P) → P place word.now
+pub told_fault : {X : Type 0} (P : ℕ → List ℕ → Type 0) (r : Result X Cut) (cut : Cut) (place : ℕ)
+    (word : Bor (List ℕ)) → r ≡ Err cut → cut ≡ Fault place word → IfErr r (OnFault P) → P place word.now
 told_fault P r cut place word told is h = subst (OnFault P) is (IfErr-at_err (OnFault P) told h)

@@ -1,5 +1,6 @@
 -- Frames of a stream that are told one behind another.
-use Rattle.std.proofs.Common.{◌≡◌, ◌≢◌, ℕ, ◌+◌, ◌<◌, ◌≤◌, List, [], ◌∷◌, ◌++◌, length, drop, codes, Option, Some, None, refl, sym, ap, subst, ◌∙◌, arith, append_assoc, append-nil}
+use Rattle.std.proofs.Common.{◌≡◌, ◌≢◌, ℕ, ◌+◌, ◌<◌, ◌≤◌, List, [], ◌∷◌, ◌++◌, length, drop, codes, Option, Some}
+use Rattle.std.proofs.Common.{None, refl, sym, ap, subst, ◌∙◌, arith, append_assoc, append-nil}
 use Rattle.std.specs.Prelude.{All}
 use Rattle.std.proofs.lemmas.List.{drop_all, drop-drop, length-drop}
 use Rattle.std.proofs.lemmas.List.Elements.{All-append, All-nil, All-cons}
@@ -27,13 +28,14 @@ on_fault P Q h NoMemory p = tt
 on_fault P Q h Out p = tt
 
 pub fault_of_payload : (T : Table) (f : Frame) (message : ℕ) (word : List ℕ) (reason : DecodeReason) (at place : ℕ)
-    → f.kind ≢ hello → f.method < length T.methods → message ≡ message_in T f → IsFirstFault T message f.payload reason at → place ≡ f.place + (16 + at) → word ≡ reason_word reason
+    → f.kind ≢ hello → f.method < length T.methods → message ≡ message_in T f
+    → IsFirstFault T message f.payload reason at → place ≡ f.place + (16 + at) → word ≡ reason_word reason
     → IsFaultIn T f place word
 fault_of_payload T f message word reason at place call known m first place_is word_is =
     in_payload reason at call known (subst (λ (n : ℕ). IsFirstFault T n f.payload reason at) m first) (omega (arith, place_is)) word_is
 
 -- the lines of frames, and of those behind them
-lines-append : (T : Table) (fs gs : List Frame) (a b : List ℕ) → AreLinesOf T fs a → AreLinesOf T gs b → AreLinesOf T (fs ++ gs) (a ++ b)
+pub lines-append : (T : Table) (fs gs : List Frame) (a b : List ℕ) → AreLinesOf T fs a → AreLinesOf T gs b → AreLinesOf T (fs ++ gs) (a ++ b)
 lines-append T [] gs a b p q = subst (λ (x : List ℕ). AreLinesOf T gs (x ++ b)) (sym p) q
 lines-append T (f ∷ fs) gs a b p q = (p.0, p.1 ++ b, p.2, lines-append T fs gs p.1 b p.3 q, ap (λ (x : List ℕ). x ++ b) p.4 ∙ append_assoc p.0 p.1 b)
 
@@ -53,7 +55,8 @@ fault_of place other bytes fault p h = subst (λ (n : ℕ). HasFault n bytes fau
 -- ---- what stands at a place
 
 -- a frame
-pub tells_one : FrameLaw → (T : Table) (stream : List ℕ) (from to : ℕ) (line : List ℕ) (f : Frame) → StandsAt from (drop from stream) f → IsLineOf T f line → to ≡ from + (16 + length f.payload)
+pub tells_one : FrameLaw → (T : Table) (stream : List ℕ) (from to : ℕ) (line : List ℕ) (f : Frame)
+    → StandsAt from (drop from stream) f → IsLineOf T f line → to ≡ from + (16 + length f.payload)
     → Tells T stream from to line
 tells_one law T stream from to line f h is behind =
     let rest : drop (16 + length f.payload) (drop from stream) ≡ drop to stream =
@@ -68,7 +71,8 @@ tells_one law T stream from to line f h is behind =
     }
 
 -- a frame at fault
-pub cut_in_frame : (T : Table) (start : ℕ) (bytes : List ℕ) (f : Frame) (place : ℕ) (word : List ℕ) → StandsAt start bytes f → IsFaultIn T f place word → IsCutAt T start bytes [] place word
+pub cut_in_frame : (T : Table) (start : ℕ) (bytes : List ℕ) (f : Frame) (place : ℕ) (word : List ℕ)
+    → StandsAt start bytes f → IsFaultIn T f place word → IsCutAt T start bytes [] place word
 cut_in_frame T start bytes f place word h fault = in_frame [] f
     (record {
       more = drop (16 + length f.payload) bytes;
@@ -86,12 +90,14 @@ at_start : (start : ℕ) → start ≡ start + length (joined [])
 at_start start = omega arith
 
 -- a header at fault
-pub cut_in_header : (T : Table) (start : ℕ) (bytes : List ℕ) (fault : FeedFault) (place : ℕ) (word : List ℕ) → HasNoFrame start bytes (Some fault) → IsFaultOfHeader fault place word → IsCutAt T start bytes [] place word
+pub cut_in_header : (T : Table) (start : ℕ) (bytes : List ℕ) (fault : FeedFault) (place : ℕ) (word : List ℕ)
+    → HasNoFrame start bytes (Some fault) → IsFaultOfHeader fault place word → IsCutAt T start bytes [] place word
 cut_in_header T start bytes fault place word h is =
     in_header [] bytes fault (no_frame start bytes h.partial) refl (fault_of start (start + length (joined [])) bytes (Some fault) (at_start start) h.first) is
 
 -- less than a frame
-pub cut_short : (T : Table) (start : ℕ) (bytes : List ℕ) (place : ℕ) (word : List ℕ) → HasNoFrame start bytes None → bytes ≢ [] → place ≡ start → word ≡ codes "Short" → IsCutAt T start bytes [] place word
+pub cut_short : (T : Table) (start : ℕ) (bytes : List ℕ) (place : ℕ) (word : List ℕ) → HasNoFrame start bytes None
+    → bytes ≢ [] → place ≡ start → word ≡ codes "Short" → IsCutAt T start bytes [] place word
 cut_short T start bytes place word h some at short =
     in_short_frame [] bytes (no_frame start bytes h.partial) refl (fault_of start (start + length (joined [])) bytes None (at_start start) h.first) some (at ∙ at_start start) short
 
@@ -116,7 +122,9 @@ tells_more law T stream from mid to text more x y = record {
 }
 
 -- the frames told, with those of the stream behind them
-splits_more : FrameLaw → (T : Table) (stream : List ℕ) (from mid : ℕ) (text : List ℕ) (gs : List Frame) (rest : List ℕ) (x : Tells T stream from mid text) → Splits mid (drop mid stream) gs rest
+pub splits_more : FrameLaw
+    → (T : Table) (stream : List ℕ) (from mid : ℕ) (text : List ℕ) (gs : List Frame) (rest : List ℕ)
+    (x : Tells T stream from mid text) → Splits mid (drop mid stream) gs rest
     → Splits from (drop from stream) (x.frames ++ gs) rest
 splits_more law T stream from mid text gs rest x s =
     subst (λ (bs : List ℕ). Splits from bs (x.frames ++ gs) rest) (sym x.whole)
@@ -127,7 +135,9 @@ place_more : FrameLaw → (T : Table) (stream : List ℕ) (from mid : ℕ) (text
 place_more law T stream from mid text gs x = omega (arith, x.end, law.size_of_all x.frames gs)
 
 -- a fault behind the frames told is the first fault of the whole stream
-pub cut_behind : FrameLaw → (T : Table) (stream : List ℕ) (from mid : ℕ) (text behind : List ℕ) (place : ℕ) (word : List ℕ) → Tells T stream from mid text → IsCutAt T mid (drop mid stream) behind place word
+pub cut_behind : FrameLaw
+    → (T : Table) (stream : List ℕ) (from mid : ℕ) (text behind : List ℕ) (place : ℕ) (word : List ℕ)
+    → Tells T stream from mid text → IsCutAt T mid (drop mid stream) behind place word
     → IsCutAt T from (drop from stream) (text ++ behind) place word
 cut_behind law T stream from mid text behind place word x (in_frame before f stand lines fault) = in_frame (x.frames ++ before) f
     (record {

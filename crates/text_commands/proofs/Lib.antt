@@ -3,9 +3,11 @@ mod Audited
 mod CheckFaults
 mod CheckNeither
 mod DecodeAnswers
+mod DecodeFronts
 mod DecodeNeither
 mod DecodeTexts
 mod Decodings
+mod Fronts
 mod KnownBytes
 mod OneAudit
 mod OneCheck

@@ -34,7 +34,8 @@ one_table_text law text a b (inr rest) (inl k) = absurd (rest.endless b k.0 k.1)
 one_table_text law text a b (inr rest) (inr other) = append_cancel_left head a b (sym rest.text_is ∙ other.text_is)
 
 -- a valid table's text has no fault
-none_in_table : TextLaw → (text table : List ℕ) (T : Table) (line : ℕ) (word : List ℕ) → IsValid T → IsTableBehind head text (table_text T) → IsTableBehind head text table → IsFaultOfTable table line word → ⊥
+none_in_table : TextLaw → (text table : List ℕ) (T : Table) (line : ℕ) (word : List ℕ) → IsValid T
+    → IsTableBehind head text (table_text T) → IsTableBehind head text table → IsFaultOfTable table line word → ⊥
 none_in_table law text table T line word valid own is fault =
     law.none_first T fault.at fault.reason valid (subst (λ (t : List ℕ). IsFirstFault t fault.at fault.reason) (one_table_text law text table (table_text T) is own) fault.first)
 

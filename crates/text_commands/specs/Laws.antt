@@ -1,4 +1,4 @@
--- The laws of the crates below, as the proofs here use them together.
+-- The code's own: the laws of the crates below, as the proofs here use them together.
 use Rattle.std.specs.Prelude.{◌≡◌, ◌⊎◌, ℕ, ◌+◌, ◌<◌, ◌≤◌, List, [], ◌++◌, length, All}
 use Rattle.mrpc_table.specs.Node.{Node}
 use Rattle.mrpc_table.specs.Text.{table_text}

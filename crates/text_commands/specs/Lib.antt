@@ -5,4 +5,5 @@ pub mod Decoded
 pub mod Decoding
 pub mod FaultLines
 pub mod Laws
+pub mod Stopping
 pub mod Telling

@@ -1,11 +1,12 @@
 //! Checking an audit: whether it is that of a legal history, or the first fault of the input.
 
-ghost use Rattle.std.specs.Prelude.{◌≡◌, ◌≢◌, ◌≤◌, ◌++◌, List, ℕ, length, IfOk, IfErr, OnOk};
+ghost use Rattle.std.specs.Prelude.{◌≡◌, ◌≢◌, ◌≤◌, ◌⊎◌, ◌++◌, List, ℕ, length, IfOk, IfErr, OnOk};
 ghost use Rattle.mrpc_base.specs.Faults.{HasCause};
 ghost use Rattle.mrpc_table.specs.Valid.{IsValid};
 ghost use Rattle.policy_blocks.specs.Declarations.{IsSound};
 ghost use Rattle.audit_input.specs.Inputs.{Says};
 ghost use Rattle.text_commands.specs.Auditing.{AuditsText, IsAnswer, IsAuditFault, IsFailureOf, IsNear, RefusesAudit, answer_line, rule_word};
+ghost use Rattle.text_commands.specs.Stopping.{EndsEarly};
 
 use crate::discard;
 use crate::laws::{audit_law, near_law};
@@ -22,7 +23,7 @@ use mrpc_table::{Bytes, Memory};
 use script_words::ScriptFault;
 use std::alloc::Global;
 
-/// Why an audit isn't judged.
+// Why an audit isn't judged.
 #[derive(Drop, Clone, Copy)]
 enum AuditFailure {
     /// The input has its first fault on this line; this is the word of its reason.
@@ -63,6 +64,8 @@ pub fn audit_to<K: Sink>(alloc: Global, text: &[u8], out: &mut K) -> u8
     ensures some { (result ≢ NO_COMMAND) × (result ≢ INPUT_FAILED) }
     ensures done { result ≡ DONE → AuditsText text.now (K.written out.old) (K.written out.new) }
     ensures faulty { result ≡ FAULTY_INPUT → RefusesAudit text.now (K.written out.old) (K.written out.new) }
+    ensures early { (result ≡ NO_MEMORY) ⊎ (result ≡ OUTPUT_FAILED) → EndsEarly (AuditsText text.now)
+        (RefusesAudit text.now) (K.written out.old) (K.written out.new) }
     ensures out_cause { HasCause (result ≡ OUTPUT_FAILED) (K.faults out.old) (K.faults out.new) }
 {
     match audited_text(alloc, text) {

@@ -1,12 +1,13 @@
 //! Checking a proto file or a set of files: the table of what it says, or its first fault.
 
-ghost use Rattle.std.specs.Prelude.{◌≡◌, ◌≢◌, ◌≤◌, List, ℕ, length, IfOk, IfErr};
+ghost use Rattle.std.specs.Prelude.{◌≡◌, ◌≢◌, ◌≤◌, ◌⊎◌, List, ℕ, length, IfOk, IfErr};
 ghost use Rattle.mrpc_base.specs.Faults.{HasCause};
 ghost use Rattle.mrpc_table.specs.Text.{table_text};
 ghost use Rattle.mrpc_table.specs.Valid.{IsValid};
 ghost use Rattle.mrpc_table.specs.declared.table.Table.{Table};
 ghost use Rattle.file_bundle.specs.Bundle.{IsBundle};
 ghost use Rattle.text_commands.specs.Checking.{ChecksAs, ChecksText, IsCheckFault, IsFaultOf, RefusesProto};
+ghost use Rattle.text_commands.specs.Stopping.{EndsEarly};
 ghost use Rattle.text_commands.specs.declared.check.Spot.{Spot};
 
 use crate::laws::{file_law, set_law};
@@ -34,7 +35,7 @@ pub enum Spot {
     OfFile(u64),
 }
 
-/// Why a text has no table.
+// Why a text has no table.
 #[derive(Drop, Clone, Copy)]
 enum CheckFault {
     /// The text has its first fault here; this is the word of its reason.
@@ -62,6 +63,8 @@ pub fn check_to<K: Sink>(alloc: Global, text: &[u8], out: &mut K) -> u8
     ensures some { (result ≢ NO_COMMAND) × (result ≢ INPUT_FAILED) }
     ensures done { result ≡ DONE → ChecksText text.now (K.written out.old) (K.written out.new) }
     ensures faulty { result ≡ FAULTY_INPUT → RefusesProto text.now (K.written out.old) (K.written out.new) }
+    ensures early { (result ≡ NO_MEMORY) ⊎ (result ≡ OUTPUT_FAILED) → EndsEarly (ChecksText text.now)
+        (RefusesProto text.now) (K.written out.old) (K.written out.new) }
     ensures out_cause { HasCause (result ≡ OUTPUT_FAILED) (K.faults out.old) (K.faults out.new) }
 {
     match checked_text(alloc, text) {

@@ -6,6 +6,7 @@ ghost use Rattle.mrpc_table.specs.declared.table.Table.{Table};
 ghost use Rattle.text_commands.specs.DecodeInput.{Holds, IsTextFault};
 ghost use Rattle.text_commands.specs.Decoded.{CutsText, DecodesText};
 ghost use Rattle.text_commands.specs.Decoding.{IsCutAt, IsDecoded};
+ghost use Rattle.text_commands.specs.Stopping.{EndsEarly};
 
 use crate::decode_input::read_head;
 use crate::decoding::{Cut, decode_stream};
@@ -26,6 +27,8 @@ pub fn decode_to<K: Sink>(alloc: Global, text: &[u8], out: &mut K) -> u8
     ensures some { (result ≢ NO_COMMAND) × (result ≢ INPUT_FAILED) }
     ensures done { result ≡ DONE → DecodesText text.now (K.written out.old) (K.written out.new) }
     ensures cut { result ≡ FAULTY_INPUT → CutsText text.now (K.written out.old) (K.written out.new) }
+    ensures early { (result ≡ NO_MEMORY) ⊎ (result ≡ OUTPUT_FAILED) → EndsEarly (DecodesText text.now)
+        (CutsText text.now) (K.written out.old) (K.written out.new) }
     ensures out_cause { HasCause (result ≡ OUTPUT_FAILED) (K.faults out.old) (K.faults out.new) }
 {
     let told = match read_head(alloc, text) {

@@ -1,6 +1,6 @@
 //! Decoding a stream of frames: a line for each frame, up to the first fault.
 
-ghost use Rattle.std.specs.Prelude.{◌≡◌, ◌≢◌, ◌<◌, ◌^◌, ◌++◌, [], List, ℕ, length, drop, OnOk, IfOk, IfErr, Err};
+ghost use Rattle.std.specs.Prelude.{◌≡◌, ◌≢◌, ◌<◌, ◌^◌, ◌⊎◌, ◌++◌, [], List, ℕ, length, drop, OnOk, IfOk, IfErr, Err};
 ghost use Rattle.std.specs.Io.KnownBytes.{Appends};
 ghost use Rattle.mrpc_base.specs.Faults.{HasCause};
 ghost use Rattle.mrpc_table.specs.Valid.{IsValid};
@@ -8,9 +8,9 @@ ghost use Rattle.frame_transport.specs.Frames.{IsFrame};
 ghost use Rattle.frame_transport.specs.Standing.{frame_of};
 ghost use Rattle.text_commands.specs.DecodeInput.{OnFault};
 ghost use Rattle.text_commands.specs.Decoding.{IsLineOf, IsFaultIn, IsFaultOfHeader, IsDecoded, IsCutAt, hello, hello_line, message_in, call_line};
-ghost use Rattle.text_commands.specs.Telling.{Tells};
+ghost use Rattle.text_commands.specs.Telling.{Tells, TellsEarly};
 
-use crate::laws::frame_law;
+use crate::laws::{frame_law, meaning_law};
 use audit_text::append_hex_word;
 use frame_transport::{FeedFault, FrameRef, HEADER_LEN, HELLO, METHOD_PLACE, frame_at};
 use mrpc_base::{Sink, write_all};
@@ -19,7 +19,7 @@ use std::alloc::Global;
 use wire_decode::{DecodeFault, Spare, decode_with};
 use wire_encode::{Output, encode_into};
 
-/// How many bytes of lines are gathered at the least before they are written.
+// How many bytes of lines are gathered at the least before they are written.
 const PIECE: usize = 65_536;
 
 /// Why a decoding stops before the end of its input.
@@ -58,9 +58,11 @@ pub(crate) fn decode_stream<K: Sink>(
         × Appends (K.written out.old) (K.written out.new) text) }
     ensures cut { IfErr result (OnFault (λ place word. (text : List ℕ) × IsCutAt table.now 0 stream.now text place word
         × Appends (K.written out.old) (K.written out.new) text)) }
+    ensures early { (result ≡ Err Cut.Memory) ⊎ (result ≡ Err Cut.Out) → TellsEarly table.now stream.now
+        (K.written out.old) (K.written out.new) }
     ensures out_cause { HasCause (result ≡ Err Cut.Out) (K.faults out.old) (K.faults out.new) }
 {
-    frame_law();
+    meaning_law();
     let mut room = Room::new(alloc)?;
     let mut place = 0;
     while place < stream.len() {
@@ -78,7 +80,7 @@ pub(crate) fn decode_stream<K: Sink>(
     Ok(())
 }
 
-/// Room that is used again for each frame.
+// Room that is used again for each frame.
 struct Room {
     /// The encoding of a message.
     encoded: Output,

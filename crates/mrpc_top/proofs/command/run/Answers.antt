@@ -1,5 +1,6 @@
-use Rattle.std.proofs.Common.{arith}
-use Rattle.mrpc_top.proofs.Commands.{cuts, no_audit, no_check, no_decoding, no_script}
+use Rattle.std.proofs.Common.{arith, refl, sym}
+use Rattle.mrpc_top.proofs.Commands.{cuts, no_audit, no_check, no_decoding, no_script, stops-of}
+use Rattle.mrpc_top.specs.declared.command.Command.TheVariants.{Replay, Decode, Check, Audit}
 use Rattle.mrpc_top.proofs.command.run.Goals as goal
 
 pub returns-in-Replay-clause-refused : goal.returns-in-Replay-clause-refused
@@ -48,3 +49,19 @@ returns-in-Audit-clause-refused g c fault = (
       (g.K.Sink.written c.audit_to.new.out) c.in-Audit.is fault (c.audit_to.ensures.done done),
   λ failed. omega (arith, failed, c.audit_to.ensures.statuses),
 )
+
+pub returns-in-Replay-clause-cut_short : goal.returns-in-Replay-clause-cut_short
+returns-in-Replay-clause-cut_short g c e =
+    stops-of Replay c.args.command c.args.text.now c.args.text.now _ _ _ _ (sym c.in-Replay.is) refl (c.replay_text.ensures.cut_short e)
+
+pub returns-in-Decode-clause-cut_short : goal.returns-in-Decode-clause-cut_short
+returns-in-Decode-clause-cut_short g c e =
+    stops-of Decode c.args.command c.args.text.now c.args.text.now _ _ _ _ (sym c.in-Decode.is) refl (c.decode_to.ensures.early e)
+
+pub returns-in-Check-clause-cut_short : goal.returns-in-Check-clause-cut_short
+returns-in-Check-clause-cut_short g c e =
+    stops-of Check c.args.command c.args.text.now c.args.text.now _ _ _ _ (sym c.in-Check.is) refl (c.check_to.ensures.early e)
+
+pub returns-in-Audit-clause-cut_short : goal.returns-in-Audit-clause-cut_short
+returns-in-Audit-clause-cut_short g c e =
+    stops-of Audit c.args.command c.args.text.now c.args.text.now _ _ _ _ (sym c.in-Audit.is) refl (c.audit_to.ensures.early e)

@@ -4,8 +4,9 @@ use Rattle.std.specs.declared.alloc.Global.{Global}
 use Rattle.mrpc_top.specs.Command.{IsFaulty, Names, of_text}
 use Rattle.mrpc_top.specs.Reading.{IsAllOf}
 use Rattle.mrpc_top.specs.declared.command.Command.{Command}
-use Rattle.mrpc_top.specs.Replaying.{HasScriptFault, StopsText}
+use Rattle.mrpc_top.specs.Replaying.{HasScriptFault}
 use Rattle.mrpc_top.proofs.Complete.{done-or-short, one-command, past-limit, refused-faulty}
+use Rattle.mrpc_top.proofs.Commands.{stops-of}
 use Rattle.mrpc_top.proofs.Replays.{fault_of_whole, is_replay}
 use Rattle.mrpc_top.proofs.command.run_still.Goals as goal
 
@@ -18,12 +19,11 @@ returns-in-Whole-clause-sound_alone g c text replays is fault =
     (subst (λ (t : List ℕ). HasScriptFault t) (sym c.deref-in-Whole.ensures.value) whole)
 
 pub returns-in-Whole-clause-cut_short : goal.returns-in-Whole-clause-cut_short
-returns-in-Whole-clause-cut_short g c replays e =
+returns-in-Whole-clause-cut_short g c command names e =
     let named = subst (λ (ws : List (String Global)). Names ws c.in-Some.command) c.deref.ensures.value c.in-Some.ensures.some in
-    let stops = c.run.ensures.cut_short (is_replay c.args.words.now.items c.in-Some.command named replays) e in
+    let same : c.in-Some.command ≡ command = one-command c.args.words.now.items c.in-Some.command command named names in
     of_text c.in-Whole.text.items (record { all = c.in-Whole.ensures.whole.1; short = c.in-Whole.ensures.whole.0 })
-    (subst (λ (t : List ℕ). StopsText t (g.K.Sink.written c.args.out.now) (g.K.Sink.written c.run.new.out)
-    (g.W.Sink.written c.args.wire.now) (g.W.Sink.written c.run.new.wire)) c.deref-in-Whole.ensures.value stops)
+    (stops-of _ _ _ _ _ _ _ _ same c.deref-in-Whole.ensures.value (c.run.ensures.cut_short e))
 
 pub returns-in-Whole-clause-complete : goal.returns-in-Whole-clause-complete
 returns-in-Whole-clause-complete g c command text names is sound reads writes sends =

@@ -2,7 +2,6 @@ use Rattle.std.proofs.Common.{inl, inr, refl, subst, sym, List}
 use Rattle.std.specs.Prelude.{String}
 use Rattle.std.specs.declared.alloc.Global.{Global}
 use Rattle.mrpc_top.specs.Runs.{HasRunFault, NamesRun}
-use Rattle.mrpc_top.specs.declared.command.Command.TheVariants.{Replay}
 use Rattle.mrpc_top.specs.declared.run.Running.{Running}
 use Rattle.mrpc_top.specs.declared.run.Running.TheVariants.{Drill}
 use Rattle.mrpc_top.proofs.Runs.{few_calls, no_command, one_run}
@@ -44,9 +43,9 @@ returns-in-Some-clause-broken g c is failed =
     absurd (no_command c.args.words.now.items c.in-Some.running is.0 named is.1)
 
 pub returns-in-Some-clause-cut_short : goal.returns-in-Some-clause-cut_short
-returns-in-Some-clause-cut_short g c replays e =
+returns-in-Some-clause-cut_short g c command names e =
     let named = subst (λ (ws : List (String Global)). NamesRun ws c.in-Some.running) c.deref.ensures.value c.in-Some.ensures.some in
-    absurd (no_command c.args.words.now.items c.in-Some.running Replay named replays)
+    absurd (no_command c.args.words.now.items c.in-Some.running command named names)
 
 pub returns-in-Some-clause-wire_rose : goal.returns-in-Some-clause-wire_rose
 returns-in-Some-clause-wire_rose g c is failed =

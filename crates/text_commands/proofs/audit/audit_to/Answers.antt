@@ -1,7 +1,9 @@
-use Rattle.std.proofs.Common.{ℕ, List, subst, rules}
+use Rattle.std.proofs.Common.{◌≡◌, ℕ, List, false, refl, subst, rules}
 use Rattle.std.specs.Prelude.{IsTrue}
 use Rattle.std.specs.Io.KnownBytes.{Appends}
-use Rattle.text_commands.specs.FaultLines.{fault_line}
+use Rattle.text_commands.specs.FaultLines.{WritesFront, fault_line}
+use Rattle.text_commands.specs.Stopping.EndsEarly.{in_refusal, in_work}
+use Rattle.text_commands.proofs.Fronts.{not_faulty}
 use Rattle.text_commands.proofs.audit.audit_to.Goals as goal
 
 pub returns-in-Err-At-clause-faulty : goal.returns-in-Err-At-clause-faulty
@@ -24,3 +26,21 @@ returns-then-write_all-clause-done g c = λ done.
       written = subst (λ (bytes : List ℕ). Appends (g.K.Sink.written c.args.out.now) (g.K.Sink.written c.write_all.new.out) bytes)
           c.as_slice.ensures (c.write_all.ensures.done yes);
     }
+
+pub returns-in-Err-At-clause-early : goal.returns-in-Err-At-clause-early
+returns-in-Err-At-clause-early g c e =
+    let first = rw c.in-Err-At.field-0-is at c.in-Err-At.ensures.failure in
+    let line = c.in-Err-At.line in
+    let word = c.in-Err-At.word.now in
+    in_refusal (fault_line line word)
+    (record { at = line; word = word; fault = rw (c.in-Err-At.line-is, c.in-Err-At.word-is) first; written = refl })
+    (subst (λ (bytes : List ℕ). WritesFront (g.K.Sink.written c.args.out.now) (g.K.Sink.written c.refuse.new.out) (fault_line line bytes))
+    c.as_bytes.ensures.value (c.refuse.ensures.front (not_faulty c.refuse.result e)))
+
+pub returns-in-Ok-clause-early : goal.returns-in-Ok-clause-early
+returns-in-Ok-clause-early g c e =
+    let no : c.write_all.result ≡ false = search rules in
+    let front = c.write_all.ensures.front no in
+    in_work c.as_slice.result.now
+    (record { answer = c.in-Ok.answer; is_answer = c.in-Ok.ensures.answer; written = c.as_slice.ensures })
+    (front.0, front.2)

@@ -1,7 +1,10 @@
-use Rattle.std.proofs.Common.{◌∙◌, ℕ, List, subst, rules}
+use Rattle.std.proofs.Common.{◌≡◌, ◌∙◌, ℕ, List, false, refl, subst, rules}
 use Rattle.std.specs.Prelude.{IsTrue}
 use Rattle.std.specs.Io.KnownBytes.{Appends}
 use Rattle.text_commands.specs.Checking.{spot_line}
+use Rattle.text_commands.specs.FaultLines.{WritesFront}
+use Rattle.text_commands.specs.Stopping.EndsEarly.{in_refusal, in_work}
+use Rattle.text_commands.proofs.Fronts.{not_faulty}
 use Rattle.text_commands.proofs.check.check_to.Goals as goal
 
 pub returns-in-Err-At-clause-faulty : goal.returns-in-Err-At-clause-faulty
@@ -24,3 +27,25 @@ returns-then-write_all-clause-done g c = λ done.
       written = subst (λ (bytes : List ℕ). Appends (g.K.Sink.written c.args.out.now) (g.K.Sink.written c.write_all.new.out) bytes)
           (c.as_slice.ensures ∙ c.in-Ok.ensures.checked.2) (c.write_all.ensures.done yes);
     }
+
+pub returns-in-Err-At-clause-early : goal.returns-in-Err-At-clause-early
+returns-in-Err-At-clause-early g c e =
+    let first = rw c.in-Err-At.field-0-is at c.in-Err-At.ensures.fault in
+    let spot = c.in-Err-At.spot in
+    let word = c.in-Err-At.word.now in
+    in_refusal (spot_line spot word)
+    (record { spot = spot; word = word; fault = rw (c.in-Err-At.spot-is, c.in-Err-At.word-is) first; written = refl })
+    (subst (λ (bytes : List ℕ). WritesFront (g.K.Sink.written c.args.out.now) (g.K.Sink.written c.refuse_at.new.out) (spot_line spot bytes))
+    c.as_bytes.ensures.value (c.refuse_at.ensures.front (not_faulty c.refuse_at.result e)))
+
+pub returns-in-Ok-clause-early : goal.returns-in-Ok-clause-early
+returns-in-Ok-clause-early g c e =
+    let no : c.write_all.result ≡ false = search rules in
+    let front = c.write_all.ensures.front no in
+    in_work c.as_slice.result.now
+    (record {
+      table = c.in-Ok.ensures.checked.0;
+      checks = c.in-Ok.ensures.checked.1;
+      written = c.as_slice.ensures ∙ c.in-Ok.ensures.checked.2;
+    })
+    (front.0, front.2)

@@ -32,7 +32,9 @@ pub returns-in_err-read_lines-in-None-clause-cut :
     goal.returns-in_err-read_lines-in-None-clause-cut
 returns-in_err-read_lines-in-None-clause-cut c =
     let rest = c.in-Some-strip_prefix.rest.now in
-    let endless : IsEndless head c.args.text.now rest = endless_of c.args.text.now c.in-Some.behind c.in-Some-strip_prefix.rest c.in-Some.ensures.cases c.in-Some-strip_prefix.ensures.cases c.in-None.ensures.only in
+    let endless : IsEndless head c.args.text.now rest =
+    endless_of c.args.text.now c.in-Some.behind c.in-Some-strip_prefix.rest c.in-Some.ensures.cases
+    c.in-Some-strip_prefix.ensures.cases c.in-None.ensures.only in
     let p = err_from_is_err_and c.from_residual-in_err-read_lines-in-None.result c.from_residual-in_err-read_lines-in-None.ensures.1 in
     rw (p.1, p.2)
     (on_fault (IsFaultOfTable rest) (IsTextFault c.args.text.now) c.in_err-read_lines-in-None.field-0.0
@@ -44,7 +46,9 @@ returns-in_ok-read_lines-in-None-clause-cut c =
     let text = c.args.text.now in
     let table = c.in_ok-read_lines-in-None.field-0 in
     let read = c.in_ok-read_lines-in-None.ensures.read in
-    let endless : IsEndless head text c.in-Some-strip_prefix.rest.now = endless_of text c.in-Some.behind c.in-Some-strip_prefix.rest c.in-Some.ensures.cases c.in-Some-strip_prefix.ensures.cases c.in-None.ensures.only in
+    let endless : IsEndless head text c.in-Some-strip_prefix.rest.now =
+    endless_of text c.in-Some.behind c.in-Some-strip_prefix.rest c.in-Some.ensures.cases
+    c.in-Some-strip_prefix.ensures.cases c.in-None.ensures.only in
     on_fault (λ place word. (place ≡ c.line_count.result + 1) × (word ≡ codes "Word")) (IsTextFault text) c.fault-in-None.result
     (λ place word is. no_end table read.0 (subst (IsEndless head text) read.1 endless) (is.0 ∙ ap (λ n. n + 1) c.line_count.ensures.count) is.1)
     c.fault-in-None.ensures.fault

@@ -12,7 +12,9 @@ returns-in_ok-put_call-in-Ok-clause-told c =
     let T = c.args.table.now in
     let f = frame_of c.args.frame.now in
     let message : c.message_in-message.result ≡ message_in T f = c.message_in-message.ensures.place in
-    let bytes : c.as_slice.result.now ≡ encoding T (message_in T f) c.in-Ok.tree = c.as_slice.ensures ∙ c.in_ok-encode_into-in-Ok.ensures.written ∙ ap (λ (m : ℕ). encoding T m c.in-Ok.tree) message in
+    let bytes : c.as_slice.result.now ≡ encoding T (message_in T f) c.in-Ok.tree =
+    c.as_slice.ensures ∙ c.in_ok-encode_into-in-Ok.ensures.written
+    ∙ ap (λ (m : ℕ). encoding T m c.in-Ok.tree) message in
     let means : Means T (message_in T f) f.payload c.in-Ok.tree = subst (λ (m : ℕ). Means T m f.payload c.in-Ok.tree) message c.in-Ok.ensures.means in (
       call_line f (encoding T (message_in T f) c.in-Ok.tree),
       line_of_call c.in-Ok.tree c.requires.call c.requires.known means refl,
