@@ -1,12 +1,11 @@
 -- The code's own: the parts of a heap of plain words: the words with their stores, the races that wait, and the room for both.
-use Rattle.std.specs.Prelude.{◌≡◌, ◌<◌, ℕ, ◌+◌, ◌≤◌, List, ◌∷◌, length, slice_index, All}
+use Rattle.std.specs.Prelude.{◌≡◌, ◌<◌, ℕ, ◌+◌, ◌^◌, ◌≤◌, List, ◌∷◌, length, slice_index, All}
 use Rattle.mrpc_base.specs.Heap.{Race, word_after}
 
--- the words of a heap, the stores that were made to it, and for how many more there is room
+-- how many words a heap has, and the stores that were made to it
 pub record Stored : Type 0 where
   pub size : ℕ
   pub stores : List (ℕ × ℕ)
-  pub room : ℕ
 
 -- each word is what the stores made it
 abbrev pub StandsAfter : List (ℕ × ℕ) → List ℕ → Type 0
@@ -34,12 +33,11 @@ abbrev pub IsFirstDue : ℕ → List Race → List Race → ℕ × ℕ → Type 
 IsFirstDue number old new store = (race : Race) × (old ≡ race ∷ new) × (store ≡ (race.place, race.value))
     × (race.load ≤ number)
 
--- there is room for each load and each store that was promised it, the stores of waiting races among them
-pub record KeepsRoom (stored : Stored) (waiting : Waiting)
-    (loads finished capacity load_room store_room : ℕ) : Type 0 where
+-- each load and each store that was promised room can still be counted, the stores of waiting races among them
+pub record KeepsRoom (stored : Stored) (waiting : Waiting) (loads finished load_room store_room : ℕ) : Type 0 where
   pub begun : finished ≤ loads
-  pub for_loads : loads + load_room ≤ capacity
-  pub for_stores : length waiting.races + store_room ≤ stored.room
+  pub for_loads : loads + load_room < 2 ^ 64
+  pub for_stores : length stored.stores + length waiting.races + store_room < 2 ^ 64
   -- each race that was listed waits or is a store
   pub listed : waiting.listed ≤ length stored.stores + length waiting.races
   pub in_heap : All (λ race. race.place < stored.size) waiting.races

@@ -15,6 +15,7 @@ mod clock;
 mod fabric;
 mod gate;
 mod link;
+mod log;
 mod mem_link;
 mod mem_sink;
 mod mem_source;

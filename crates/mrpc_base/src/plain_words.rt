@@ -1,9 +1,9 @@
 //! The words of a heap in memory, with stores that race with its reader's loads.
 
-ghost use Rattle.std.specs.Prelude.{◌≡◌, ◌<◌, ◌≤◌, ◌+◌, ◌^◌, ℕ, [], ◌∷◌, ◌++◌, All, IfOk, length};
-ghost use Rattle.std.specs.Vec.{vec_capacity};
+ghost use Rattle.std.specs.Prelude.{◌≡◌, ◌<◌, ◌≤◌, ◌+◌, ◌^◌, ℕ, [], ◌∷◌, ◌++◌, All, IfOk, IsTrue, length};
 ghost use Rattle.mrpc_base.specs.Heap.{word_after, stores_of, races_up_to, races_past, races_with, AfterRoom, AfterLoad};
 
+use crate::log::Log;
 use crate::races::Races;
 use crate::stored_words::StoredWords;
 use crate::{Room, Stores, Words};
@@ -12,24 +12,24 @@ use std::marker::Model;
 
 /// The words of a heap in memory, which one holder loads and stores, and in which stores of others are played
 /// as races. Contracts see it as a `Heap`: its size, every load and every store so far, the races that wait, and
-/// for how many loads and stores there is room.
+/// for how many loads and stores there is room. It keeps the words alone, so loads and stores take no memory, and there
+/// is room for as many as can be counted.
 ///
 /// A *submission* is a run of loads that ends with `finish_submission`; the first begins when the heap is opened.
 #[derive(Drop)]
 pub struct PlainWords {
     words: StoredWords,
-    loads: Vec<(u64, u64)>,
+    loads: Log,
     races: Races,
     // How many loads earlier submissions made.
-    finished: usize,
+    finished: u64,
     load_room: u64,
     // Beside the room that each waiting race took.
     store_room: u64,
 }
 
 impl Model for PlainWords {
-    ghost use Rattle.std.specs.Prelude.{◌-◌, vec_len};
-    ghost use Rattle.std.specs.Vec.{vec_capacity};
+    ghost use Rattle.std.specs.Prelude.{◌-◌, length};
     ghost use Rattle.mrpc_base.specs.Heap.{Heap};
     ghost use Rattle.mrpc_base.specs.Parts.{KeepsRoom};
 
@@ -37,45 +37,39 @@ impl Model for PlainWords {
 
     ghost view = { λ h. record {
       size = h.words.size;
-      loads = h.loads.items;
+      loads = h.loads;
       stores = h.words.stores;
-      begun = vec_len h.loads - h.finished;
+      begun = length h.loads - h.finished;
       races = h.races.races;
       load_room = h.load_room;
       store_room = h.store_room;
     } };
 
-    ghost invariant = { λ h. KeepsRoom h.words h.races (vec_len h.loads) h.finished
-        (vec_capacity h.loads) h.load_room h.store_room };
+    ghost invariant = { λ h. KeepsRoom h.words h.races (length h.loads) h.finished h.load_room h.store_room };
 }
 
-// Makes room for so many stores besides those of the races that wait.
-fn room_beside(words: &mut StoredWords, waiting: u64, stores: u64) -> Room
-    ensures made { result ≡ Room.Made → waiting + stores ≤ words.new.room }
-    ensures never_falls { words.old.room ≤ words.new.room }
-    ensures fits { result ≡ Room.Made → length words.new.stores + words.new.room < 2 ^ 64 }
-    ensures size { words.new.size ≡ words.old.size }
-    ensures stores { words.new.stores ≡ words.old.stores }
+// Whether so many stores can be counted besides those that were made and those of the races that wait.
+fn can_count(made: u64, waiting: u64, stores: u64) -> bool
+    ensures { IsTrue result → made + waiting + stores < 2 ^ 64 }
 {
-    match waiting.checked_add(stores) {
-        Some(total) => words.make_room(total),
-        None => Room::Memory,
+    match made.checked_add(waiting) {
+        Some(so_far) => so_far.checked_add(stores).is_some(),
+        None => false,
     }
 }
 
 // Makes the races of loads up to `number`, in order.
 fn make_due(words: &mut StoredWords, races: &mut Races, number: u64)
-    requires room { length races.old.races ≤ words.old.room }
+    requires few { length words.old.stores + length races.old.races < 2 ^ 64 }
     requires in_heap { All (λ race. race.place < words.old.size) races.old.races }
 
     ensures stores { words.new.stores ≡ words.old.stores ++ stores_of (races_up_to number races.old.races) }
     ensures races { races.new.races ≡ races_past number races.old.races }
     ensures size { words.new.size ≡ words.old.size }
     ensures listed { races.new.listed ≡ races.old.listed }
-    // Each race that was made is a store, and took no more than its room.
+    // Each race that was made is a store.
     ensures counted { length words.new.stores + length races.new.races
         ≡ length words.old.stores + length races.old.races }
-    ensures room { words.old.room + length races.new.races ≤ words.new.room + length races.old.races }
     ensures in_heap { All (λ race. race.place < words.new.size) races.new.races }
 {
     while let Some((place, value)) = races.take_due(number) {
@@ -85,7 +79,7 @@ fn make_due(words: &mut StoredWords, races: &mut Races, number: u64)
 
 // Makes all races, in order.
 fn make_all(words: &mut StoredWords, races: &mut Races)
-    requires room { length races.old.races ≤ words.old.room }
+    requires few { length words.old.stores + length races.old.races < 2 ^ 64 }
     requires in_heap { All (λ race. race.place < words.old.size) races.old.races }
 
     ensures stores { words.new.stores ≡ words.old.stores ++ stores_of races.old.races }
@@ -93,22 +87,9 @@ fn make_all(words: &mut StoredWords, races: &mut Races)
     ensures size { words.new.size ≡ words.old.size }
     ensures listed { races.new.listed ≡ races.old.listed }
     ensures counted { length words.new.stores ≡ length words.old.stores + length races.old.races }
-    ensures room { words.old.room ≤ words.new.room + length races.old.races }
 {
     while let Some((place, value)) = races.take_first() {
         words.store(place, value);
-    }
-}
-
-// Appends a load for which there is room.
-fn append_load(loads: &mut Vec<(u64, u64)>, place: u64, value: u64)
-    requires { length loads.old.items < vec_capacity loads.old }
-    ensures loads { loads.new.items ≡ loads.old.items ++ (place, value) ∷ [] }
-    ensures capacity { vec_capacity loads.old ≤ vec_capacity loads.new }
-{
-    match loads.push((place, value)) {
-        Ok(()) => (),
-        Err(_) => unreachable!(),
     }
 }
 
@@ -126,7 +107,7 @@ impl PlainWords {
     {
         Ok(PlainWords {
             words: StoredWords::open(alloc, words as usize)?,
-            loads: Vec::new(alloc),
+            loads: Log::new(),
             races: Races::new(alloc),
             finished: 0,
             load_room: 0,
@@ -134,25 +115,11 @@ impl PlainWords {
         })
     }
 
-    /// Every load so far, a place and a value, in order.
-    pub fn loads(&self) -> &[(u64, u64)]
-        ensures { result.now ≡ self.now.loads }
-    {
-        &self.loads
-    }
-
-    /// Every store so far, a place and a value, in order, with those of races that were made.
-    pub fn stores(&self) -> &[(u64, u64)]
-        ensures { result.now ≡ self.now.stores }
-    {
-        self.words.stores()
-    }
-
     /// How many loads there were.
     pub fn loads_made(&self) -> u64
         ensures { result ≡ length self.now.loads }
     {
-        self.loads.len() as u64
+        self.loads.len()
     }
 
     /// Lists a store of `value` at `place` that is made right before the load `load` of this submission, counted
@@ -177,10 +144,10 @@ impl PlainWords {
         ensures store_room { self.new.store_room ≡ self.old.store_room }
     {
         let waiting = self.races.len() + 1;
-        match room_beside(&mut self.words, waiting, self.store_room) {
-            Room::Made => self.races.list(load, place, value),
-            Room::Memory => Room::Memory,
+        if !can_count(self.words.made(), waiting, self.store_room) {
+            return Room::Memory;
         }
+        self.races.list(load, place, value)
     }
 
     /// Ends this submission: makes the races that are left, in order. The next load begins the next submission.
@@ -240,13 +207,11 @@ impl Words for PlainWords {
         if n <= self.load_room {
             return Room::Made;
         }
-        match self.loads.reserve(n as usize) {
-            Ok(()) => {
-                self.load_room = n;
-                Room::Made
-            }
-            Err(_) => Room::Memory,
+        if self.loads.len().checked_add(n).is_none() {
+            return Room::Memory;
         }
+        self.load_room = n;
+        Room::Made
     }
 
     fn load(&mut self, place: u64) -> u64
@@ -267,10 +232,10 @@ impl Words for PlainWords {
         ensures store_room { self.new.store_room ≡ self.old.store_room }
         ensures changes { AfterLoad self.old place result self.new }
     {
-        let number = (self.loads.len() - self.finished) as u64 + 1;
+        let number = self.loads.len() - self.finished + 1;
         make_due(&mut self.words, &mut self.races, number);
         let value = self.words.word(place);
-        append_load(&mut self.loads, place, value);
+        self.loads.append(place, value);
         self.load_room -= 1;
         value
     }
@@ -298,7 +263,7 @@ impl Stores for PlainWords {
     fn made(&self) -> u64
         ensures { result ≡ length self.now.stores }
     {
-        self.words.stores().len() as u64
+        self.words.made()
     }
 
     fn room_stores(&mut self, n: u64) -> Room
@@ -317,11 +282,11 @@ impl Stores for PlainWords {
         if n <= self.store_room {
             return Room::Made;
         }
-        let room = room_beside(&mut self.words, self.races.len(), n);
-        if room == Room::Made {
-            self.store_room = n;
+        if !can_count(self.words.made(), self.races.len(), n) {
+            return Room::Memory;
         }
-        room
+        self.store_room = n;
+        Room::Made
     }
 
     fn store(&mut self, place: u64, value: u64)

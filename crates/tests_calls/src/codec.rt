@@ -60,11 +60,13 @@ fn a_field_takes_two_words_and_a_oneof_three(rt: HostRuntime) {
     assert_slots(&rt, &scene);
 }
 
-fn assert_one_store(rt: &impl Abort, scene: &Scene, placement: &Placement) {
+fn assert_one_store(rt: &impl Abort, scene: &mut Scene, placement: &Placement) {
     assert!(rt; placement.words == 2);
     assert!(rt; placement.placed.address == 2);
     assert!(rt; placement.encoding.as_slice() == b"\x08\x96\x01".as_slice());
-    assert!(rt; scene.stores() == [(2u64, 150u64)].as_slice());
+    assert!(rt; placement.placed.words.as_slice() == [(2u64, 150u64)].as_slice());
+    assert!(rt; scene.stored() == 1);
+    assert!(rt; scene.holds(rt, placement.placed.words.as_slice()));
 }
 
 #[test]
@@ -72,7 +74,7 @@ fn a_number_takes_one_store(rt: HostRuntime) {
     let mut scene = Scene::open(&rt, rt.alloc(), SMALL);
     let tree = with_number(&rt, rt.alloc(), 150);
     let placement = scene.place(&rt, rt.alloc(), &tree, 2);
-    assert_one_store(&rt, &scene, &placement);
+    assert_one_store(&rt, &mut scene, &placement);
 }
 
 // Each kind of slot once, and a message in itself.
@@ -97,13 +99,14 @@ const OF_EACH_KIND: &[u8] =
 fn assert_placed(rt: &impl Abort, scene: &Scene, placement: &Placement) {
     assert!(rt; placement.words == 20 + 2 + 43 + 3 + 10 + 21 + 5);
     assert!(rt; placement.encoding.as_slice() == OF_EACH_KIND);
-    assert!(rt; scene.stores() == placement.placed.words.as_slice());
+    assert!(rt; scene.stored() == placement.placed.words.len());
 }
 
-// It is copied with a load for each of its stores.
-fn assert_copied(rt: &impl Abort, alloc: Global, scene: &mut Scene) {
+// It is copied with a load for each of its stores, which all stand.
+fn assert_copied(rt: &impl Abort, alloc: Global, scene: &mut Scene, placement: &Placement) {
     assert!(rt; scene.copied(rt, alloc, 3).as_slice() == OF_EACH_KIND);
-    assert!(rt; scene.loads() == scene.stores());
+    assert!(rt; scene.loaded() == scene.stored());
+    assert!(rt; scene.holds(rt, placement.placed.words.as_slice()));
 }
 
 #[test]
@@ -111,5 +114,5 @@ fn each_kind_of_slot_is_placed(rt: HostRuntime) {
     let mut scene = Scene::open(&rt, rt.alloc(), SLOTS);
     let placement = scene.place_decoded(&rt, rt.alloc(), OF_EACH_KIND, 3);
     assert_placed(&rt, &scene, &placement);
-    assert_copied(&rt, rt.alloc(), &mut scene);
+    assert_copied(&rt, rt.alloc(), &mut scene, &placement);
 }

@@ -8,7 +8,7 @@ ghost use Rattle.graph_form.specs.Stored.{AreWordsOf};
 use graph_copy::{CopyResult, copy, forget};
 use graph_form::{Placed, size_words, slot_of};
 use graph_place::{place, place_words};
-use mrpc_base::{PlainWords, Stores};
+use mrpc_base::{PlainWords, Room, Stores, Words};
 use mrpc_table::{Bytes, MAX_LOADS, Table, Tree, fits};
 use std::alloc::Global;
 use std::marker::Model;
@@ -159,13 +159,25 @@ impl Scene {
         self.place(rt, alloc, &tree, at)
     }
 
-    /// The words that were stored, each with its place.
-    pub fn stores(&self) -> &[(u64, u64)] {
-        self.heap.stores()
+    /// How many stores were made.
+    pub fn stored(&self) -> usize {
+        self.heap.made() as usize
     }
 
-    /// The words that were loaded, each with its place.
-    pub fn loads(&self) -> &[(u64, u64)] {
-        self.heap.loads()
+    /// How many loads were made.
+    pub fn loaded(&self) -> usize {
+        self.heap.loads_made() as usize
+    }
+
+    /// Whether these words stand at their places, by a load of each.
+    pub fn holds(&mut self, rt: &impl Abort, words: &[(u64, u64)]) -> bool {
+        for &(place, value) in words {
+            assert!(rt; place < 256);
+            assert!(rt; self.heap.room_loads(1) == Room::Made);
+            if self.heap.load(place) != value {
+                return false;
+            }
+        }
+        true
     }
 }

@@ -18,6 +18,5 @@ loop-place-preserved c =
       size = stored.size ∙ kept.size;
       listed = c.in-Some.ensures.listed ∙ kept.listed;
       counted = omega (arith, fewer, longer, kept.counted);
-      room = omega (arith, fewer, kept.room, stored.room);
       in_heap = subst (λ size. All (λ race. race.place < size) new) (sym stored.size) (in_heap-first c.loop-place.words.size old new store first kept.in_heap).1;
     }

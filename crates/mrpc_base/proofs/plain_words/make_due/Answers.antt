@@ -21,7 +21,6 @@ loop-place-preserved c =
       size = stored.size ∙ kept.size;
       listed = c.in-Some.ensures.listed ∙ kept.listed;
       counted = omega (arith, fewer, longer, kept.counted);
-      room = omega (arith, fewer, kept.room, stored.room);
       in_heap = subst (λ size. All (λ race. race.place < size) new) (sym stored.size) inside;
     }
 

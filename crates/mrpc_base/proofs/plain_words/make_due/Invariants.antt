@@ -1,4 +1,4 @@
-use Rattle.std.proofs.Common.{◌≡◌, ◌<◌, ◌≤◌, ◌+◌, ◌++◌, All, length}
+use Rattle.std.proofs.Common.{◌≡◌, ◌<◌, ◌+◌, ◌++◌, All, length}
 use Rattle.mrpc_base.specs.Heap.{stores_of, races_up_to, races_past}
 use Rattle.mrpc_base.proofs.plain_words.make_due.Given as goal
 
@@ -9,7 +9,6 @@ invariant-loop-place l = record {
   size : l.words.size ≡ l.initial.words.size;
   listed : l.races.listed ≡ l.initial.races.listed;
   counted : length l.words.stores + length l.races.races ≡ length l.initial.words.stores + length l.initial.races.races;
-  room : l.initial.words.room + length l.races.races ≤ l.words.room + length l.initial.races.races;
   in_heap : All (λ race. race.place < l.words.size) l.races.races;
 }
 

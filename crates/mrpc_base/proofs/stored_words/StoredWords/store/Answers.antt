@@ -6,5 +6,5 @@ use Rattle.mrpc_base.proofs.stored_words.StoredWords.store.Goals as goal
 pub invariant_of-self : goal.invariant_of-self
 invariant_of-self c =
     let size = ap (λ (stored : Stored). stored.size) c.self.view_is in
-    stands_after_store c.self.inside.stores.items c.push.new.self.items c.self.inside.words.items c.args.place c.args.value
-    (omega (arith, size, c.self.inside.words.ok.0, c.requires.in_heap)) c.in-Ok.ensures.items c.self.invariant
+    stands_after_store c.self.inside.stores c.append.new.self c.self.inside.words.items c.args.place c.args.value
+    (omega (arith, size, c.self.inside.words.ok.0, c.requires.in_heap)) c.append.ensures c.self.invariant

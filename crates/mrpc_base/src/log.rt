@@ -1,0 +1,81 @@
+//! The loads or the stores that were made. Only contracts read their list, and it takes no bytes: code has how many
+//! they are.
+
+ghost use Rattle.std.specs.Prelude.{◌≡◌, ◌<◌, ◌-◌, ◌^◌, List, [], ◌∷◌, ◌++◌, ℕ, length};
+ghost use Rattle.std.specs.Borrow.{ftrue};
+
+use std::marker::Model;
+
+// A load or a store of a value at a place.
+#[derive(Clone, Copy)]
+pub(crate) struct Access {
+    pub place: u64,
+    pub value: u64,
+}
+
+// The place and the value of each, in order.
+#[derive(Drop)]
+pub(crate) struct Accesses {
+    pub ghost list: { List (ℕ × ℕ) },
+}
+
+impl Model for Accesses {
+    ghost also_owns = { λ _. ftrue };
+}
+
+impl Accesses {
+    // None was made.
+    pub(crate) fn new() -> Accesses
+        ensures { result.list ≡ [] }
+    {
+        Accesses {}
+    }
+
+    // One more.
+    pub(crate) fn with(_before: &Accesses, _access: &Access) -> Accesses
+        ensures { result.list ≡ _before.now.list ++ (_access.now.place, _access.now.value) ∷ [] }
+    {
+        Accesses {}
+    }
+}
+
+// The loads, or the stores, that were made.
+#[derive(Drop)]
+pub(crate) struct Log {
+    accesses: Accesses,
+    made: u64,
+}
+
+impl Model for Log {
+    ghost Value = { List (ℕ × ℕ) };
+
+    ghost view = { λ log. log.accesses.list };
+
+    ghost invariant = { λ log. log.made ≡ length log.accesses.list };
+}
+
+impl Log {
+    // None was made.
+    pub(crate) fn new() -> Log
+        ensures { result ≡ [] }
+    {
+        Log {
+            accesses: Accesses::new(),
+            made: 0,
+        }
+    }
+
+    pub(crate) fn len(&self) -> u64
+        ensures { result ≡ length self.now }
+    {
+        self.made
+    }
+
+    pub(crate) fn append(&mut self, place: u64, value: u64)
+        requires { length self.old < 2 ^ 64 - 1 }
+        ensures { self.new ≡ self.old ++ (place, value) ∷ [] }
+    {
+        self.accesses = Accesses::with(&self.accesses, &Access { place, value });
+        self.made += 1;
+    }
+}
