@@ -11,9 +11,16 @@ use std::alloc::Global;
 use std::marker::Model;
 
 /// A list of items, over a vector.
-#[derive(Drop, Debug)]
+#[derive(Debug)]
 pub struct Sequence<T> {
     items: Vec<T>,
+}
+
+// By hand, so that a drop is one call where it is needed, and not a drop of each part.
+impl<T: Drop> Drop for Sequence<T> {
+    fn drop(self) {
+        let Sequence { items: _items } = self;
+    }
 }
 
 impl<T> Model for Sequence<T> {
@@ -59,7 +66,8 @@ impl<T> Sequence<T> {
     pub fn into_vec(self) -> Vec<T>
         ensures { result.items ≡ self }
     {
-        self.items
+        let Sequence { items } = self;
+        items
     }
 
     /// The items as a slice.

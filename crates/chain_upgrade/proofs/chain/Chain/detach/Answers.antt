@@ -18,11 +18,11 @@ returns-in_default-clause-refused c = refuses-detach (chain_of c.args.self.now) 
     (c.deref.ensures.value ∙ ap (λ (v : ChainParts). v.engines) c.self.view_is)
     (none-found c.args.name c.deref.result.now (sym c.place_of.ensures ∙ c.in_default.is)))
 
-its-place : (c : goal.After-drop-name-inside) → IsFound c.args.name c.in-Some.place c.self.inside.engines.items
+its-place : (c : goal.After-drop-name) → IsFound c.args.name c.in-Some.place c.self.inside.engines.items
 its-place c = subst (λ (es : List EngineParts). IsFound c.args.name c.in-Some.place es) c.deref.ensures.value
     (found c.args.name c.in-Some.place c.deref.result.now (sym c.place_of.ensures ∙ c.in-Some.is))
 
-made : (c : goal.After-drop-name-inside)
+made : (c : goal.After-drop-name)
     → Changes (record { entries = map (λ e. e.entry) c.self.inside.engines.items; attached = c.self.inside.attached }) (Detach c.args.name)
     (record { entries = map (λ e. e.entry) (remove c.self.inside.engines.items c.in-Some.place); attached = c.self.inside.attached })
 made c = detach-changes c.self.inside.engines.items c.self.inside.attached c.in-Some.place c.args.name c.change_is_changed.ensures.unless_refused

@@ -42,16 +42,16 @@ returns-then-not-is_same_kind-clause-refused c = λ label.
     (has-entry (map (λ e. e.entry) c.args.self.now.engines) c.in-Some.place it.it.entry (map-at (λ (e : EngineParts). e.entry) c.args.self.now.engines c.in-Some.place it.it here))
     it.named other
 
-its-place : (c : goal.After-drop-name-inside) → IsFound c.args.name c.in-Some.place c.self.inside.engines.items
+its-place : (c : goal.After-drop-name) → IsFound c.args.name c.in-Some.place c.self.inside.engines.items
 its-place c = subst (λ (es : List EngineParts). IsFound c.args.name c.in-Some.place es) c.deref.ensures.value
     (found c.args.name c.in-Some.place c.deref.result.now (sym c.place_of.ensures ∙ c.in-Some.is))
 
 -- the engine that was taken out
-its-engine : (c : goal.After-drop-name-inside) → slice_get c.self.inside.engines.items c.in-Some.place ≡ Some c.decompose-state.result
+its-engine : (c : goal.After-drop-name) → slice_get c.self.inside.engines.items c.in-Some.place ≡ Some c.decompose-state.result
 its-engine c = there-at c.self.inside.engines.items c.in-Some.place c.remove.result (its-place c).within c.remove.ensures.value
     ∙ ap (λ (e : EngineParts). Some e) (sym c.decompose-state.ensures)
 
-its-name : (c : goal.After-drop-name-inside) → c.decompose-state.result.entry.name ≡ c.args.name
+its-name : (c : goal.After-drop-name) → c.decompose-state.result.entry.name ≡ c.args.name
 its-name c =
     let it = its-place c in
     let at = it.at in
@@ -59,7 +59,7 @@ its-name c =
     let same : c.decompose-state.result ≡ it.it = one-some (slice_get c.self.inside.engines.items c.in-Some.place) c.decompose-state.result it.it there at in
     ap (λ (e : EngineParts). e.entry.name) same ∙ it.named
 
-its-kind : (c : goal.After-drop-name-inside) → is_same_kind c.decompose-state.result.entry.policy c.args.policy ≡ true
+its-kind : (c : goal.After-drop-name) → is_same_kind c.decompose-state.result.entry.policy c.args.policy ≡ true
 its-kind c =
     let there = its-engine c in
     let looked : slice_get c.self.inside.engines.items c.in-Some.place ≡ Some c.index.result.now =
@@ -69,12 +69,12 @@ its-kind c =
     ∙ (ap (λ (policy : Policy). is_same_kind policy c.args.policy) (sym c.policy.ensures.policy) ∙ (sym c.is_same_kind.ensures ∙ c.if-not-is_same_kind.false))
 
 -- the other one stands in its place
-replaced : (c : goal.After-drop-name-inside) → c.put.new.engines.items ≡ set c.self.inside.engines.items c.in-Some.place c.restore.result
+replaced : (c : goal.After-drop-name) → c.put.new.engines.items ≡ set c.self.inside.engines.items c.in-Some.place c.restore.result
 replaced c = c.put.ensures.items
     ∙ (ap (λ (es : List EngineParts). insert es c.in-Some.place c.restore.result) c.remove.ensures.items
     ∙ put-back c.self.inside.engines.items c.in-Some.place c.restore.result (its-place c).within)
 
-made : (c : goal.After-drop-name-inside) (label : List ℕ)
+made : (c : goal.After-drop-name) (label : List ℕ)
     → Changes (record { entries = map (λ e. e.entry) c.self.inside.engines.items; attached = c.self.inside.attached }) (Upgrade c.args.name label c.args.policy)
     (record { entries = map (λ e. e.entry) (set c.self.inside.engines.items c.in-Some.place c.restore.result); attached = c.self.inside.attached })
 made c label = upgrade-changes c.self.inside.engines.items c.self.inside.attached c.in-Some.place c.args.name label c.args.policy c.decompose-state.result c.restore.result
@@ -106,10 +106,10 @@ returns-clause-changes c = λ label.
     (record { entries = map (λ e. e.entry) es; attached = c.self.inside.attached })) (sym (replaced c)) (made c label))
 
 -- its place, as callers see it
-seen-place : (c : goal.After-drop-name-inside) → place_of c.args.name (map (λ e. e.entry) c.args.self.now.engines) ≡ c.in-Some.place
+seen-place : (c : goal.After-drop-name) → place_of c.args.name (map (λ e. e.entry) c.args.self.now.engines) ≡ c.in-Some.place
 seen-place c = ap (λ (v : ChainParts). place_of c.args.name (map (λ e. e.entry) v.engines)) (sym c.self.view_is) ∙ (its-place c).place_is
 
-seen-engine : (c : goal.After-drop-name-inside) (e : EngineParts)
+seen-engine : (c : goal.After-drop-name) (e : EngineParts)
     → slice_get c.args.self.now.engines (place_of c.args.name (map (λ e. e.entry) c.args.self.now.engines)) ≡ Some e → c.decompose-state.result ≡ e
 seen-engine c e is =
     let here : slice_get c.args.self.now.engines (place_of c.args.name (map (λ e. e.entry) c.args.self.now.engines)) ≡ Some c.decompose-state.result =
