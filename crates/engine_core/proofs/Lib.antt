@@ -1,4 +1,5 @@
 mod Rows
+mod Along
 mod AnswerLaws
 mod ChainLaws
 mod MarkLaws

@@ -1,6 +1,6 @@
 //! Marks: what a standing call keeps of the engines that it met.
 
-ghost use Rattle.std.specs.Prelude.{◌≡◌, ◌≤◌, ◌==◌, not, filter, length};
+ghost use Rattle.std.specs.Prelude.{◌≡◌, ◌≤◌, ◌==◌, All, IsTrue, true, not, filter, length};
 ghost use Rattle.std.specs.List.{list_any};
 ghost use Rattle.engine_core.specs.Marks.{is_allowing, other_marks};
 ghost use Rattle.engine_core.specs.Steps.{marked};
@@ -79,7 +79,23 @@ pub(crate) fn forget_allowing(marks: &mut Marks)
 pub(crate) fn keep_of(marks: &mut Marks, engines: &[Engine])
     ensures { marks.new.items ≡ filter (λ m. list_any (λ e. e.entry.attach == m.attach) engines.now) marks.old.items }
 {
-    marks.retain(|mark| has_attachment(engines, mark.attach));
+    if !go_along(marks, engines) {
+        marks.retain(|mark| has_attachment(engines, mark.attach));
+    }
+}
+
+// Whether each mark is seen to be of one of the engines while these are passed once, as where marks come in their order.
+fn go_along(marks: &Marks, engines: &[Engine]) -> bool
+    ensures { IsTrue result
+        → All (λ m. list_any (λ e. e.entry.attach == m.attach) engines.now ≡ true) marks.now.items }
+{
+    let mut seen = 0;
+    for engine in engines {
+        if seen < marks.len() && marks[seen].attach == engine.attach() {
+            seen += 1;
+        }
+    }
+    seen == marks.len()
 }
 
 // Whether one of the engines has the attachment.
