@@ -1,13 +1,11 @@
 -- Happenings of the same words are the same, of those that can be told.
 use Rattle.std.proofs.Common.{◌≡◌, ℕ, zero, suc, ◌+◌, ◌*◌, ◌<◌, ◌^◌, nat_eq, true, false, List, [], ◌∷◌, length}
-use Rattle.std.proofs.Common.{get_or, codes, refl, ap, sym, subst, ◌∙◌, arith, Some, All, if◌then◌else◌, Ok}
+use Rattle.std.proofs.Common.{get_or, codes, refl, ap, sym, subst, ◌∙◌, arith, Some, All, if◌then◌else◌}
 use Rattle.std.specs.Fmt.{decimal}
 use Rattle.std.specs.Prelude.{slice_get, option_map, unwrap_or}
 use Rattle.std.specs.Str.{bytes_eq}
 use Rattle.std.proofs.lemmas.Bool.Decides.{nat_tests}
 use Rattle.std.proofs.lemmas.List.Elements.{All-head, All-tail}
-use Rattle.hex.specs.Hex.{lower_digits, decode_of}
-use Rattle.hex.proofs.HexLemmas.{decode_of-encode_lower, length-encode_with}
 use Rattle.mrpc_table.specs.Calls.{message_at, message_of_method, sort_of}
 use Rattle.mrpc_table.specs.Node.{Node}
 use Rattle.mrpc_table.specs.Normal.{IsNormal}
@@ -36,7 +34,8 @@ use Rattle.policy_blocks.specs.Declarations.{Declared}
 use Rattle.audit_text.specs.Labels.{policy_under}
 use Rattle.audit_text.specs.Lines.{Words, hex_word, copy_words, step_words, cause_words, happening_words}
 use Rattle.audit_text.specs.Writable.{IsDeclared, IsStep, IsTaken, IsAcceptance, IsCause, CanBeTold, IsWritable}
-use Rattle.audit_text.proofs.Bytes.{AreBytes, bytes-each}
+use Rattle.audit_text.proofs.Bytes.{bytes-each}
+use Rattle.audit_text.proofs.Digits.{digits-tell}
 use Rattle.audit_text.proofs.EncodedBytes.{encoding-bytes}
 use Rattle.audit_text.proofs.Telling.{low16, low32}
 use Rattle.audit_text.proofs.Words.{decimal-same}
@@ -69,19 +68,13 @@ OneMeaning = (T : Table) (msg : ℕ) (bytes : List ℕ) (t u : Node) → Means T
 abbrev pub EncodingMeans : Type 0
 EncodingMeans = (T : Table) (msg : ℕ) (t : Node) → IsValid T → msg < length T.messages → IsNormal T msg t → length (encoding T msg t) < 2 ^ 64 → Means T msg (encoding T msg t) t
 
-hex-same : (a b : List ℕ) → AreBytes a → AreBytes b → hex_word a ≡ hex_word b → a ≡ b
-hex-same [] [] h k e = refl
-hex-same [] (y ∷ b) h k e = absurd (omega (arith, ap length e, length-encode_with lower_digits (y ∷ b)))
-hex-same (x ∷ a) [] h k e = absurd (omega (arith, ap length e, length-encode_with lower_digits (x ∷ a)))
-hex-same (x ∷ a) (y ∷ b) h k e =
-    let both : Ok (x ∷ a) ≡ Ok (y ∷ b) = sym (decode_of-encode_lower (x ∷ a) (bytes-each (x ∷ a) h)) ∙ ap decode_of e
-    ∙ decode_of-encode_lower (y ∷ b) (bytes-each (y ∷ b) k) in cc
-
 tree-same : OneMeaning → EncodingMeans → (T : Table) → IsValid T → (msg : ℕ) → msg < length T.messages → (t u : Node)
     → IsNormal T msg t → IsNormal T msg u → length (encoding T msg t) < 2 ^ 64 → length (encoding T msg u) < 2 ^ 64
     → hex_word (encoding T msg t) ≡ hex_word (encoding T msg u) → t ≡ u
 tree-same one means T valid msg known t u h k few less e =
-    let same = hex-same (encoding T msg t) (encoding T msg u) (encoding-bytes T msg t valid h few) (encoding-bytes T msg u valid k less) e in
+    let left = bytes-each (encoding T msg t) (encoding-bytes T msg t valid h few) in
+    let right = bytes-each (encoding T msg u) (encoding-bytes T msg u valid k less) in
+    let same = digits-tell (encoding T msg t) (encoding T msg u) left right e in
     let other : Means T msg (encoding T msg t) u = subst (λ (bytes : List ℕ). Means T msg bytes u) (sym same) (means T msg u valid known k less) in
     one T msg (encoding T msg t) t u (means T msg t valid known h few) other
 

@@ -1,8 +1,7 @@
 -- The code's own: how the words of an acceptance are read.
-use Rattle.std.specs.Prelude.{ℕ, ◌<◌, ◌^◌, ◌/◌, ◌%◌, List, ◌∷◌, codes, length, slice_index, Option, Some, None, if◌then◌else◌}
+use Rattle.std.specs.Prelude.{ℕ, ◌<◌, ◌^◌, List, ◌∷◌, codes, length, Option, Some, None, if◌then◌else◌}
 use Rattle.std.specs.Fmt.{decimal}
 use Rattle.std.specs.Str.{bytes_eq}
-use Rattle.hex.specs.Hex.{lower_digits}
 use Rattle.mrpc_table.specs.Calls.{message_at}
 use Rattle.mrpc_table.specs.Node.{Node}
 use Rattle.mrpc_table.specs.Normal.{IsNormal}
@@ -16,10 +15,6 @@ use Rattle.call_history.specs.declared.happening.TookCopy.TheVariants.{Malformed
 use Rattle.audit_text.specs.Lines.{Words, copy_words}
 use Rattle.audit_text.specs.Reading.{◌>>=◌, first_said, last_said, number_said}
 use Rattle.audit_text.specs.declared.copy.Head.{Head}
-
--- the digits of a byte, and others behind them
-abbrev pub with_digits : ℕ → List ℕ → List ℕ
-with_digits byte rest = slice_index lower_digits (byte / 16) ∷ slice_index lower_digits (byte % 16) ∷ rest
 
 -- a normal tree of a message, whose encoding has a length of 64 bits
 pub record IsCopied (T : Table) (msg : ℕ) (tree : Node) : Type 0 where

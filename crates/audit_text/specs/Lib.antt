@@ -1,5 +1,6 @@
 pub mod Copies
 pub mod Faults
+pub mod Hexadecimal
 pub mod Kinds
 pub mod Labels
 pub mod LineWords
@@ -10,4 +11,3 @@ pub mod Reading
 pub mod Said
 pub mod Told
 pub mod Writable
-pub mod Written

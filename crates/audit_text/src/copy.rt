@@ -1,8 +1,7 @@
 //! Lines of acceptances.
 
-ghost use Rattle.std.specs.Prelude.{◌≡◌, ◌<◌, ◌^◌, ℕ, List, [], ◌∷◌, Some, length, option_map, slice_index, IfOk, IfSome, MatchOption};
+ghost use Rattle.std.specs.Prelude.{◌≡◌, ◌*◌, ◌<◌, ◌≤◌, ◌^◌, ℕ, [], ◌∷◌, Some, length, option_map, IfOk, IfSome};
 ghost use Rattle.std.specs.Str.{bytes_eq};
-ghost use Rattle.hex.specs.Hex.{IsBytes, encode_lower, lower_digits};
 ghost use Rattle.mrpc_table.specs.Calls.{message_at};
 ghost use Rattle.mrpc_table.specs.Node.{Node};
 ghost use Rattle.mrpc_table.specs.Normal.{IsNormal};
@@ -11,21 +10,20 @@ ghost use Rattle.wire_base.specs.Encoding.{encoding};
 ghost use Rattle.call_history.specs.declared.happening.Taken.{Taken};
 ghost use Rattle.audit_text.specs.Lines.{copy_words, hex_word};
 ghost use Rattle.audit_text.specs.Writable.{IsAcceptance, IsTaken};
-ghost use Rattle.audit_text.specs.Copies.{head_said, malformed_said, reason_said, taken_words, with_digits, IsCopied};
+ghost use Rattle.audit_text.specs.Copies.{head_said, malformed_said, reason_said, taken_words, IsCopied};
 ghost use Rattle.audit_text.specs.Reading.{words_in, Reads};
 
-use crate::laws::an_encoding_is_bytes;
-use crate::word::{Rest, last64, next, number16, number32, number64};
+use crate::hexadecimal::read_bytes;
+use crate::word::{Rest, is_word, last64, next, number16, number32, number64};
 use call_history::{Taken, TookCopy};
 use graph_form::Reason;
-use hex::FromHexError;
-use mrpc_table::{Bytes, Memory, Table, Tree, is_word};
+use mrpc_table::{Memory, Table, Tree};
 use std::alloc::Global;
 use wire_decode::{DecodeFault, decode, meaning_of_encoding};
-use wire_encode::encode;
+use wire_encode::{Output, encode_into};
 
-// The hexadecimal digits.
-const DIGITS: &[u8; 16] = b"0123456789abcdef";
+// How many bytes of a copy are read into a row at hand. For more, memory is taken.
+const ROOM: usize = 128;
 
 /// The numbers of an accepted call, as its line has them before the copy.
 #[derive(Clone, Copy)]
@@ -103,105 +101,89 @@ fn malformed(rest: Rest<'_>) -> Option<TookCopy>
     })
 }
 
-// The bytes that hexadecimal digits of either case spell, or none where the word is `-`.
-fn bytes_of(alloc: Global, word: &[u8]) -> Result<Option<Bytes>, Memory>
-    ensures { (bytes : List ℕ) → IsBytes bytes → word.now ≡ hex_word bytes
-        → IfOk result (λ b. b ≡ Some bytes) }
+// The message whose encoding is these bytes. What they mean is encoded again, so that no other bytes are taken.
+fn meant(alloc: Global, bytes: &[u8], table: &Table, message: u32) -> Result<Option<Tree>, Memory>
+    requires valid { IsValid table.now }
+    requires known { message < length table.now.messages }
+    ensures { Reads (IsCopied table.now message) (λ t. encoding table.now message t ∷ []) (bytes.now ∷ []) result }
 {
-    if is_word(word, b"-") {
-        return Ok(Some(Bytes::new(alloc)));
-    }
-    match hex::decode(alloc, word) {
-        Ok(bytes) => Ok(Some(Bytes::from_vec(bytes))),
-        Err(fault) => match fault {
-            FromHexError::OutOfMemory => Err(Memory),
-            _ => Ok(None),
-        },
+    let Some(tree) = decoded(alloc, bytes, table, message)? else {
+        return Ok(None);
+    };
+    if is_encoding(alloc, bytes, &tree, table, message)? {
+        Ok(Some(tree))
+    } else {
+        Ok(None)
     }
 }
 
-// The message that the digits of a word mean.
-fn decoded(alloc: Global, word: &[u8], table: &Table, message: u32) -> Result<Option<Tree>, Memory>
+// The message that bytes mean.
+fn decoded(alloc: Global, bytes: &[u8], table: &Table, message: u32) -> Result<Option<Tree>, Memory>
     requires valid { IsValid table.now }
     requires known { message < length table.now.messages }
     ensures normal { IfOk result (λ r. IfSome r (λ t. IsNormal table.now message t)) }
-    ensures only { (t : Node) → IsCopied table.now message t → word.now ≡ hex_word (encoding table.now message t)
+    ensures only { (t : Node) → IsCopied table.now message t → bytes.now ≡ encoding table.now message t
         → IfOk result (λ r. r ≡ Some t) }
 {
     meaning_of_encoding();
-    an_encoding_is_bytes();
-    let Some(bytes) = bytes_of(alloc, word)? else {
-        return Ok(None);
-    };
-    match decode(alloc, bytes.as_slice(), table, message) {
+    match decode(alloc, bytes, table, message) {
         Ok(tree) => Ok(Some(tree)),
         Err(DecodeFault::Memory) => Err(Memory),
         Err(DecodeFault::At { .. }) => Ok(None),
     }
 }
 
-// A hexadecimal digit.
-fn digit(value: u8) -> u8
-    requires { value < 16 }
-    ensures { result ≡ slice_index lower_digits value }
+// Whether bytes are the encoding of a message.
+fn is_encoding(
+    alloc: Global,
+    bytes: &[u8],
+    tree: &Tree,
+    table: &Table,
+    message: u32,
+) -> Result<bool, Memory>
+    requires valid { IsValid table.now }
+    requires known { message < length table.now.messages }
+    requires normal { IsNormal table.now message tree.now }
+    ensures { IfOk result (λ same. same ≡ bytes_eq bytes.now (encoding table.now message tree.now)) }
 {
-    DIGITS[usize::from(value)]
+    let mut out = Output::new(alloc)?;
+    encode_into(&mut out, tree, table, message)?;
+    Ok(bytes == out.as_slice())
 }
 
-// What stands behind the two digits of a byte, where a word begins with them.
-fn behind_digits(word: &[u8], byte: u8) -> Option<&[u8]>
-    ensures { MatchOption result ((rest : List ℕ) → word.now ≡ with_digits byte rest → ⊥)
-        (λ rest. word.now ≡ with_digits byte rest.now) }
+// The message whose encoding a word spells, whose bytes are put into a row that is long enough.
+fn spelled(
+    alloc: Global,
+    row: &mut [u8],
+    word: &[u8],
+    table: &Table,
+    message: u32,
+) -> Result<Option<Tree>, Memory>
+    requires valid { IsValid table.now }
+    requires known { message < length table.now.messages }
+    requires room { length word.now ≤ 2 * length row.old }
+    ensures { Reads (IsCopied table.now message) (λ t. hex_word (encoding table.now message t) ∷ [])
+        (word.now ∷ []) result }
 {
-    let [high, low, others @ ..] = word else {
-        return None;
-    };
-    if *high != digit(byte / 16) || *low != digit(byte % 16) {
-        return None;
+    match read_bytes(row, word) {
+        Some(count) => meant(alloc, &row[..count], table, message),
+        None => Ok(None),
     }
-    Some(others)
 }
 
-// Whether a word is the digits of these bytes.
-fn are_digits(word: &[u8], bytes: &[u8]) -> bool
-    ensures { result ≡ bytes_eq word.now (encode_lower bytes.now) }
-{
-    let mut left = word;
-    for byte in bytes {
-        let Some(behind) = behind_digits(left, *byte) else {
-            return false;
-        };
-        left = behind;
-    }
-    is_word(left, b"")
-}
-
-// Whether a word has the digits of these bytes.
-fn spells(word: &[u8], bytes: &[u8]) -> bool
-    ensures { result ≡ bytes_eq word.now (hex_word bytes.now) }
-{
-    if bytes.is_empty() {
-        return is_word(word, b"-");
-    }
-    are_digits(word, bytes)
-}
-
-// The message whose encoding a word spells. What the digits mean is encoded again, so that no other spelling is taken.
+// The message whose encoding a word spells.
 fn copied(alloc: Global, word: &[u8], table: &Table, message: u32) -> Result<Option<Tree>, Memory>
     requires valid { IsValid table.now }
     requires known { message < length table.now.messages }
     ensures { Reads (IsCopied table.now message) (λ t. hex_word (encoding table.now message t) ∷ [])
         (word.now ∷ []) result }
 {
-    let Some(tree) = decoded(alloc, word, table, message)? else {
-        return Ok(None);
-    };
-    let encoding = encode(alloc, &tree, table, message)?;
-    if spells(word, encoding.as_slice()) {
-        Ok(Some(tree))
-    } else {
-        Ok(None)
+    if word.len() > 2 * ROOM {
+        let mut longer = vec![in alloc; 0u8; word.len() / 2 + 1]?;
+        return spelled(alloc, &mut longer, word, table, message);
     }
+    let mut row = [0; ROOM];
+    spelled(alloc, &mut row, word, table, message)
 }
 
 // The word of a copy, as the last one. (No other text spells an encoding: no space is a digit.)

@@ -3,8 +3,8 @@
 //!
 //! `specs/Lines.antt` says which line tells a happening, `specs/Writable.antt` which happenings a text can tell, under
 //! the policies that were declared. [`append_record`] and the others write lines. [`read_line`] cuts a line into words,
-//! which are read one after another: a copy's digits are decoded and encoded again, and the line is one of an acceptance
-//! only where it has the digits of that encoding. `specs/Told.antt` says which lines there are, and `specs/Faults.antt`
+//! which are read one after another: the bytes that a copy's digits spell are decoded, what they mean is encoded again,
+//! and the line is one of an acceptance only where that gives the same bytes. `specs/Told.antt` says which lines there are, and `specs/Faults.antt`
 //! which line of a text is the first that is none of a history. A line is written and read in time in proportion to it,
 //! but for the look-up of a policy by its label.
 //!
@@ -14,6 +14,7 @@
 #![tactic(auto)]
 
 mod copy;
+mod hexadecimal;
 mod holding;
 mod laws;
 mod line;

@@ -16,9 +16,9 @@ use crate::laws::{
 };
 use crate::step::step;
 use crate::what::{Kind, away, charged, counted, drawn, moment, redacted, refused, sent};
-use crate::word::{Rest, end, last64, next, number32, number64};
+use crate::word::{Rest, end, is_word, last64, next, number32, number64};
 use call_history::{Happened, Happening};
-use mrpc_table::{Memory, Name, Table, is_name_form, is_word};
+use mrpc_table::{Memory, Name, Table, is_name_form};
 use policy_blocks::Declarations;
 use std::alloc::Global;
 

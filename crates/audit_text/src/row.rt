@@ -4,13 +4,13 @@ ghost use Rattle.std.specs.Prelude.{◌≡◌, ◌≤◌, ◌∷◌, ◌++◌, [
 ghost use Rattle.std.specs.Fmt.{decimal};
 ghost use Rattle.mrpc_table.specs.Text.{line};
 ghost use Rattle.audit_text.specs.Pieces.{behind_spaces, note_line};
-ghost use Rattle.audit_text.specs.Written.{StandsBefore};
+ghost use Rattle.wire_encode.specs.Written.{StandBefore};
 
 /// Writes a byte in front of what stands from `end` on, and says where it stands; none where no room is left.
 #[inline(always)]
 pub(crate) fn put_byte(row: &mut [u8], end: usize, byte: u8) -> Option<usize>
     requires { end ≤ length row.old }
-    ensures { IfSome result (StandsBefore row.old row.new end (byte ∷ [])) }
+    ensures { IfSome result (λ start. StandBefore row.old row.new end start (byte ∷ [])) }
 {
     if end == 0 {
         return None;
@@ -23,7 +23,7 @@ pub(crate) fn put_byte(row: &mut [u8], end: usize, byte: u8) -> Option<usize>
 #[inline(always)]
 pub(crate) fn put_bytes(row: &mut [u8], end: usize, bytes: &[u8]) -> Option<usize>
     requires { end ≤ length row.old }
-    ensures { IfSome result (StandsBefore row.old row.new end bytes.now) }
+    ensures { IfSome result (λ start. StandBefore row.old row.new end start bytes.now) }
 {
     if bytes.len() > end {
         return None;
@@ -36,7 +36,7 @@ pub(crate) fn put_bytes(row: &mut [u8], end: usize, bytes: &[u8]) -> Option<usiz
 /// The same for the digits of a decimal number, behind a space.
 pub(crate) fn put_number(row: &mut [u8], end: usize, number: u64) -> Option<usize>
     requires { end ≤ length row.old }
-    ensures { IfSome result (StandsBefore row.old row.new end (32 ∷ decimal number)) }
+    ensures { IfSome result (λ start. StandBefore row.old row.new end start (32 ∷ decimal number)) }
 {
     let mut start = end;
     let mut left = number;
@@ -52,7 +52,7 @@ pub(crate) fn put_number(row: &mut [u8], end: usize, number: u64) -> Option<usiz
 #[inline(always)]
 pub(crate) fn put_numbers(row: &mut [u8], end: usize, numbers: &[u64]) -> Option<usize>
     requires { end ≤ length row.old }
-    ensures { IfSome result (StandsBefore row.old row.new end (behind_spaces (map decimal numbers.now))) }
+    ensures { IfSome result (λ start. StandBefore row.old row.new end start (behind_spaces (map decimal numbers.now))) }
 {
     let mut start = end;
     for place in (0..numbers.len()).rev() {
@@ -65,7 +65,7 @@ pub(crate) fn put_numbers(row: &mut [u8], end: usize, numbers: &[u64]) -> Option
 #[inline(always)]
 pub(crate) fn put_front(row: &mut [u8], end: usize, front: &[u8], numbers: &[u64]) -> Option<usize>
     requires { end ≤ length row.old }
-    ensures { IfSome result (StandsBefore row.old row.new end (front.now ++ behind_spaces (map decimal numbers.now))) }
+    ensures { IfSome result (λ start. StandBefore row.old row.new end start (front.now ++ behind_spaces (map decimal numbers.now))) }
 {
     let start = put_numbers(row, end, numbers)?;
     put_bytes(row, start, front)
@@ -73,8 +73,7 @@ pub(crate) fn put_front(row: &mut [u8], end: usize, front: &[u8], numbers: &[u64
 
 /// The same at the end of a row for a line of a word and numbers.
 pub(crate) fn put_line(row: &mut [u8], word: &[u8], numbers: &[u64]) -> Option<usize>
-    ensures { IfSome result (StandsBefore row.old row.new (length row.old)
-        (line (word.now ∷ map decimal numbers.now))) }
+    ensures { IfSome result (λ start. StandBefore row.old row.new (length row.old) start (line (word.now ∷ map decimal numbers.now))) }
 {
     let end = row.len();
     let feed = put_byte(row, end, b'\n')?;
@@ -90,8 +89,7 @@ pub(crate) fn put_note(
     name: &[u8],
     numbers: &[u64],
 ) -> Option<usize>
-    ensures { IfSome result (StandsBefore row.old row.new (length row.old)
-        (note_line word.now conn seq name.now numbers.now)) }
+    ensures { IfSome result (λ start. StandBefore row.old row.new (length row.old) start (note_line word.now conn seq name.now numbers.now)) }
 {
     let end = row.len();
     let feed = put_byte(row, end, b'\n')?;

@@ -6,9 +6,9 @@ ghost use Rattle.audit_text.specs.Labels.{policy_under};
 ghost use Rattle.audit_text.specs.Reading.{words_in};
 ghost use Rattle.audit_text.specs.Said.{attach_said, detach_said, label_said, step_said, upgrade_said};
 
-use crate::word::{Rest, end, name, next, number32};
+use crate::word::{Rest, end, is_word, name, next, number32};
 use engine_core::{Op, Policy};
-use mrpc_table::{Memory, Name, is_word};
+use mrpc_table::{Memory, Name};
 use policy_blocks::Declarations;
 use std::alloc::Global;
 

@@ -5,9 +5,9 @@ ghost use Rattle.audit_text.specs.Kinds.{kind_said};
 ghost use Rattle.audit_text.specs.Reading.{words_in};
 ghost use Rattle.audit_text.specs.Said.{access_said, away_said, by_entry_said, cause_said, charged_said, counted_said, drawn_said, moment_said, noted_said, quota_said, rate_said, redacted_said, refused_said, sent_said};
 
-use crate::word::{Rest, end, last32, last64, name, next, number16, number32, number64};
+use crate::word::{Rest, end, is_word, last32, last64, name, next, number16, number32, number64};
 use call_history::{Cause, Happening};
-use mrpc_table::{Memory, Name, is_word};
+use mrpc_table::{Memory, Name};
 use std::alloc::Global;
 
 /// What the first word of a line says that it tells.

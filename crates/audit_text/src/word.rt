@@ -3,6 +3,7 @@
 ghost use Rattle.std.specs.Prelude.{◌≡◌, ◌^◌, ◌∷◌, true, IfSome, Some, option_map};
 ghost use Rattle.std.specs.Char.{is_ascii_digit};
 ghost use Rattle.std.specs.List.{list_all};
+ghost use Rattle.std.specs.Str.{bytes_eq};
 ghost use Rattle.mrpc_table.specs.Lines.{is_decimal, words_of};
 ghost use Rattle.audit_text.specs.Numbers.{IsNumberBefore};
 ghost use Rattle.audit_text.specs.Reading.{end_said, first_said, last_said, name_said, number_said, words_in};
@@ -11,6 +12,25 @@ use mrpc_table::{Decimal, cut, is_name_form, number_of};
 
 /// What is left of a line behind some of its words: the words behind a space, or nothing.
 pub(crate) type Rest<'a> = Option<&'a [u8]>;
+
+/// Whether a word is this one. (Words of lines are short, and most differ in their length or in their first byte, so that
+/// they are compared byte by byte: `is_word` of `mrpc_table` looks at many bytes at once, as serves longer ones.)
+#[inline(always)]
+pub(crate) fn is_word(word: &[u8], expected: &[u8]) -> bool
+    ensures { result ≡ bytes_eq word.now expected.now }
+{
+    if word.len() != expected.len() {
+        return false;
+    }
+    let mut place = 0;
+    while place < expected.len() {
+        if word[place] != expected[place] {
+            return false;
+        }
+        place += 1;
+    }
+    true
+}
 
 /// The first word, and what is left behind it.
 pub(crate) fn next(rest: Rest<'_>) -> Option<(&[u8], Rest<'_>)>

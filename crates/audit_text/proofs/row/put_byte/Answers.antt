@@ -7,7 +7,7 @@ returns c =
     let end = c.args.end in
     let old = c.args.row.now in
     record {
-      before = omega arith;
+      place = omega arith;
       written = drop-set old (end - 1) c.args.byte (omega (arith, c.requires))
           ∙ ap (λ n. c.args.byte ∷ drop n old) (let e : end - 1 + 1 ≡ end = omega arith in e);
     }

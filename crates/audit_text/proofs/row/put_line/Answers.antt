@@ -1,6 +1,6 @@
 use Rattle.std.proofs.Common.{◌∷◌, [], length, map, subst, sym}
 use Rattle.std.specs.Fmt.{decimal}
-use Rattle.audit_text.specs.Written.{StandsBefore}
+use Rattle.wire_encode.specs.Written.{StandBefore}
 use Rattle.audit_text.proofs.Pieces.{line-pieces}
 use Rattle.audit_text.proofs.Written.{if-some, in-front}
 use Rattle.audit_text.proofs.row.put_line.Goals as goal
@@ -8,6 +8,6 @@ use Rattle.audit_text.proofs.row.put_line.Goals as goal
 pub returns : goal.returns
 returns c =
     let row = c.args.row.now in
-    let feed : StandsBefore row c.put_byte.new.row (length row) (10 ∷ []) c.in_ok-feed.feed = c.in_ok-feed.ensures in
+    let feed : StandBefore row c.put_byte.new.row (length row) c.in_ok-feed.feed (10 ∷ []) = c.in_ok-feed.ensures in
     if-some c.put_front.result _ _ c.put_front.ensures (λ start front.
-    subst (λ bytes. StandsBefore row c.put_front.new.row (length row) bytes start) (sym (line-pieces c.args.word.now (map decimal c.args.numbers.now))) (in-front start feed front))
+    subst (λ bytes. StandBefore row c.put_front.new.row (length row) start bytes) (sym (line-pieces c.args.word.now (map decimal c.args.numbers.now))) (in-front start feed front))

@@ -1,9 +1,14 @@
-use Rattle.std.proofs.Common.{◌≡◌, ◌≤◌, ◌++◌, drop}
+-- The digits that are left, and how many are written.
+use Rattle.std.proofs.Common.{◌≡◌, ◌+◌, ◌≤◌, ◌++◌, drop, length}
 use Rattle.std.specs.Fmt.{decimal}
 use Rattle.audit_text.proofs.row.put_number.Given as goal
 
 abbrev pub invariant-loop-left : goal.invariant-loop-left
-invariant-loop-left l = (l.start ≤ l.fn.end) × (decimal l.left ++ drop l.start l.row ≡ decimal l.fn.number ++ drop l.fn.end l.fn.row)
+invariant-loop-left l = record {
+  within : l.start ≤ l.fn.end;
+  place : l.start + length (decimal l.fn.number) ≡ l.fn.end + length (decimal l.left);
+  written : decimal l.left ++ drop l.start l.row ≡ decimal l.fn.number ++ drop l.fn.end l.fn.row;
+}
 
 abbrev pub decreases-loop-left : goal.decreases-loop-left
 decreases-loop-left l = l.left

@@ -1,0 +1,70 @@
+//! Bytes by their hexadecimal digits, in lower case alone, as audit lines have them. (`hex::decode` reads either case, so
+//! that digits would have to be looked at a second time, and takes memory for the bytes.)
+
+ghost use Rattle.std.specs.Prelude.{◌≡◌, ◌*◌, ◌<◌, ◌≤◌, ℕ, List, length, slice_index, take, MatchOption};
+ghost use Rattle.hex.specs.Hex.{IsBytes, encode_lower, lower_digits};
+ghost use Rattle.audit_text.specs.Hexadecimal.{with_digits};
+ghost use Rattle.audit_text.specs.Lines.{hex_word};
+
+use crate::word::is_word;
+
+// The value of a digit.
+#[inline(always)]
+fn value_of(digit: u8) -> Option<u8>
+    ensures { MatchOption result ((value : ℕ) → value < 16 → digit ≡ slice_index lower_digits value → ⊥)
+        (λ value. (value < 16) × (digit ≡ slice_index lower_digits value)) }
+{
+    match digit {
+        b'0'..=b'9' => Some(digit - b'0'),
+        b'a'..=b'f' => Some(digit - b'a' + 10),
+        _ => None,
+    }
+}
+
+// The byte whose digits a word begins with, and what stands behind them.
+#[inline(always)]
+fn front_byte(word: &[u8]) -> Option<(u8, &[u8])>
+    ensures { MatchOption result ((byte : ℕ) (rest : List ℕ) → byte < 256 → word.now ≡ with_digits byte rest → ⊥)
+        (λ p. (p.0 < 256) × (word.now ≡ with_digits p.0 p.1.now)) }
+{
+    let [high, low, others @ ..] = word else {
+        return None;
+    };
+    let high = value_of(*high)?;
+    let low = value_of(*low)?;
+    Some((high * 16 + low, others))
+}
+
+// Puts the bytes whose digits a word has at the front of a row, and says how many they are.
+fn read_digits(row: &mut [u8], word: &[u8]) -> Option<usize>
+    requires { length word.now ≤ 2 * length row.old }
+    ensures { MatchOption result ((bytes : List ℕ) → IsBytes bytes → word.now ≡ encode_lower bytes → ⊥)
+        (λ count. (count ≤ length row.new) × IsBytes (take count row.new)
+        × (word.now ≡ encode_lower (take count row.new))) }
+{
+    let mut left = word;
+    let mut count = 0;
+    while let Some((byte, behind)) = front_byte(left) {
+        row[count] = byte;
+        count += 1;
+        left = behind;
+    }
+    if left.is_empty() { Some(count) } else { None }
+}
+
+/// Puts the bytes that a word spells at the front of a row, and says how many they are: none where the word is `-`. `None`
+/// comes where it spells no bytes.
+pub(crate) fn read_bytes(row: &mut [u8], word: &[u8]) -> Option<usize>
+    requires { length word.now ≤ 2 * length row.old }
+    ensures { MatchOption result ((bytes : List ℕ) → IsBytes bytes → word.now ≡ hex_word bytes → ⊥)
+        (λ count. (count ≤ length row.new) × IsBytes (take count row.new)
+        × (word.now ≡ hex_word (take count row.new))) }
+{
+    if is_word(word, b"-") {
+        return Some(0);
+    }
+    if word.is_empty() {
+        return None;
+    }
+    read_digits(row, word)
+}
