@@ -15,8 +15,7 @@ use Rattle.audit_rules.specs.declared.checker.Checker.{Checker}
 use Rattle.audit_rules.specs.declared.rule.Rule.{Rule}
 use Rattle.audit_rules.specs.declared.rule.Rule.TheVariants.{A, B, C, D, E, F, G, Stands}
 use Rattle.audit_check.specs.Checking.{IsFirstOpen}
-use Rattle.audit_check.specs.States.{IsEarlier, IsFirstIn, KnowsOn}
-use Rattle.audit_check.proofs.Known.{KnowsEach}
+use Rattle.audit_check.specs.States.{IsEarlier, IsFirstIn, KnowsOn, KnowsEach}
 
 -- nothing is awaited where nothing is left open
 pub none_awaited : (past : Behind) → IsSettledUp past → (rule : Rule) → Awaits past rule → ⊥

@@ -26,10 +26,9 @@ use Rattle.audit_rules.specs.Knowing.{Knows, KnowsTold, under}
 use Rattle.audit_rules.specs.Telling.{TellsNext}
 use Rattle.audit_rules.specs.declared.checker.Checker.{Checker}
 use Rattle.audit_check.specs.Checking.{AreAllStanding, ArePrefixes, AreWhole, CallName, MayBegin, StandsLine, TellCalls, call_of, lines_on, on_connection}
-use Rattle.audit_check.specs.States.{IsRowOf, IsTold, KnowsCurrent, KnowsLines, KnowsOn, KnowsRest, KnowsUntold, Popped, Rise, calls_of, calls_on, conns_of, left_of}
+use Rattle.audit_check.specs.States.{IsRowOf, IsTold, KnowsCurrent, KnowsLines, KnowsOn, KnowsRest, KnowsUntold, Popped, Rise, calls_of, calls_on, conns_of, left_of, KnowsEach}
 use Rattle.audit_check.specs.declared.row.Turn.{Turn}
 use Rattle.audit_check.proofs.Calls.{all_standing, one_standing, standing_numbered}
-use Rattle.audit_check.proofs.Known.{KnowsEach}
 
 -- ---- lines of a connection
 

@@ -1,5 +1,5 @@
 -- How far a text was judged, once one more line comes.
-use Rattle.std.proofs.Common.{◌≡◌, ℕ, ◌+◌, ◌⊎◌, List, [], ◌∷◌, ◌++◌, Option, Some, None, IfNone, length, arith, ap}
+use Rattle.std.proofs.Common.{◌≡◌, ℕ, ◌+◌, ◌⊎◌, List, [], ◌∷◌, ◌++◌, Option, Some, None, IfNone, MatchResult, Result, Ok, Err, length, arith, ap}
 use Rattle.std.proofs.Common.{sym, subst, ◌∙◌, inl, inr, append_assoc, length-append}
 use Rattle.std.proofs.lemmas.Bool.Decides.{eqb_tells}
 use Rattle.mrpc_table.specs.declared.table.Table.{Table}
@@ -36,6 +36,12 @@ prefixes_more T limit h next prefixes may conn = elim (eqb_tells next.conn conn)
 pub stage_at : (T : Table) (limit : ℕ) (h : History) (told : List StandsLine) (stage : Stage) (c : Connections)
     → stage ≡ Happening c → IsStage T limit h told stage → IsHappening T limit h told c
 stage_at T limit h told stage c e is = let P : Stage → Type 0 = IsStage T limit h told in subst P e is
+
+pub ok_at : {A B : Type 0} (r : Result A B) (P : A → Type 0) (Q : B → Type 0) (x : A) → r ≡ Ok x → MatchResult r P Q → P x
+ok_at {A} {B} r P Q x e m = let M : Result A B → Type 0 = λ r. MatchResult r P Q in subst M e m
+
+pub err_at : {A B : Type 0} (r : Result A B) (P : A → Type 0) (Q : B → Type 0) (x : B) → r ≡ Err x → MatchResult r P Q → Q x
+err_at {A} {B} r P Q x e m = let M : Result A B → Type 0 = λ r. MatchResult r P Q in subst M e m
 
 pub legal_now : (T : Table) (limit : ℕ) (h : History) → ArePrefixes T limit h → ((conn : ℕ) → IsSettledUp (behind conn h)) → IsLegal T limit h
 legal_now T limit h prefixes settled conn = record { prefix = prefixes conn; closed = settled conn }

@@ -1,5 +1,5 @@
 -- The code's own: what its parts know of a history while it is judged.
-use Rattle.std.specs.Prelude.{◌≡◌, ◌≢◌, ℕ, ◌+◌, ◌<◌, ◌≤◌, ◌^◌, ◌⊎◌, List, [], ◌∷◌, ◌++◌, All, Contains, Option, None, Some, drop, length, map}
+use Rattle.std.specs.Prelude.{◌≡◌, ◌≢◌, ℕ, ◌+◌, ◌<◌, ◌≤◌, ◌^◌, ◌⊎◌, List, [], ◌∷◌, ◌++◌, All, Contains, Option, None, Some, drop, length, map, slice_get}
 use Rattle.std.specs.BTreeMap.{BTreeMap, get, keys}
 use Rattle.std.specs.List.{AllByRecursion, flat_map}
 use Rattle.std.specs.Ordering.{nat_cmp}
@@ -12,6 +12,7 @@ use Rattle.audit_rules.specs.declared.checker.Checker.{Checker}
 use Rattle.audit_rules.specs.declared.rule.Rule.{Rule}
 use Rattle.audit_check.specs.Checking.{ArePrefixes, CallName, StandsLine, TellCalls, call_of, lines_on, on_connection}
 use Rattle.audit_check.specs.declared.connections.Connections.{Connections}
+use Rattle.audit_check.specs.declared.connections.TheConstants.{NEAR}
 use Rattle.audit_check.specs.declared.row.Row.{Row}
 use Rattle.audit_check.specs.declared.row.Told.{Told}
 use Rattle.audit_check.specs.declared.row.Turn.{Turn}
@@ -34,8 +35,20 @@ abbrev pub KnowsOn : Table → ℕ → ℕ → Behind → Option Checker → Typ
 KnowsOn T limit conn past None = past ≡ []
 KnowsOn T limit conn past (Some c) = Knows T past c × (under T c ≡ on_connection T limit conn)
 
-abbrev pub KnowsAll : Table → History → Connections → Type 0
-KnowsAll T h c = (conn : ℕ) → KnowsOn T c.limit conn (behind conn h) (get nat_cmp c.checkers conn)
+abbrev pub KnowsEach : Table → ℕ → History → BTreeMap ℕ Checker → Type 0
+KnowsEach T limit h m = (conn : ℕ) → KnowsOn T limit conn (behind conn h) (get nat_cmp m conn)
+
+-- that in a connection's own place, or else in the map
+abbrev pub checker_in : Option Checker → Option Checker → Option Checker
+checker_in None far = far
+checker_in (Some c) far = Some c
+
+abbrev pub checker_of : Connections → ℕ → Option Checker
+checker_of c conn = checker_in (slice_get c.near.items conn) (get nat_cmp c.far conn)
+
+pub record KnowsAll (T : Table) (h : History) (c : Connections) : Type 0 where
+  pub knows : (conn : ℕ) → KnowsOn T c.limit conn (behind conn h) (checker_of c conn)
+  pub few : length c.near.items ≤ NEAR
 
 -- they know some history of fewer than 2^32 happenings by some
 abbrev pub IsKnown : Table → Connections → Type 0

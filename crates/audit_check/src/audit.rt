@@ -63,7 +63,7 @@ fn read_text(
 {
     a_line_is_cut_into_its_words();
     a_stands_line_tells_one_call();
-    let mut progress = Progress::new(alloc, loads);
+    let mut progress = Progress::new(alloc, loads)?;
     let mut rest = text;
     while !rest.is_empty() {
         let (line, others) = first_line(rest);
@@ -75,5 +75,5 @@ fn read_text(
         progress.take(alloc, table, line)?;
         rest = others;
     }
-    Ok(progress.end())
+    Ok(progress.end()?)
 }

@@ -1,7 +1,7 @@
 //! The checkers of all connections.
 
-ghost use Rattle.std.specs.Prelude.{◌≡◌, ℕ, ◌+◌, ◌<◌, ◌^◌, ◌∷◌, ◌++◌, [], None, IfNone, IfOk, IfSome, length};
-ghost use Rattle.std.specs.BTreeMap.{get};
+ghost use Rattle.std.specs.Prelude.{◌≡◌, ℕ, ◌+◌, ◌<◌, ◌≤◌, ◌^◌, ◌∷◌, ◌++◌, [], None, Some, IfNone, IfOk, IfSome, OnOk, length};
+ghost use Rattle.std.specs.BTreeMap.{Updates, get};
 ghost use Rattle.std.specs.Ordering.{nat_cmp};
 ghost use Rattle.mrpc_table.specs.Valid.{IsValid};
 ghost use Rattle.mrpc_table.specs.declared.table.Table.{Table};
@@ -10,7 +10,8 @@ ghost use Rattle.call_history.specs.Rules.{May};
 ghost use Rattle.audit_rules.specs.First.{BreaksFirst, order_of};
 ghost use Rattle.audit_rules.specs.Knowing.{IsReadable};
 ghost use Rattle.audit_check.specs.Checking.{IsFirstOpen, on_connection};
-ghost use Rattle.audit_check.specs.States.{IsEarlier, IsKnown, KnowsAll};
+ghost use Rattle.audit_check.specs.declared.connections.TheConstants.{NEAR};
+ghost use Rattle.audit_check.specs.States.{IsEarlier, IsKnown, KnowsAll, KnowsEach, checker_of};
 
 use audit_rules::{Checker, Rule};
 use call_history::Happened;
@@ -18,27 +19,37 @@ use mrpc_table::{Memory, Table};
 use std::alloc::Global;
 use std::collections::BTreeMap;
 
-/// A checker for each connection on which something has happened, under one limit of loads.
+/// The connections with a number below this have a place of their own each.
+pub const NEAR: u32 = 17;
+
+/// The checkers of connections, under one limit of loads.
 #[derive(Drop)]
 pub struct Connections {
     pub limit: u64,
-    pub checkers: BTreeMap<u32, Checker>,
+    /// Those of the lowest numbers, by number, whether something has happened there or not.
+    pub near: Vec<Checker>,
+    /// Those of the others, as soon as something has happened there.
+    pub far: BTreeMap<u32, Checker>,
 }
 
 impl Connections {
-    /// No connection yet.
-    pub fn new(alloc: Global, limit: u64) -> Connections
-        ensures knows { (T : Table) → KnowsAll T [] result }
-        ensures limit { result.limit ≡ limit }
+    /// On no connection has anything happened yet.
+    pub fn new(alloc: Global, limit: u64) -> Result<Connections, Memory>
+        ensures knows { IfOk result (λ c. (T : Table) → KnowsAll T [] c) }
+        ensures limit { IfOk result (λ c. c.limit ≡ limit) }
     {
-        Connections {
-            limit,
-            checkers: BTreeMap::new(alloc),
+        let mut near = Vec::new(alloc);
+        for conn in 0..NEAR {
+            let checker = Checker::open(alloc, conn, limit)?;
+            near.push(checker)?;
         }
+        let far = BTreeMap::new(alloc);
+        Ok(Connections { limit, near, far })
     }
 
     /// Judges the next happening on its connection: the first rule that it breaks, if it breaks one. `Memory` comes only
     /// where it is the first one there and no memory was found for its checker.
+    #[inline(always)]
     pub fn check(
         &mut self,
         alloc: Global,
@@ -56,13 +67,41 @@ impl Connections {
             (BreaksFirst (on_connection table.now self.old.limit next.conn) (behind next.conn h) next.what)) }
         ensures limit { self.new.limit ≡ self.old.limit }
     {
-        match self.checkers.get_mut(&next.conn) {
+        let place = next.conn as usize;
+        if place < self.near.len() {
+            return Ok(self.near[place].check(table, next.what));
+        }
+        self.check_far(alloc, table, next)
+    }
+
+    // The same on a connection that has no place of its own. (Seldom: a call of it keeps its values out of the others.)
+    #[inline(never)]
+    fn check_far(
+        &mut self,
+        alloc: Global,
+        table: &Table,
+        next: Happened,
+    ) -> Result<Option<Rule>, Memory>
+        requires valid { IsValid table.now }
+        requires known { IsKnown table.now self.old }
+        requires readable { IsReadable table.now next.what }
+        requires far { length self.old.near.items ≤ next.conn }
+        ensures may { (h : History) → KnowsAll table.now h self.old → IfOk result (λ r. IfNone r
+            (May (on_connection table.now self.old.limit next.conn) (behind next.conn h) next.what)) }
+        ensures knows { (h : History) → KnowsAll table.now h self.old
+            → IfOk result (λ r. IfNone r (KnowsAll table.now (h ++ next ∷ []) self.new)) }
+        ensures breaks { (h : History) → KnowsAll table.now h self.old → IfOk result (λ r. IfSome r
+            (BreaksFirst (on_connection table.now self.old.limit next.conn) (behind next.conn h) next.what)) }
+        ensures limit { self.new.limit ≡ self.old.limit }
+    {
+        match self.far.get_mut(&next.conn) {
             Some(checker) => Ok(checker.check(table, next.what)),
             None => self.begin(alloc, table, next),
         }
     }
 
-    // The same for the first happening on its connection.
+    // The same for the first happening there.
+    #[inline(never)]
     fn begin(
         &mut self,
         alloc: Global,
@@ -71,7 +110,8 @@ impl Connections {
     ) -> Result<Option<Rule>, Memory>
         requires valid { IsValid table.now }
         requires readable { IsReadable table.now next.what }
-        requires first { get nat_cmp self.old.checkers next.conn ≡ None }
+        requires far { length self.old.near.items ≤ next.conn }
+        requires first { get nat_cmp self.old.far next.conn ≡ None }
         ensures may { (h : History) → KnowsAll table.now h self.old → IfOk result (λ r. IfNone r
             (May (on_connection table.now self.old.limit next.conn) (behind next.conn h) next.what)) }
         ensures knows { (h : History) → KnowsAll table.now h self.old
@@ -83,22 +123,48 @@ impl Connections {
         let Happened { conn, what } = next;
         let mut checker = Checker::open(alloc, conn, self.limit)?;
         let rule = checker.check(table, what);
-        let _ = self.checkers.insert(conn, checker)?;
+        let _ = self.far.insert(conn, checker)?;
         Ok(rule)
     }
 
-    /// The first of the rules for which something is left open on any connection, if something is.
-    pub fn left_open(&self) -> Option<Rule>
-        ensures settled { (T : Table) (h : History) → KnowsAll T h self.now
-            → IfNone result ((conn : ℕ) → IsSettledUp (behind conn h)) }
-        ensures open { (T : Table) (h : History) → KnowsAll T h self.now → IfSome result (IsFirstOpen h) }
+    /// All of them, by the numbers of their connections.
+    pub fn gather(self) -> Result<BTreeMap<u32, Checker>, Memory>
+        requires { length self.near.items ≤ NEAR }
+        ensures { IfOk result (λ all. (conn : ℕ) → get nat_cmp all conn ≡ checker_of self conn) }
     {
-        let mut first = None;
-        for (_, checker) in &self.checkers {
-            first = earlier(first, checker.left_open());
+        let Connections {
+            mut near,
+            far: mut all,
+            ..
+        } = self;
+        while let Some(checker) = near.pop() {
+            put(&mut all, near.len() as u32, checker)?;
         }
-        first
+        Ok(all)
     }
+}
+
+// Puts the checker of a connection into a map.
+fn put(all: &mut BTreeMap<u32, Checker>, conn: u32, checker: Checker) -> Result<(), Memory>
+    ensures { OnOk result (Updates nat_cmp all.old all.new conn (Some checker)) }
+{
+    let _ = all.insert(conn, checker)?;
+    Ok(())
+}
+
+/// The first of the rules for which something is left open on any connection, if something is.
+#[inline(never)]
+pub fn left_open(checkers: &BTreeMap<u32, Checker>) -> Option<Rule>
+    ensures settled { (T : Table) (limit : ℕ) (h : History) → KnowsEach T limit h checkers.now
+        → IfNone result ((conn : ℕ) → IsSettledUp (behind conn h)) }
+    ensures open { (T : Table) (limit : ℕ) (h : History) → KnowsEach T limit h checkers.now
+        → IfSome result (IsFirstOpen h) }
+{
+    let mut first = None;
+    for (_, checker) in checkers {
+        first = earlier(first, checker.left_open());
+    }
+    first
 }
 
 // The earlier of two rules for which something is open, where there are any.

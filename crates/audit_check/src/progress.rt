@@ -1,6 +1,6 @@
 //! How far a text was read.
 
-ghost use Rattle.std.specs.Prelude.{◌≡◌, ◌+◌, ◌<◌, ◌^◌, ℕ, List, [], MatchResult};
+ghost use Rattle.std.specs.Prelude.{◌≡◌, ◌+◌, ◌<◌, ◌^◌, ℕ, List, [], IfOk, MatchResult};
 ghost use Rattle.mrpc_table.specs.Valid.{IsValid};
 ghost use Rattle.mrpc_table.specs.declared.table.Table.{Table};
 ghost use Rattle.call_history.specs.Legal.{History};
@@ -12,7 +12,7 @@ use crate::connections::Connections;
 use crate::row::Told;
 use crate::stage::Stage;
 use audit_text::{AuditFault, AuditLine};
-use mrpc_table::Table;
+use mrpc_table::{Memory, Table};
 use std::alloc::Global;
 
 /// How many lines of each sort were read, and how they are judged.
@@ -25,14 +25,14 @@ pub struct Progress {
 
 impl Progress {
     /// No line yet.
-    pub fn new(alloc: Global, limit: u64) -> Progress
-        ensures { (T : Table) → IsProgress T limit [] [] result }
+    pub fn new(alloc: Global, limit: u64) -> Result<Progress, Memory>
+        ensures { IfOk result (λ p. (T : Table) → IsProgress T limit [] [] p) }
     {
-        Progress {
+        Ok(Progress {
             happenings: 0,
             stands: 0,
-            stage: Stage::Happening(Connections::new(alloc, limit)),
-        }
+            stage: Stage::Happening(Connections::new(alloc, limit)?),
+        })
     }
 
     /// The number of the next line, from 1.
@@ -44,6 +44,7 @@ impl Progress {
     }
 
     /// Takes the next line. `Bad` comes exactly where it is that of a happening behind one of a call that stands.
+    #[inline(always)]
     pub fn take(&mut self, alloc: Global, table: &Table, line: AuditLine) -> Result<(), AuditFault>
         requires valid { IsValid table.now }
         requires readable { IsReadableLine table.now line }
@@ -76,7 +77,7 @@ impl Progress {
                     name,
                     holding,
                 };
-                self.stage.stand(table, told, number);
+                self.stage.stand(table, told, number)?;
                 self.stands += 1;
                 Ok(())
             }
@@ -84,10 +85,11 @@ impl Progress {
     }
 
     /// What is answered of a text that ends here.
-    pub fn end(self) -> Checked
-        requires { self.happenings + self.stands + 1 < 2 ^ 64 }
+    pub fn end(self) -> Result<Checked, Memory>
+        requires few { self.happenings + self.stands + 1 < 2 ^ 64 }
+        requires familiar { (T : Table) × IsFamiliar T self }
         ensures { (T : Table) (limit : ℕ) (h : History) (told : List StandsLine) → IsProgress T limit h told self
-            → IsJudged T limit h told result }
+            → IfOk result (IsJudged T limit h told) }
     {
         self.stage.end(self.happenings, self.stands)
     }

@@ -6,9 +6,8 @@ ghost use Rattle.mrpc_table.specs.Valid.{IsValid};
 ghost use Rattle.mrpc_table.specs.declared.table.Table.{Table};
 ghost use Rattle.call_history.specs.Legal.{History, IsSettledUp, behind};
 ghost use Rattle.audit_check.specs.Checking.{ArePrefixes, AreWhole, MayBegin, StandsLine};
-ghost use Rattle.audit_check.specs.States.{IsRow, IsTold, KnowsAll, KnowsCurrent, Popped, Rise, conns_of, tells};
+ghost use Rattle.audit_check.specs.States.{IsRow, IsTold, KnowsCurrent, KnowsEach, Popped, Rise, conns_of, tells};
 
-use crate::connections::Connections;
 use audit_rules::{Checker, nothing_told};
 use audit_text::Holding;
 use mrpc_table::{Name, Table};
@@ -42,12 +41,12 @@ pub struct Row {
 
 impl Row {
     /// No call is told yet.
-    pub fn new(connections: Connections) -> Row
-        ensures { (T : Table) (h : History) → KnowsAll T h connections → ArePrefixes T connections.limit h
-            → ((conn : ℕ) → IsSettledUp (behind conn h)) → IsRow T connections.limit h [] result }
+    pub fn new(checkers: BTreeMap<u32, Checker>) -> Row
+        ensures { (T : Table) (limit : ℕ) (h : History) → KnowsEach T limit h checkers → ArePrefixes T limit h
+            → ((conn : ℕ) → IsSettledUp (behind conn h)) → IsRow T limit h [] result }
     {
         nothing_told();
-        let mut rest = connections.checkers;
+        let mut rest = checkers;
         let current = pop(&mut rest);
         Row { current, rest }
     }

@@ -1,16 +1,18 @@
 //! How far a text was judged.
 
-ghost use Rattle.std.specs.Prelude.{◌≡◌, ◌+◌, ◌<◌, ◌^◌, ◌∷◌, ◌++◌, ℕ, List, [], MatchResult, OnOk, length};
+ghost use Rattle.std.specs.Prelude.{◌≡◌, ◌+◌, ◌<◌, ◌≤◌, ◌^◌, ◌∷◌, ◌++◌, ℕ, List, [], IfOk, MatchResult, OnOk, length};
 ghost use Rattle.mrpc_table.specs.Valid.{IsValid};
 ghost use Rattle.mrpc_table.specs.declared.table.Table.{Table};
 ghost use Rattle.call_history.specs.Legal.{History, IsLegal};
 ghost use Rattle.audit_rules.specs.Knowing.{IsReadable};
 ghost use Rattle.audit_check.specs.Checking.{IsJudged, StandsLine};
-ghost use Rattle.audit_check.specs.Stages.{IsIllegalAt, IsStage};
+ghost use Rattle.audit_check.specs.Stages.{IsHappening, IsIllegalAt, IsStage};
+ghost use Rattle.audit_check.specs.declared.connections.TheConstants.{NEAR};
+ghost use Rattle.audit_check.specs.declared.stage.Stage.TheVariants as stages;
 ghost use Rattle.audit_check.specs.States.{IsRow, tells};
 
 use crate::checked::Checked;
-use crate::connections::Connections;
+use crate::connections::{Connections, left_open};
 use crate::row::{Row, Told};
 use audit_rules::Rule;
 use call_history::Happened;
@@ -38,6 +40,7 @@ pub struct Illegal {
 
 impl Stage {
     /// A happening comes, on a line. It is judged in place: what the checkers know stays where it is.
+    #[inline(always)]
     pub fn happen(
         &mut self,
         alloc: Global,
@@ -56,7 +59,7 @@ impl Stage {
             Stage::Happening(connections) => match connections.check(alloc, table, next)? {
                 None => Ok(()),
                 Some(rule) => {
-                    *self = Stage::Illegal(Illegal { line, rule });
+                    self.break_at(Illegal { line, rule });
                     Ok(())
                 }
             },
@@ -64,66 +67,93 @@ impl Stage {
         }
     }
 
+    // From a line on, the lines are illegal.
+    #[inline(never)]
+    fn break_at(&mut self, illegal: Illegal)
+        ensures { self.new ≡ stages.Illegal illegal }
+    {
+        *self = Stage::Illegal(illegal);
+    }
+
     // No happening comes any more, from this line on.
-    fn row(self, line: u64) -> Result<Row, Illegal>
+    fn row(self, line: u64) -> Result<Result<Row, Illegal>, Memory>
+        requires known { (T : Table) × (limit : ℕ) × (h : History) × (told : List StandsLine)
+            × IsStage T limit h told self }
         ensures { (T : Table) (limit : ℕ) (h : History) (told : List StandsLine) → IsStage T limit h told self
-            → (told ≡ [] → line ≡ length h + 1)
-            → MatchResult result (λ row. IsLegal T limit h × IsRow T limit h told row) (IsIllegalAt T limit h told) }
+            → (told ≡ [] → line ≡ length h + 1) → IfOk result (λ r. MatchResult r
+            (λ row. IsLegal T limit h × IsRow T limit h told row) (IsIllegalAt T limit h told)) }
     {
         match self {
-            Stage::Happening(connections) => match connections.left_open() {
-                None => Ok(Row::new(connections)),
-                Some(rule) => Err(Illegal { line, rule }),
-            },
-            Stage::Standing(row) => Ok(row),
-            Stage::Illegal(illegal) => Err(illegal),
+            Stage::Happening(connections) => first_row(connections, line),
+            Stage::Standing(row) => Ok(Ok(row)),
+            Stage::Illegal(illegal) => Ok(Err(illegal)),
         }
     }
 
     /// A line of a call that stands comes. Until it is told, it is one that can't stand.
-    pub fn stand(&mut self, table: &Table, told: Told, line: u64)
+    #[inline(never)]
+    pub fn stand(&mut self, table: &Table, told: Told, line: u64) -> Result<(), Memory>
         requires valid { IsValid table.now }
         requires known { (limit : ℕ) × (h : History) × (before : List StandsLine)
             × IsStage table.now limit h before self.old × (line ≡ length h + length before + 1) }
         ensures { (limit : ℕ) (h : History) (before : List StandsLine) → IsStage table.now limit h before self.old
-            → line ≡ length h + length before + 1 → IsStage table.now limit h (before ++ tells told ∷ []) self.new }
+            → line ≡ length h + length before + 1
+            → OnOk result (IsStage table.now limit h (before ++ tells told ∷ []) self.new) }
     {
         let rule = Rule::Stands;
         let stage = replace(self, Stage::Illegal(Illegal { line, rule }));
-        *self = stage.tell(table, told, line);
+        *self = stage.tell(table, told, line)?;
+        Ok(())
     }
 
     // How the lines are judged with one more, that of a call that stands.
-    fn tell(self, table: &Table, told: Told, line: u64) -> Stage
+    fn tell(self, table: &Table, told: Told, line: u64) -> Result<Stage, Memory>
         requires valid { IsValid table.now }
         requires known { (limit : ℕ) × (h : History) × (before : List StandsLine)
             × IsStage table.now limit h before self × (line ≡ length h + length before + 1) }
         ensures { (limit : ℕ) (h : History) (before : List StandsLine) → IsStage table.now limit h before self
-            → line ≡ length h + length before + 1 → IsStage table.now limit h (before ++ tells told ∷ []) result }
+            → line ≡ length h + length before + 1
+            → IfOk result (IsStage table.now limit h (before ++ tells told ∷ [])) }
     {
-        match self.row(line) {
+        match self.row(line)? {
             Ok(row) => match row.tell(table, told) {
-                Some(row) => Stage::Standing(row),
-                None => Stage::Illegal(Illegal {
+                Some(row) => Ok(Stage::Standing(row)),
+                None => Ok(Stage::Illegal(Illegal {
                     line,
                     rule: Rule::Stands,
-                }),
+                })),
             },
-            Err(illegal) => Stage::Illegal(illegal),
+            Err(illegal) => Ok(Stage::Illegal(illegal)),
         }
     }
 
     /// The text ends behind so many happenings and so many lines of calls that stand.
-    pub fn end(self, happenings: u64, stands: u64) -> Checked
-        requires { happenings + stands + 1 < 2 ^ 64 }
+    pub fn end(self, happenings: u64, stands: u64) -> Result<Checked, Memory>
+        requires few { happenings + stands + 1 < 2 ^ 64 }
+        requires known { (T : Table) × (limit : ℕ) × (h : History) × (told : List StandsLine)
+            × IsStage T limit h told self }
         ensures { (T : Table) (limit : ℕ) (h : History) (told : List StandsLine) → IsStage T limit h told self
-            → happenings ≡ length h → stands ≡ length told → IsJudged T limit h told result }
+            → happenings ≡ length h → stands ≡ length told → IfOk result (IsJudged T limit h told) }
     {
         let line = happenings + stands + 1;
-        match self.row(line) {
-            Ok(row) => whole(row, happenings, stands),
-            Err(Illegal { line, rule }) => Checked::Illegal { line, rule },
+        match self.row(line)? {
+            Ok(row) => Ok(whole(row, happenings, stands)),
+            Err(Illegal { line, rule }) => Ok(Checked::Illegal { line, rule }),
         }
+    }
+}
+
+// The row of the calls that stand, where all happenings came as the rules say and nothing is left open.
+fn first_row(connections: Connections, line: u64) -> Result<Result<Row, Illegal>, Memory>
+    requires { length connections.near.items ≤ NEAR }
+    ensures { (T : Table) (limit : ℕ) (h : History) (told : List StandsLine) → IsHappening T limit h told connections
+        → (told ≡ [] → line ≡ length h + 1) → IfOk result (λ r. MatchResult r
+        (λ row. IsLegal T limit h × IsRow T limit h told row) (IsIllegalAt T limit h told)) }
+{
+    let checkers = connections.gather()?;
+    match left_open(&checkers) {
+        None => Ok(Ok(Row::new(checkers))),
+        Some(rule) => Ok(Err(Illegal { line, rule })),
     }
 }
 

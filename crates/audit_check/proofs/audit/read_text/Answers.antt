@@ -13,7 +13,7 @@ loop-rest-init c = record {
   told = [];
   is_text = refl;
   tells = tells_nothing c.args.table.now c.args.declared.now;
-  progress = c.new-progress.ensures c.args.table.now;
+  progress = c.in_ok-progress.ensures c.args.table.now;
 }
 
 pub next_line-requires : goal.next_line-requires
@@ -63,8 +63,11 @@ loop-rest-preserved c =
     read_more T c.args.declared.now c.args.loads c.args.text.now c.loop-rest.rest.now c.first_line.result.0.now c.first_line.result.1.now c.loop-rest.progress c.take.new.self
     c.in-Some.line r c.first_line.ensures.joined in' e (c.in_ok-take.ensures c.args.loads r.history r.told r.progress)
 
-pub end-requires : goal.end-requires
-end-requires c =
+pub end-requires-clause-familiar : goal.end-requires-clause-familiar
+end-requires-clause-familiar c = let r = c.loop-rest.invariant in (c.args.table.now, (c.args.loads, r.history, r.told, r.progress))
+
+pub end-requires-clause-few : goal.end-requires-clause-few
+end-requires-clause-few c =
     omega (arith, few_lines c.args.table.now c.args.declared.now c.args.loads c.args.text.now c.loop-rest.rest.now c.loop-rest.progress c.loop-rest.invariant, c.requires.short)
 
 pub returns-clause-checked : goal.returns-clause-checked
@@ -76,5 +79,5 @@ returns-clause-checked c =
       history = r.history;
       stands = r.told;
       tells = read_whole T c.args.declared.now c.args.loads c.args.text.now c.loop-rest.rest.now c.loop-rest.progress r (nil_from_length c.loop-rest.rest.now long);
-      judged = c.end.ensures T c.args.loads r.history r.told r.progress;
+      judged = c.in_ok-end.ensures T c.args.loads r.history r.told r.progress;
     }

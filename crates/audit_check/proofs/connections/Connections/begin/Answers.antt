@@ -4,14 +4,14 @@ use Rattle.call_history.specs.Legal.{behind}
 use Rattle.call_history.specs.Rules.{May, Under}
 use Rattle.audit_rules.specs.First.{BreaksFirst}
 use Rattle.audit_rules.specs.Knowing.{Knows}
-use Rattle.audit_check.proofs.Known.{carry, knows_more, none_map, nothing_behind}
+use Rattle.audit_check.proofs.Known.{carry, far_more, in_map, none_map, nothing_behind}
 use Rattle.audit_check.proofs.connections.Connections.begin.Goals as goal
 
 pub returns-clause-may : goal.returns-clause-may
 returns-clause-may c h known =
     let T = c.args.table.now in
     let conn = c.args.next.conn in
-    let none = nothing_behind T c.args.self.now.limit conn (behind conn h) _ c.requires.first (known conn) in
+    let none = nothing_behind T c.args.self.now.limit conn (behind conn h) _ (in_map c.args.self.now.near.items _ conn c.requires.far ∙ c.requires.first) (known.knows conn) in
     let P : Under → Behind → Type 0 = λ u past. IfNone c.check-rule.result (May u past c.args.next.what) in
     carry P (c.in_ok-checker.ensures.conn T) (sym none) (c.check-rule.ensures.may [] (c.in_ok-checker.ensures.knows T))
 
@@ -19,18 +19,21 @@ pub returns-clause-knows : goal.returns-clause-knows
 returns-clause-knows c h known =
     let T = c.args.table.now in
     let conn = c.args.next.conn in
-    let none = nothing_behind T c.args.self.now.limit conn (behind conn h) _ c.requires.first (known conn) in
+    let none = nothing_behind T c.args.self.now.limit conn (behind conn h) _ (in_map c.args.self.now.near.items _ conn c.requires.far ∙ c.requires.first) (known.knows conn) in
     let P : Behind → Type 0 = λ past. Knows T (c.args.next.what ∷ past) c.check-rule.new.self in
     none_map c.check-rule.result
-    (λ k. knows_more T c.args.self.now.limit h c.args.next c.args.self.now.checkers c.insert.new.self c.check-rule.new.self known
-    c.in_ok-insert.ensures.updates (subst P (sym none) k) (c.check-rule.ensures.same T ∙ c.in_ok-checker.ensures.conn T))
+    (λ k. record {
+      knows = far_more T c.args.self.now.limit h c.args.next c.args.self.now.near.items c.args.self.now.far c.insert.new.self c.check-rule.new.self known.knows
+          c.requires.far c.in_ok-insert.ensures.updates (subst P (sym none) k) (c.check-rule.ensures.same T ∙ c.in_ok-checker.ensures.conn T);
+      few = known.few;
+    })
     (c.check-rule.ensures.knows [] (c.in_ok-checker.ensures.knows T))
 
 pub returns-clause-breaks : goal.returns-clause-breaks
 returns-clause-breaks c h known =
     let T = c.args.table.now in
     let conn = c.args.next.conn in
-    let none = nothing_behind T c.args.self.now.limit conn (behind conn h) _ c.requires.first (known conn) in
+    let none = nothing_behind T c.args.self.now.limit conn (behind conn h) _ (in_map c.args.self.now.near.items _ conn c.requires.far ∙ c.requires.first) (known.knows conn) in
     let P : Under → Behind → Type 0 = λ u past. IfSome c.check-rule.result (BreaksFirst u past c.args.next.what) in
     carry P (c.in_ok-checker.ensures.conn T) (sym none) (c.check-rule.ensures.breaks [] (c.in_ok-checker.ensures.knows T))
 

@@ -1,31 +1,49 @@
-use Rattle.std.proofs.Common.{ℕ, arith, subst, ◌∙◌, sym, rules}
-use Rattle.std.specs.BTreeMap.{BTreeMap}
+use Rattle.std.proofs.Common.{◌<◌, arith, length, refl, subst, ◌∙◌, IfSome}
+use Rattle.std.proofs.Math.ListN.{length-set}
+use Rattle.std.proofs.lemmas.Option.{slice_get_read}
 use Rattle.call_history.specs.Legal.{behind}
-use Rattle.audit_rules.specs.declared.checker.Checker.{Checker}
-use Rattle.audit_check.proofs.Known.{behind-short, known_by, knows_more, none_map, KnowsEach}
+use Rattle.call_history.specs.Rules.{Under}
+use Rattle.audit_rules.specs.First.{BreaksFirst}
+use Rattle.audit_check.proofs.Known.{behind-short, in_place, known_by, near_more, none_map}
 use Rattle.audit_check.proofs.connections.Connections.check.Goals as goal
 
 pub check-requires-clause-knowing : goal.check-requires-clause-knowing
 check-requires-clause-knowing c =
     let T = c.args.table.now in
     let conn = c.args.next.conn in
+    let near = c.args.self.now.near.items in
+    let x = c.index_mut.result.now in
+    let within : conn < length near = omega (arith, c.len.ensures, c.if-place-len.true) in
+    let found = in_place near _ conn x (slice_get_read near (length near) conn x refl within c.index_mut.ensures.value) in
     let h = c.requires.known.0 in
-    let known = known_by T c.args.self.now.limit conn (behind conn h) _ c.in-Some.checker.now (c.in-Some.ensures.value) (c.requires.known.1 conn) in
+    let known = known_by T c.args.self.now.limit conn (behind conn h) _ x found (c.requires.known.1.knows conn) in
     (behind conn h, known.0, omega (arith, behind-short conn h, c.requires.known.2))
 
-pub returns-in-Some-clause-knows : goal.returns-in-Some-clause-knows
-returns-in-Some-clause-knows c h known =
+pub returns-then-place-len-clause-knows : goal.returns-then-place-len-clause-knows
+returns-then-place-len-clause-knows c h known =
     let T = c.args.table.now in
     let conn = c.args.next.conn in
     let limit = c.args.self.now.limit in
-    let here = known_by T limit conn (behind conn h) _ c.in-Some.checker.now (c.in-Some.ensures.value) (known conn) in
-    let after = c.check.new.self in
+    let near = c.args.self.now.near.items in
+    let x = c.index_mut.result.now in
+    let within : conn < length near = omega (arith, c.len.ensures, c.if-place-len.true) in
+    let found = in_place near _ conn x (slice_get_read near (length near) conn x refl within c.index_mut.ensures.value) in
+    let here = known_by T limit conn (behind conn h) _ x found (known.knows conn) in
     none_map c.check.result
-    (λ k. knows_more T limit h c.args.next c.args.self.now.checkers (c.get_mut.follows.lender after) after known
-    ((c.get_mut.follows.holds after).3 (search rules)) k (c.check.ensures.same T ∙ here.1))
+    (λ k. record {
+      knows = near_more T limit h c.args.next near c.args.self.now.far c.check.new.self known.knows within k (c.check.ensures.same T ∙ here.1);
+      few = omega (arith, known.few, length-set near conn c.check.new.self);
+    })
     (c.check.ensures.knows (behind conn h) here.0)
 
-pub returns-in-None-clause-knows : goal.returns-in-None-clause-knows
-returns-in-None-clause-knows c h known =
-    let P : BTreeMap ℕ Checker → Type 0 = KnowsEach c.args.table.now c.args.self.now.limit h in
-    c.begin.ensures.knows h (subst P (sym c.get_mut.follows.holds-at-none) known)
+pub returns-then-place-len-clause-breaks : goal.returns-then-place-len-clause-breaks
+returns-then-place-len-clause-breaks c h known =
+    let T = c.args.table.now in
+    let conn = c.args.next.conn in
+    let near = c.args.self.now.near.items in
+    let x = c.index_mut.result.now in
+    let within : conn < length near = omega (arith, c.len.ensures, c.if-place-len.true) in
+    let found = in_place near _ conn x (slice_get_read near (length near) conn x refl within c.index_mut.ensures.value) in
+    let here = known_by T c.args.self.now.limit conn (behind conn h) _ x found (known.knows conn) in
+    let P : Under → Type 0 = λ u. IfSome c.check.result (BreaksFirst u (behind conn h) c.args.next.what) in
+    subst P here.1 (c.check.ensures.breaks (behind conn h) here.0)

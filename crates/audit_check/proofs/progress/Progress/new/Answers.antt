@@ -5,5 +5,5 @@ pub returns : goal.returns
 returns c T = record {
   happenings = refl;
   stands = refl;
-  stage = record { untold = refl; knows = c.new.ensures.knows T; same_limit = c.new.ensures.limit; prefixes = λ conn. tt };
+  stage = record { untold = refl; knows = c.in_ok-new.ensures.knows T; same_limit = c.in_ok-new.ensures.limit; prefixes = λ conn. tt };
 }

@@ -25,8 +25,8 @@ returns-in_ok-happen-in-Happened c limit h told p =
       },
     )
 
-pub returns-in-Stands : goal.returns-in-Stands
-returns-in-Stands c limit h told p =
+pub returns-in_ok-stand-in-Stands : goal.returns-in_ok-stand-in-Stands
+returns-in_ok-stand-in-Stands c limit h told p =
     let T = c.args.table.now in
     let s : StandsLine = record { conn = c.in-Stands.conn; seq = c.in-Stands.seq; position = c.in-Stands.position; name = c.in-Stands.name; holding = c.in-Stands.holding } in
     let L : AuditLine → Type 0 = λ line. TakesOn T limit h told line (record { happenings = c.args.self.now.happenings; stands = c.args.self.now.stands + 1; stage = c.stand.new.self }) in
@@ -34,7 +34,7 @@ returns-in-Stands c limit h told p =
     subst L (sym c.in-Stands.is) (record {
       happenings = p.happenings;
       stands = omega (arith, p.stands, length-append told (s ∷ []));
-      stage = c.stand.ensures limit h told p.stage number;
+      stage = c.in_ok-stand-in-Stands.ensures limit h told p.stage number;
     })
 
 pub stand-requires-clause-known : goal.stand-requires-clause-known

@@ -6,7 +6,7 @@ use Rattle.audit_check.proofs.stage.Stage.stand.Goals as goal
 pub returns : goal.returns
 returns c limit h before stage line =
     let P : Stage → Type 0 = IsStage c.args.table.now limit h before in
-    c.tell.ensures limit h before (subst P (sym c.replace-stage.ensures.value) stage) line
+    c.in_ok-self.ensures limit h before (subst P (sym c.replace-stage.ensures.value) stage) line
 
 pub tell-requires-clause-known : goal.tell-requires-clause-known
 tell-requires-clause-known c =

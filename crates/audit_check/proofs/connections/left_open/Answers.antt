@@ -10,12 +10,12 @@ use Rattle.audit_rules.specs.declared.checker.Checker.{Checker}
 use Rattle.audit_check.specs.States.{IsFirstIn}
 use Rattle.audit_check.proofs.Known.{known_by}
 use Rattle.audit_check.proofs.Opens.{all_settled, first_of_all, one_more}
-use Rattle.audit_check.proofs.connections.Connections.left_open.Goals as goal
+use Rattle.audit_check.proofs.connections.left_open.Goals as goal
 
 pub loop-checker-preserved : goal.loop-checker-preserved
 loop-checker-preserved c =
     let inv = c.loop-checker.invariant in
-    let m = c.args.self.now.checkers in
+    let m = c.args.checkers.now in
     let conn = c.in-Some.field-0-0.now in
     let checker = c.in-Some.checker.now in
     let rest = rest_more deref_pair c.loop-checker.checker-iterator c.next.new.self c.next.result _ c.in-Some.is c.next.ensures.steps in
@@ -30,11 +30,11 @@ loop-checker-preserved c =
     ) c.into_iter-checker-iterator.ensures.into_iter_gives.6 member in (
       done,
       whole,
-      λ T h known.
-          let knows = known_by T c.args.self.now.limit conn (behind conn h) _ checker (sym found) (known conn) in
+      λ T limit h known.
+          let knows = known_by T limit conn (behind conn h) _ checker (sym found) (known conn) in
           let P : List ℕ → Type 0 = λ conns. IsFirstIn h conns c.earlier-first.result in
           subst P (sym (map-append (λ e. e.0) inv.0 ((conn, checker) ∷ [])))
-          (one_more h (map (λ e. e.0) inv.0) conn c.loop-checker.first c.left_open.result c.earlier-first.result c.earlier-first.ensures (inv.2 T h known)
+          (one_more h (map (λ e. e.0) inv.0) conn c.loop-checker.first c.left_open.result c.earlier-first.result c.earlier-first.ensures (inv.2 T limit h known)
           (c.left_open.ensures.settled T (behind conn h) knows.0) (c.left_open.ensures.open T (behind conn h) knows.0)),
     )
 
@@ -42,19 +42,19 @@ all_done : {X : Type 0} (entries done rest : List X) → entries ≡ done ++ res
 all_done entries done rest e none = sym (e ∙ ap (λ l. done ++ l) none ∙ append-nil done)
 
 pub returns-clause-settled : goal.returns-clause-settled
-returns-clause-settled c T h known =
+returns-clause-settled c T limit h known =
     let inv = c.loop-checker.invariant in
-    let m = c.args.self.now.checkers in
+    let m = c.args.checkers.now in
     let none = rest_all deref_pair c.loop-checker.checker-iterator c.next.new.self c.next.result c.in-None.is c.next.ensures.steps in
     let done = all_done m.entries inv.0 c.loop-checker.checker-iterator inv.1 none in
     let P : List (ℕ × Checker) → Type 0 = λ entries. IsFirstIn h (map (λ e. e.0) entries) c.loop-checker.first in
-    all_settled T c.args.self.now.limit h m c.loop-checker.first known (subst P done (inv.2 T h known))
+    all_settled T limit h m c.loop-checker.first known (subst P done (inv.2 T limit h known))
 
 pub returns-clause-open : goal.returns-clause-open
-returns-clause-open c T h known =
+returns-clause-open c T limit h known =
     let inv = c.loop-checker.invariant in
-    let m = c.args.self.now.checkers in
+    let m = c.args.checkers.now in
     let none = rest_all deref_pair c.loop-checker.checker-iterator c.next.new.self c.next.result c.in-None.is c.next.ensures.steps in
     let done = all_done m.entries inv.0 c.loop-checker.checker-iterator inv.1 none in
     let P : List (ℕ × Checker) → Type 0 = λ entries. IsFirstIn h (map (λ e. e.0) entries) c.loop-checker.first in
-    first_of_all T c.args.self.now.limit h m c.loop-checker.first known (subst P done (inv.2 T h known))
+    first_of_all T limit h m c.loop-checker.first known (subst P done (inv.2 T limit h known))
