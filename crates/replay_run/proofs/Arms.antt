@@ -23,6 +23,12 @@ no-wire (Err Wire) memory is = cc
 no-wire (Err Memory) memory is = cc
 no-wire (Err Out) memory is = cc
 
+pub no-out : (result : Result (Unit {0}) Stop) → IfErr result (λ stop. stop ≡ Memory) → result ≡ Err Out → ⊥
+no-out (Ok value) memory is = cc
+no-out (Err Wire) memory is = cc
+no-out (Err Memory) memory is = cc
+no-out (Err Out) memory is = cc
+
 on-ok : {P Q : Type 0} (result : Result (Unit {0}) Stop) → (P → Q) → OnOk result P → OnOk result Q
 on-ok (Ok value) f p = f p
 on-ok (Err stop) f p = tt

@@ -1,6 +1,6 @@
 -- What telling makes of what a line came to.
 use Rattle.std.proofs.Common.{◌≡◌, ◌≢◌, ℕ, false, List, refl, sym, subst, arith}
-use Rattle.std.specs.Prelude.{Err, Ok, OnErr, OnOk, Option, Result}
+use Rattle.std.specs.Prelude.{Err, IfErr, Ok, OnErr, OnOk, Option, Result}
 use Rattle.std.specs.Io.KnownBytes.{Appends}
 use Rattle.mrpc_base.specs.Faults.{HasCause}
 use Rattle.mrpc_base.specs.Quota.{Counters}
@@ -53,6 +53,13 @@ pub ran-stopped : (stop : Stop) (Done Broken Stopped : Type 0) → stop ≡ Memo
 ran-stopped Wire Done Broken Stopped is stopped = cc
 ran-stopped Memory Done Broken Stopped is stopped = stopped
 ran-stopped Out Done Broken Stopped is stopped = stopped
+
+-- a connection was opened, or there was no memory for it
+pub ran-opened : {Opened Done Stopped : Type 0} (Broken : Type 0) (result : Result (Unit {0}) Stop) → (Opened → Done) → OnOk result Opened
+    → IfErr result (λ stop. stop ≡ Memory) → Stopped → OnRan result Done Broken Stopped Stopped
+ran-opened Broken (Ok value) done opened memory stopped = done opened
+ran-opened {Done = Done} {Stopped = Stopped} Broken (Err stop) done opened memory stopped =
+    ran-stopped stop Done Broken Stopped memory stopped
 
 pub not-conn : (l : Line) → ((conn words : ℕ) → l ≡ line.Conn conn words → ⊥) → is_conn l ≡ false
 not-conn (line.Conn conn words) other = absurd (other conn words refl)

@@ -27,7 +27,7 @@ use Rattle.conn_core.specs.Connections.{Connection as Calls, IsConnection, IsSam
 use Rattle.conn_core.specs.Steps.{Accepts, IfPolicy, Reads, Steps}
 use Rattle.conn_core.specs.declared.answers.Ask.{Ask}
 use Rattle.mrpc_base.specs.Heap.{AfterRoom, AfterLoad}
-use Rattle.replay_run.specs.Follows.{Does, Fails, Leads, LeadsUntil, Opened, State, on_connection, start, under}
+use Rattle.replay_run.specs.Follows.{Does, Fails, Leads, LeadsUntil, Opened, State, new_one, on_connection, start, under}
 use Rattle.replay_run.specs.Running.{joined, sent}
 use Rattle.replay_run.specs.Tickets.{tickets}
 use Rattle.replay_run.specs.declared.connection.Connection.{Connection}
@@ -102,6 +102,13 @@ pub record IsFresh (T : Table) (limit : ℕ) (c : Connection) : Type 0 where
   pub none_told : c.told ≡ 0
   pub none : c.calls.happenings ≡ []
   pub sound : IsConnection c.calls
+
+-- one connection more, which was just opened
+pub record HasOpened (s : Script) (conn words : ℕ) (old new : List Connection) : Type 0 where
+  pub one : Connection
+  pub more : new ≡ old ++ one ∷ []
+  pub opened : opened_of one ≡ new_one conn words
+  pub fresh : IsFresh s.table s.loads one
 
 -- a connection between two lines
 pub record IsReady (s : Script) (c : Connection) : Type 0 where

@@ -1,13 +1,14 @@
 //! A script's lines, one after another.
 
-ghost use Rattle.std.specs.Prelude.{◌≡◌, ◌≢◌, ◌<◌, ◌≤◌, ◌⊎◌, ◌∷◌, ◌++◌, ◌^◌, [], ℕ, Err, IsTrue, OnErr, OnOk, length, map};
+ghost use Rattle.std.specs.Prelude.{◌≡◌, ◌≢◌, ◌<◌, ◌≤◌, ◌⊎◌, ◌∷◌, ◌++◌, ◌^◌, [], ℕ, Err, IfErr, IsTrue, OnErr, OnOk, length, map};
 ghost use Rattle.std.specs.Io.KnownBytes.{Appends};
 ghost use Rattle.mrpc_base.specs.Faults.{HasCause, Rose};
 ghost use Rattle.mrpc_base.specs.Quota.{drawn_in};
 ghost use Rattle.mrpc_base.specs.declared.tickets.TheConstants.{WINDOWS};
 ghost use Rattle.mrpc_table.specs.Valid.{IsValid};
+ghost use Rattle.mrpc_table.specs.declared.limits.TheConstants.{MAX_HEAP, MIN_HEAP};
 ghost use Rattle.script_text.specs.Lines.{IsScript, conn_of};
-ghost use Rattle.replay_run.specs.Kept.{After, Before, Broke, BrokenOn, BrokenTold, DoneOn, DoneTold, HasCounted, HaveCounted, IsReady, KnowsTenants, MayDo, OnRan, StoppedOn, StopsAt, TellsSome, opened_of};
+ghost use Rattle.replay_run.specs.Kept.{After, Before, Broke, BrokenOn, BrokenTold, DoneOn, DoneTold, HasCounted, HasOpened, HaveCounted, IsReady, KnowsTenants, MayDo, OnRan, StoppedOn, StopsAt, TellsSome, opened_of};
 ghost use Rattle.replay_run.specs.Running.{Breaks, Replays, Stops};
 ghost use Rattle.replay_run.specs.Stands.{all_stands};
 
@@ -180,9 +181,7 @@ fn run_line<'t, K: Sink, W: Sink>(
 {
     run_follows();
     if let Line::Conn { conn, words } = line {
-        let connection = open(alloc, &script.table, script.loads, *conn, *words)?;
-        run.connections.push(connection)?;
-        return Ok(());
+        return open_one(alloc, script, *conn, *words, &mut run.connections);
     }
     let place = open_place(&run.connections, conn_of(line));
     run_at(
@@ -194,6 +193,26 @@ fn run_line<'t, K: Sink, W: Sink>(
         out,
         wire,
     )
+}
+
+// Opens a connection of a script. (By itself, since a connection takes many bytes of a function's own memory.)
+#[inline(never)]
+fn open_one<'t>(
+    alloc: Global,
+    script: &'t Script,
+    conn: u32,
+    words: u32,
+    connections: &mut Vec<Connection<'t>>,
+) -> Result<(), Stop>
+    requires script { IsScript script.now }
+    requires least_heap { MIN_HEAP ≤ words }
+    requires greatest_heap { words ≤ MAX_HEAP }
+    ensures opened { OnOk result (HasOpened script.now conn words connections.old.items connections.new.items) }
+    ensures memory { IfErr result (λ stop. stop ≡ Stop.Memory) }
+{
+    let connection = open(alloc, &script.table, script.loads, conn, words)?;
+    connections.push(connection)?;
+    Ok(())
 }
 
 // The number of the connection of a line.

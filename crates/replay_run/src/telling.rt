@@ -23,7 +23,9 @@ const SHORT_LINE: usize = 64;
 // A line that is written alone has mostly at most so many.
 const LONE_LINE: usize = 256;
 
-/// Writes the lines of what has happened on a connection since its last lines were written, in one piece.
+/// Writes the lines of what has happened on a connection since its last lines were written, in one piece. Mostly there
+/// is nothing to write, behind a line that stores a word.
+#[inline(always)]
 pub(crate) fn tell<K: Sink>(
     alloc: Global,
     table: &Table,
@@ -43,6 +45,26 @@ pub(crate) fn tell<K: Sink>(
         connection.told = count;
         return Ok(());
     }
+    tell_some(alloc, table, connection, out)
+}
+
+// The same, where there is something.
+#[inline(never)]
+fn tell_some<K: Sink>(
+    alloc: Global,
+    table: &Table,
+    connection: &mut Connection<'_>,
+    out: &mut K,
+) -> Result<(), Stop>
+    requires valid { IsValid table.now }
+    requires same { connection.old.calls.table ≡ table.now }
+    ensures told { OnOk result (IsTold connection.old connection.new) }
+    ensures lines { OnOk result (Appends (K.written out.old) (K.written out.new) (untold table.now connection.old)) }
+    ensures front { OnErr result (TellsSome (K.written out.old) (K.written out.new) (untold table.now connection.old)) }
+    ensures not_wire { result ≢ Err Stop.Wire }
+    ensures cause { HasCause (result ≡ Err Stop.Out) (K.faults out.old) (K.faults out.new) }
+{
+    let count = connection.calls.history().len();
     let lines = lines_from(alloc, table, &connection.calls, connection.told)?;
     write_line(out, lines.as_slice())?;
     connection.told = count;

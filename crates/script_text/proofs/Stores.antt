@@ -17,7 +17,7 @@ use Rattle.script_words.specs.Forms.{form_in, sorts_of}
 use Rattle.script_words.specs.Lines.{AreSaid}
 use Rattle.script_words.specs.Values.{plain}
 use Rattle.script_words.specs.declared.form.Form.TheVariants as form
-use Rattle.script_text.specs.Stores.{store_words, submit_words, turn_words, IsNumberBefore, SaysInFront}
+use Rattle.script_text.specs.Stores.{drain_words, store_words, submit_words, turn_words, IsNumberBefore, SaysInFront}
 use Rattle.script_text.specs.Words.{IsSaid}
 use Rattle.script_text.specs.declared.short.Submit.{Submit}
 use Rattle.script_text.specs.declared.short.Turn.{Turn}
@@ -141,6 +141,19 @@ is_turn line first second conn at begins c a low high =
           ((refl, refl), ((c.spells, (low, high)), ((at, a.spells, small_is at a.small), tt)));
     }
 
+is_drain : (line first : List ℕ) (conn : ℕ)
+    → line ≡ 100 ∷ 114 ∷ 97 ∷ 105 ∷ 110 ∷ 32 ∷ first → IsNumberBefore first conn [] → 1 ≤ conn → conn ≤ 16
+    → IsSaid form.Drain line (drain_words conn)
+is_drain line first conn begins c low high =
+    let drain : List ℕ = 100 ∷ 114 ∷ 97 ∷ 105 ∷ 110 ∷ [] in
+    let words : words_of line ≡ drain ∷ c.digits ∷ [] =
+    ap words_of begins ∙ ap (λ (ws : List (List ℕ)). drain ∷ ws) (last_word c) in
+    record {
+      has_form = subst (λ (ws : List (List ℕ)). form_in ws ≡ Some form.Drain) (sym words) refl;
+      said = subst (λ (ws : List (List ℕ)). AreSaid (sorts_of form.Drain) ws (drain_words conn)) (sym words)
+          ((refl, refl), ((c.spells, (low, high)), tt));
+    }
+
 -- ---- lines with which a text begins
 
 no_feed : (c : ℕ) → is_ascii_digit c ≡ true → (c == 10) ≡ false
@@ -240,4 +253,21 @@ turn_in_front text first second rest conn at begins c a low high =
         text_is = begins ∙ ap (λ (t : List ℕ). 116 ∷ 117 ∷ 114 ∷ 110 ∷ 32 ∷ t) all.parts;
       };
       said = is_turn line all.line end.line conn at refl (with_rest c (32 ∷ end.line)) (alone a) low high;
+    }
+
+pub drain_in_front : (text first rest : List ℕ) (conn : ℕ)
+    → text ≡ 100 ∷ 114 ∷ 97 ∷ 105 ∷ 110 ∷ 32 ∷ first → IsNumberBefore first conn (10 ∷ rest) → 1 ≤ conn → conn ≤ 16
+    → SaysInFront form.Drain text (drain_words conn) rest
+unfolding fed_end
+drain_in_front text first rest conn begins c low high =
+    let end = fed_end c in
+    let line : List ℕ = 100 ∷ 114 ∷ 97 ∷ 105 ∷ 110 ∷ 32 ∷ end.line in
+    let unfed : AreUnfed line = (refl, (refl, (refl, (refl, (refl, (refl, end.unfed)))))) in
+    record {
+      line = line;
+      before = record {
+        one_line = one_line line (All-from_recursion (λ c. (c == 10) ≡ false) line unfed);
+        text_is = begins ∙ ap (λ (t : List ℕ). 100 ∷ 114 ∷ 97 ∷ 105 ∷ 110 ∷ 32 ∷ t) end.parts;
+      };
+      said = is_drain line end.line conn refl (alone c) low high;
     }

@@ -22,6 +22,9 @@ submit_words s = word keyword.Submit ∷ number s.conn ∷ number s.method ∷ n
 abbrev pub turn_words : Turn → List Meaning
 turn_words t = word keyword.Turn ∷ number t.conn ∷ unbounded t.at ∷ []
 
+abbrev pub drain_words : (conn : ℕ) → List Meaning
+drain_words conn = word keyword.Drain ∷ number conn ∷ []
+
 -- digits that spell a number of 64 bits, and what stands behind them
 pub record IsNumberBefore (text : List ℕ) (n : ℕ) (rest : List ℕ) : Type 0 where
   pub digits : List ℕ

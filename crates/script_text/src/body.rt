@@ -4,7 +4,7 @@ ghost use Rattle.std.specs.Prelude.{◌≡◌, ◌+◌, ◌*◌, ◌<◌, ◌≤
 ghost use Rattle.mrpc_table.specs.declared.limits.TheConstants.{MAX_HEAP, MAX_LOADS};
 ghost use Rattle.script_words.specs.Meanings.{meanings_of};
 ghost use Rattle.script_words.specs.Sorts.{IsIn, number_at};
-ghost use Rattle.script_text.specs.Stores.{store_words, submit_words, turn_words};
+ghost use Rattle.script_text.specs.Stores.{drain_words, store_words, submit_words, turn_words};
 ghost use Rattle.script_text.specs.Words.{IsSaid};
 ghost use Rattle.script_text.specs.Keeping.{words_kept, links_kept, heap_kept, place_kept, load_kept, work_kept, policy_kept, kind_at, conn_said, store_said, race_said, submit_said, attaching, attach_said, detaching, detach_said, upgrading, upgrade_said, turn_said, moment_said, send_said, drain_said, line_said, IsMade, IsFreshBody, CanAdd, connections_after, submissions_after};
 
@@ -376,14 +376,22 @@ impl Body {
         Ok(Line::Send { conn: conn as u32 })
     }
 
+    /// The line that drains a connection, where it is open.
+    #[tactic(auto, unfolding(crate::specs::Keeping::used_said))]
+    pub(crate) fn drained(&self, conn: u64) -> Result<Line, ScriptReason>
+        requires { IsIn 1 16 conn }
+        ensures { result ≡ drain_said self.now (drain_words conn) }
+    {
+        self.heap(conn)?;
+        Ok(Line::Drain { conn: conn as u32 })
+    }
+
     #[tactic(auto, unfolding(crate::specs::Keeping::used_said))]
     fn drain(&self, words: &[Said<'_>]) -> Result<Line, ScriptReason>
         requires { IsIn 1 16 (number_at (meanings_of words.now) 1) }
         ensures { result ≡ drain_said self.now (meanings_of words.now) }
     {
-        let conn = number_at(words, 1);
-        self.heap(conn)?;
-        Ok(Line::Drain { conn: conn as u32 })
+        self.drained(number_at(words, 1))
     }
 
     /// The line that words of a form say, of which none declares anything or closes the script, or what stands against
@@ -451,6 +459,25 @@ impl Body {
         ensures closed { self.new.closed ≡ self.old.closed }
     {
         match &line {
+            Line::Store { .. } | Line::Turn { .. } => {}
+            Line::Submit { .. } => self.submissions += 1,
+            _ => self.keep(alloc, declared, &line)?,
+        }
+        self.lines.push(line)?;
+        Ok(())
+    }
+
+    // Keeps what a line makes of the connections and of the number of calls.
+    fn keep(&mut self, alloc: Global, declared: &Declarations, line: &Line) -> Result<(), Memory>
+        requires { CanAdd self.old line.now }
+        ensures lines { self.new.lines ≡ self.old.lines }
+        ensures connections { OnOk result (self.new.connections
+            ≡ connections_after declared.now line.now self.old.connections) }
+        ensures submissions { OnOk result (self.new.submissions
+            ≡ submissions_after line.now self.old.submissions) }
+        ensures closed { self.new.closed ≡ self.old.closed }
+    {
+        match line {
             Line::Conn { conn, words } => self.connections.open(*conn, *words),
             Line::Submit { .. } => self.submissions += 1,
             Line::Attach {
@@ -474,7 +501,6 @@ impl Body {
             | Line::Send { .. }
             | Line::Drain { .. } => {}
         }
-        self.lines.push(line)?;
         Ok(())
     }
 }

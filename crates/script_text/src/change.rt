@@ -9,9 +9,9 @@ ghost use Rattle.policy_blocks.specs.Blocks.{is_skipped};
 ghost use Rattle.policy_blocks.specs.Items.{item_form, Declares};
 ghost use Rattle.script_words.specs.Meanings.{meanings_of};
 ghost use Rattle.script_words.specs.Forms.{form_in};
-ghost use Rattle.script_words.specs.declared.form.Form.TheVariants.{Store as StoreForm, Submit as SubmitForm, Turn as TurnForm};
+ghost use Rattle.script_words.specs.declared.form.Form.TheVariants.{Drain as DrainForm, Store as StoreForm, Submit as SubmitForm, Turn as TurnForm};
 ghost use Rattle.script_text.specs.Changes.{seen, IsKept, IsSaidBy, IsFlawOf, IsChange, IsSaidChange, IsLineFault, IsItemFault, IsStopOf};
-ghost use Rattle.script_text.specs.Stores.{store_words, submit_words, turn_words};
+ghost use Rattle.script_text.specs.Stores.{drain_words, store_words, submit_words, turn_words};
 ghost use Rattle.script_text.specs.Usual.{IsUsual};
 ghost use Rattle.script_text.specs.Words.{IsSaid};
 ghost use Rattle.script_text.specs.declared.limits.TheConstants.{MAX_WORK};
@@ -19,7 +19,7 @@ ghost use Rattle.script_text.specs.declared.limits.TheConstants.{MAX_WORK};
 use crate::body::{Body, Flaw};
 use crate::laws::one_laws;
 use crate::script::Line;
-use crate::short::{Submit, Turn, front_submit, front_turn};
+use crate::short::{Submit, Turn, front_drain, front_submit, front_turn};
 use crate::store::{Store, front_store};
 use memchr::memchr;
 use mrpc_table::Table;
@@ -232,8 +232,26 @@ fn turned(loads: u64, declared: &Declarations, body: &Body, turn: Turn) -> Optio
     }
 }
 
-/// The line that a text begins with, and what stands behind it, where that line stores a word, submits a request or
-/// gives an engine a turn, its numbers are short, and nothing stands against it. None for each other line.
+// The line that words say which say that a connection is drained, where nothing stands against it.
+fn drained(loads: u64, declared: &Declarations, body: &Body, conn: u64) -> Option<Line>
+    requires kept { IsKept loads declared.now body.now }
+    requires said { (line : List ℕ) × IsSaid DrainForm line (drain_words conn) }
+    ensures { (line : List ℕ) → IsSaid DrainForm line (drain_words conn)
+        → IfSome result (λ made. IsSaidChange loads (seen declared.now body.now) line (Change.Line made)) }
+{
+    one_laws();
+    if body.closed {
+        return None;
+    }
+    match body.drained(conn) {
+        Ok(made) => Some(made),
+        Err(_) => None,
+    }
+}
+
+/// The line that a text begins with, and what stands behind it, where that line stores a word, submits a request, gives
+/// an engine a turn or drains a connection, its numbers are short, and nothing stands against it. None for each other
+/// line.
 pub(crate) fn front_line<'a>(
     loads: u64,
     declared: &Declarations,
@@ -253,6 +271,10 @@ pub(crate) fn front_line<'a>(
     }
     if let Some((turn, behind)) = front_turn(text) {
         let made = turned(loads, declared, body, turn)?;
+        return Some((made, behind));
+    }
+    if let Some((conn, behind)) = front_drain(text) {
+        let made = drained(loads, declared, body, conn)?;
         return Some((made, behind));
     }
     let (submit, behind) = front_submit(text)?;

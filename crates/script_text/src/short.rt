@@ -1,9 +1,9 @@
-//! Lines that submit a call or give an engine a turn, read in one pass over their bytes,
-//! with their line feeds.
+//! Lines that submit a call, give an engine a turn or drain a connection, read in one pass over their bytes, with their
+//! line feeds.
 
 ghost use Rattle.std.specs.Prelude.{◌≡◌, ◌∷◌, IfSome};
-ghost use Rattle.script_words.specs.declared.form.Form.TheVariants.{Submit as SubmitForm, Turn as TurnForm};
-ghost use Rattle.script_text.specs.Stores.{submit_words, turn_words, SaysInFront};
+ghost use Rattle.script_words.specs.declared.form.Form.TheVariants.{Drain as DrainForm, Submit as SubmitForm, Turn as TurnForm};
+ghost use Rattle.script_text.specs.Stores.{drain_words, submit_words, turn_words, SaysInFront};
 
 use crate::store::{behind_feed, behind_space, front_number};
 use mrpc_table::Decimal;
@@ -39,6 +39,16 @@ fn behind_turn(text: &[u8]) -> Option<&[u8]>
 {
     match text {
         [b't', b'u', b'r', b'n', b' ', rest @ ..] => Some(rest),
+        _ => None,
+    }
+}
+
+// What stands behind the first word of a `drain` line.
+fn behind_drain(text: &[u8]) -> Option<&[u8]>
+    ensures { IfSome result (λ r. text.now ≡ 100 ∷ 114 ∷ 97 ∷ 105 ∷ 110 ∷ 32 ∷ r.now) }
+{
+    match text {
+        [b'd', b'r', b'a', b'i', b'n', b' ', rest @ ..] => Some(rest),
         _ => None,
     }
 }
@@ -79,4 +89,18 @@ pub(crate) fn front_turn(text: &[u8]) -> Option<(Turn, &[u8])>
         at: Decimal::Small(at),
     };
     Some((turn, left))
+}
+
+/// The number of the connection in a `drain` line with which a text begins, where it is short, and what stands behind
+/// the line. None for each other line, which is to be read word by word.
+pub(crate) fn front_drain(text: &[u8]) -> Option<(u64, &[u8])>
+    ensures { IfSome result (λ r. SaysInFront DrainForm text.now (drain_words r.0) r.1.now) }
+{
+    let words = behind_drain(text)?;
+    let (conn, behind) = front_number(words)?;
+    if conn < 1 || conn > 16 {
+        return None;
+    }
+    let left = behind_feed(behind)?;
+    Some((conn, left))
 }

@@ -1,54 +1,47 @@
-use Rattle.std.proofs.Common.{◌≡◌, ◌++◌, ◌∷◌, [], List, sym, subst, None, Some}
-use Rattle.std.proofs.lemmas.Result.{err_from_is_err_and}
+use Rattle.std.proofs.Common.{◌≡◌, ◌++◌, ◌∷◌, [], List, refl, sym, subst, None, Some}
 use Rattle.std.specs.Prelude.{◌==◌, position, slice_get}
 use Rattle.script_text.specs.Lines.{conn_of}
 use Rattle.script_text.specs.declared.script.Line.{Line}
 use Rattle.replay_run.specs.Kept.{After, Before}
 use Rattle.replay_run.specs.declared.connection.Connection.{Connection}
 use Rattle.replay_run.proofs.Queued.{open-there}
-use Rattle.replay_run.proofs.Ran.{not-conn, ran-map, ran-stopped}
+use Rattle.replay_run.proofs.Arms.{no-out, no-wire}
+use Rattle.replay_run.proofs.Ran.{cause-none, not-conn, ran-map, ran-opened}
 use Rattle.replay_run.proofs.running.run_line.Goals as goal
 
-pub open-requires-clause-least_heap : goal.open-requires-clause-least_heap
-open-requires-clause-least_heap g c = (c.run_follows.ensures.words c.args.script.now c.in-Conn.conn c.in-Conn.words c.args.run.now.connections.items c.args.run.now.tickets
+pub open_one-requires-clause-least_heap : goal.open_one-requires-clause-least_heap
+open_one-requires-clause-least_heap g c = (c.run_follows.ensures.words c.args.script.now c.in-Conn.conn c.in-Conn.words c.args.run.now.connections.items c.args.run.now.tickets
     (g.K.Sink.written c.args.out.now) (g.W.Sink.written c.args.wire.now) c.requires.script
     (subst (λ (l : Line). Before c.args.script.now l c.args.run.now.connections.items c.args.run.now.tickets
     (g.K.Sink.written c.args.out.now) (g.W.Sink.written c.args.wire.now)) c.in-Conn.is c.requires.before)).0
 
-pub open-requires-clause-greatest_heap : goal.open-requires-clause-greatest_heap
-open-requires-clause-greatest_heap g c = (c.run_follows.ensures.words c.args.script.now c.in-Conn.conn c.in-Conn.words c.args.run.now.connections.items c.args.run.now.tickets
+pub open_one-requires-clause-greatest_heap : goal.open_one-requires-clause-greatest_heap
+open_one-requires-clause-greatest_heap g c = (c.run_follows.ensures.words c.args.script.now c.in-Conn.conn c.in-Conn.words c.args.run.now.connections.items c.args.run.now.tickets
     (g.K.Sink.written c.args.out.now) (g.W.Sink.written c.args.wire.now) c.requires.script
     (subst (λ (l : Line). Before c.args.script.now l c.args.run.now.connections.items c.args.run.now.tickets
     (g.K.Sink.written c.args.out.now) (g.W.Sink.written c.args.wire.now)) c.in-Conn.is c.requires.before)).1
 
-pub returns-in_err-connection-clause-ran : goal.returns-in_err-connection-clause-ran
-returns-in_err-connection-clause-ran g c = λ b.
-    let p = err_from_is_err_and c.from_residual.result c.from_residual.ensures.1 in
-    let same = p.2 in
-    let memory = c.in_err-connection.ensures.memory in
-    rw p.1 (ran-stopped p.0 _ _ _ (cc) (c.run_follows.ensures.stops c.args.script.now c.args.line.now c.args.run.now.connections.items c.args.run.now.tickets
-    (g.K.Sink.written c.args.out.now) (g.W.Sink.written c.args.wire.now) b))
-
-pub returns-in_err-push-clause-ran : goal.returns-in_err-push-clause-ran
-returns-in_err-push-clause-ran g c = λ b.
-    let p = err_from_is_err_and c.from_residual-in_err-push.result c.from_residual-in_err-push.ensures.1 in
-    rw p.1 (ran-stopped p.0 _ _ _ p.2 (c.run_follows.ensures.stops c.args.script.now c.args.line.now c.args.run.now.connections.items c.args.run.now.tickets
-    (g.K.Sink.written c.args.out.now) (g.W.Sink.written c.args.wire.now) b))
-
 pub returns-in-Conn-clause-ran : goal.returns-in-Conn-clause-ran
-returns-in-Conn-clause-ran g c =
-    subst (λ (cs : List Connection).
-    (b : Before c.args.script.now c.args.line.now c.args.run.now.connections.items c.args.run.now.tickets
-    (g.K.Sink.written c.args.out.now) (g.W.Sink.written c.args.wire.now))
-    → After c.args.script.now (b.lines ++ c.args.line.now ∷ []) cs c.args.run.now.tickets b.out (g.K.Sink.written c.args.out.now) b.wire (g.W.Sink.written c.args.wire.now))
-    (sym c.in_ok-push.ensures.items)
+returns-in-Conn-clause-ran g c = λ b.
+    ran-opened _ c.open_one.result
+    (λ o. subst (λ (cs : List Connection). After c.args.script.now (b.lines ++ c.args.line.now ∷ []) cs c.args.run.now.tickets
+    b.out (g.K.Sink.written c.args.out.now) b.wire (g.W.Sink.written c.args.wire.now)) (sym o.more)
     (subst (λ (l : Line). (b : Before c.args.script.now l c.args.run.now.connections.items c.args.run.now.tickets (g.K.Sink.written c.args.out.now) (g.W.Sink.written c.args.wire.now))
-    → After c.args.script.now (b.lines ++ l ∷ []) (c.args.run.now.connections.items ++ c.in_ok-connection.connection
+    → After c.args.script.now (b.lines ++ l ∷ []) (c.args.run.now.connections.items ++ o.one
     ∷ []) c.args.run.now.tickets b.out (g.K.Sink.written c.args.out.now) b.wire
     (g.W.Sink.written c.args.wire.now))
     (sym c.in-Conn.is)
-    (λ b. c.run_follows.ensures.opens c.args.script.now c.in-Conn.conn c.in-Conn.words c.args.run.now.connections.items c.in_ok-connection.connection c.args.run.now.tickets
-    (g.K.Sink.written c.args.out.now) (g.W.Sink.written c.args.wire.now) b c.in_ok-connection.ensures.opened c.in_ok-connection.ensures.fresh))
+    (λ b. c.run_follows.ensures.opens c.args.script.now c.in-Conn.conn c.in-Conn.words c.args.run.now.connections.items o.one c.args.run.now.tickets
+    (g.K.Sink.written c.args.out.now) (g.W.Sink.written c.args.wire.now) b o.opened o.fresh) b))
+    c.open_one.ensures.opened c.open_one.ensures.memory
+    (c.run_follows.ensures.stops c.args.script.now c.args.line.now c.args.run.now.connections.items c.args.run.now.tickets
+    (g.K.Sink.written c.args.out.now) (g.W.Sink.written c.args.wire.now) b)
+
+pub returns-in-Conn-clause-out_cause : goal.returns-in-Conn-clause-out_cause
+returns-in-Conn-clause-out_cause g c = cause-none _ _ (no-out c.open_one.result c.open_one.ensures.memory) refl
+
+pub returns-in-Conn-clause-wire_rose : goal.returns-in-Conn-clause-wire_rose
+returns-in-Conn-clause-wire_rose g c = λ e. absurd (no-wire c.open_one.result c.open_one.ensures.memory e)
 
 pub open_place-place-requires : goal.open_place-place-requires
 open_place-place-requires g c = λ none.

@@ -1,7 +1,5 @@
-use Rattle.std.proofs.Common.{ap, ◌≡◌, length, subst, ◌∙◌, arith}
-use Rattle.replay_run.specs.Kept.{TellsSome, untold}
-use Rattle.std.specs.Io.KnownBytes.{Appends}
-use Rattle.replay_run.proofs.Written.{none-left, on-err, some-none}
+use Rattle.std.proofs.Common.{ap, ◌≡◌, length, ◌∙◌, arith}
+use Rattle.replay_run.proofs.Written.{none-left}
 use Rattle.replay_run.proofs.telling.tell.Goals as goal
 
 pub returns-then-connection-count-clause-lines : goal.returns-then-connection-count-clause-lines
@@ -9,16 +7,3 @@ returns-then-connection-count-clause-lines g c =
     let count : c.len-count.result ≡ length c.args.connection.now.calls.happenings = c.len-count.ensures ∙ ap length c.history.ensures in
     none-left c.args.table.now c.args.connection.now.calls.conn c.args.connection.now.calls.happenings
     (g.K.Sink.written c.args.out.now) c.args.connection.now.told (omega arith)
-
-pub returns-in_err-lines-clause-front : goal.returns-in_err-lines-clause-front
-returns-in_err-lines-clause-front g c = on-err _ (some-none (g.K.Sink.written c.args.out.now) (untold c.args.table.now c.args.connection.now))
-
-pub returns-in_err-write_line-clause-front : goal.returns-in_err-write_line-clause-front
-returns-in_err-write_line-clause-front g c =
-    on-err _ (subst (TellsSome (g.K.Sink.written c.args.out.now) (g.K.Sink.written c.write_line.new.out)) (c.as_slice.ensures ∙ c.in_ok-lines.ensures)
-    (let some = c.in_err-write_line.ensures.front in (some.0, omega arith, some.2)))
-
-pub returns-clause-lines : goal.returns-clause-lines
-returns-clause-lines g c =
-    subst (Appends (g.K.Sink.written c.args.out.now) (g.K.Sink.written c.write_line.new.out)) (c.as_slice.ensures ∙ c.in_ok-lines.ensures)
-    c.in_ok-write_line.ensures.written
