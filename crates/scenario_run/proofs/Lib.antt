@@ -1,4 +1,6 @@
 mod Judging
+mod Links
+mod Sending
 mod Shown
 mod Tellable
 mod Weighing

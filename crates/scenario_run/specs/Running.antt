@@ -77,6 +77,10 @@ by_number conns = filter_map (conn_in conns) (range_with_len 1 MAX_CONNECTIONS)
 abbrev pub link_of : {L : Type 0} → ServedConn L → ℕ × L
 link_of s = (s.conn, s.link)
 
+-- a link is that of a connection, with its number
+abbrev pub IsLinkOf : {L : Type 0} → ServedConn L → ℕ × L → Type 0
+IsLinkOf s link = link ≡ link_of s
+
 -- whether the link of a connection failed
 abbrev pub HasFailed : {L : Type 0} → LinkMembers L → ServedConn L → Type 0
 HasFailed of_link s = Rose 0 (of_link.faults s.link)

@@ -8,7 +8,7 @@ ghost use Rattle.service_wiring.specs.Weighing.{GoesBy};
 ghost use Rattle.scenario_run.specs.Running.{HasRun, link_of};
 ghost use Rattle.scenario_run.specs.Telling.{AreTellable, IsToldRun};
 
-use crate::giving_back::give_back;
+use crate::giving_back::{give_back, links_alone};
 use crate::ordering::weighted;
 use crate::telling::{has_failed, tell};
 use mrpc_base::{Clock, Fabric, Gate, PlainOrder, ReadyOrder};
@@ -95,7 +95,8 @@ fn conclude<R: Threads + Sync, F: Fabric>(
 {
     let failed = has_failed(served.conns.as_slice());
     let RunText { text, totals } = tell(rt, alloc, plan, served.conns.as_slice())?;
-    give_back(fabric, served);
+    let links = links_alone(rt, served.conns)?;
+    give_back(fabric, links);
     Ok(Run {
         text,
         totals,

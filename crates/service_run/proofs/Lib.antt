@@ -4,7 +4,7 @@ mod Closed
 mod Each
 mod Knowing
 mod Members
-mod Sending
+pub mod Sending
 mod Splits
 mod Together
 mod Wirings
