@@ -49,7 +49,6 @@ impl Connections {
 
     /// Judges the next happening on its connection: the first rule that it breaks, if it breaks one. `Memory` comes only
     /// where it is the first one there and no memory was found for its checker.
-    #[inline(always)]
     pub fn check(
         &mut self,
         alloc: Global,

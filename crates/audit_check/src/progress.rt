@@ -44,7 +44,6 @@ impl Progress {
     }
 
     /// Takes the next line. `Bad` comes exactly where it is that of a happening behind one of a call that stands.
-    #[inline(always)]
     pub fn take(&mut self, alloc: Global, table: &Table, line: AuditLine) -> Result<(), AuditFault>
         requires valid { IsValid table.now }
         requires readable { IsReadableLine table.now line }

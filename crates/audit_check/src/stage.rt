@@ -40,7 +40,6 @@ pub struct Illegal {
 
 impl Stage {
     /// A happening comes, on a line. It is judged in place: what the checkers know stays where it is.
-    #[inline(always)]
     pub fn happen(
         &mut self,
         alloc: Global,

@@ -56,7 +56,6 @@ pub(crate) fn place_of_call(calls: &CallRow, seq: u32) -> Option<usize>
 }
 
 // The same by binary search alone.
-#[inline(never)]
 fn search_call(calls: &CallRow, seq: u32) -> Option<usize>
     requires { (top : ℕ) × IsRising 0 top (seqs_of calls.now) }
     ensures found { IfSome result (λ place. slice_get (seqs_of calls.now) place ≡ Some seq) }
@@ -80,7 +79,6 @@ fn search_call(calls: &CallRow, seq: u32) -> Option<usize>
 }
 
 // A turn of the engine at a position for the call at a place, which is given this ticket where it draws one.
-#[inline(always)]
 pub(crate) fn work(
     calls: &mut CallRow,
     place: usize,

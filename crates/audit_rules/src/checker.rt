@@ -80,7 +80,6 @@ impl Checker {
 
     /// Judges the next happening: answers the first rule that it breaks, if it breaks one. Where it breaks none, the
     /// checker knows what is behind with it; of a checker that has answered a rule, nothing more is to be asked.
-    #[inline(always)]
     pub fn check(&mut self, table: &Table, what: Happening) -> Option<Rule>
         requires valid { IsValid table.now }
         requires knowing { IsKnowing table.now self.old }

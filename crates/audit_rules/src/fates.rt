@@ -38,7 +38,6 @@ use mrpc_table::{Name, Table};
 
 impl Checker {
     // The entry of a name is asked what it answers to a call, where every entry before lets the call pass.
-    #[inline(always)]
     fn ask(&mut self, table: &Table, seq: u32, name: &Name, ticket: u64) -> Option<Asked>
         requires knowing { IsKnowing table.now self.old }
         requires free { IsFree self.old.left }
@@ -121,7 +120,6 @@ impl Checker {
     }
 
     // A ticket of a quota.
-    #[inline(never)]
     pub(crate) fn draw(
         &mut self,
         table: &Table,
@@ -180,7 +178,6 @@ impl Checker {
     }
 
     // Whether the ticket of a call isn't below the cap; then it waits for its refusal.
-    #[inline(never)]
     fn awaits_refusal(&mut self, at: usize, seq: u32, name: Name, ticket: u64) -> bool
         requires { at < length self.old.engines.items }
         ensures rest { self.new ≡ record self.old { left = self.new.left } }
@@ -207,7 +204,6 @@ impl Checker {
     }
 
     // Fields are cleared from a call.
-    #[inline(never)]
     pub(crate) fn clear(&mut self, table: &Table, seq: u32, name: &Name, version: u32) -> bool
         requires knowing { IsKnowing table.now self.old }
         requires free { IsFree self.old.left }
@@ -237,7 +233,6 @@ impl Checker {
     }
 
     // The first call is sent.
-    #[inline(never)]
     pub(crate) fn send(&mut self, table: &Table, seq: u32, bytes: u64) -> bool
         requires valid { IsValid table.now }
         requires knowing { IsKnowing table.now self.old }
@@ -277,7 +272,6 @@ impl Checker {
     }
 
     // A call is refused.
-    #[inline(never)]
     pub(crate) fn refuse(&mut self, table: &Table, seq: u32, cause: Cause) -> bool
         requires knowing { IsKnowing table.now self.old }
         requires free { IsFreeFor cause self.old.left }
