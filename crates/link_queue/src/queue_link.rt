@@ -242,6 +242,14 @@ impl<'r, R: Wait> Link for QueueLink<'r, R> {
         }
     }
 
+    // The places for the marks aren't counted. So many frames as ever wait are room enough for more.
+    fn has_room(&mut self, frames: usize) -> bool
+        ensures same { self.new ≡ self.old }
+    {
+        let places = frames.min(self.most).saturating_add(MARK_PLACES);
+        self.out.has_free(self.rt, places)
+    }
+
     fn receive(&mut self, buf: &mut [u8]) -> Came
         requires room { 0 < length buf.old }
         // A receive fails, or lacks memory, only once it has learnt it of the writer, and always from then on.

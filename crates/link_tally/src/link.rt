@@ -82,6 +82,12 @@ impl<L: Link + Drop> Link for TallyLink<L> {
         handed
     }
 
+    fn has_room(&mut self, frames: usize) -> bool
+        ensures same { self.new ≡ self.old }
+    {
+        self.link.has_room(frames)
+    }
+
     fn receive(&mut self, buf: &mut [u8]) -> Came
         requires room { 0 < length buf.old }
         ensures count { OnCame result (λ n. (0 < n) × (n ≤ length buf.old)) }

@@ -69,6 +69,14 @@ pub trait Link {
 
         ensures cause { HasCause (result ≡ Handed.Failed) (faults self.old) (faults self.new) };
 
+    /// Whether it can be handed so many frames without a wait for room. A link that can't tell answers true, as each does
+    /// that doesn't say otherwise. Nothing is claimed of the answer.
+    fn has_room(&mut self, _frames: usize) -> bool
+        ensures same { self.new ≡ self.old }
+    {
+        true
+    }
+
     /// Receives the next bytes into the start of `buf`. What it leaves behind them is open.
     fn receive(&mut self, buf: &mut [u8]) -> Came
         requires room { 0 < length buf.old }

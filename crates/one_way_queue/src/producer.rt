@@ -1,4 +1,4 @@
-ghost use Rattle.std.specs.Prelude.{◌≡◌, ◌≤◌, ◌+◌, length, true};
+ghost use Rattle.std.specs.Prelude.{◌≡◌, ◌≤◌, ◌+◌, length, true, false};
 ghost use Rattle.std.specs.Arc.{arc_value};
 ghost use Rattle.crossbeam_queue.specs.Passes.{view, ruled_capacity, IsPassOf};
 ghost use Rattle.one_way_queue.specs.Credits.{desk_of};
@@ -98,6 +98,22 @@ impl<T> Producer<T> {
     {
         self.wait_for_more(rt, places);
         self.put_reserved(rt, item);
+    }
+
+    /// Whether at least so many places are known to be free, once it has heard what the other end took. It doesn't wait
+    /// for room. What is free stays so until the next item is put.
+    pub fn has_free<R: Wait>(&mut self, rt: &R, places: usize) -> bool
+        ensures free { result ≡ true → places ≤ free_of self.new }
+        ensures waiting { result ≡ false → capacity_of self.old < length (put_of self.old) + places }
+        ensures kept { free_of self.old ≤ free_of self.new }
+        ensures same { put_of self.new ≡ put_of self.old }
+        ensures queue { producer_queue self.new ≡ producer_queue self.old }
+        ensures capacity { capacity_of self.new ≡ capacity_of self.old }
+    {
+        if self.free < places {
+            self.hear(rt);
+        }
+        places <= self.free
     }
 
     // Waits until more than `places` places are known to be free.

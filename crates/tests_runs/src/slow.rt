@@ -79,6 +79,10 @@ impl<'g, L: Link> Link for SlowLink<'g, L> {
         self.inner.send(frame)
     }
 
+    fn has_room(&mut self, frames: usize) -> bool {
+        self.inner.has_room(frames)
+    }
+
     fn receive(&mut self, buf: &mut [u8]) -> Came {
         self.inner.receive(buf)
     }
