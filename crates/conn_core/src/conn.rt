@@ -18,7 +18,7 @@ use chain_upgrade::{Chain, ChainFault, Turned};
 use engine_core::{MAX_CALLS, MAX_ENGINES, Op, change_is_changed, stays_chain};
 use frame_transport::HEADER_LEN;
 use mrpc_base::{Handed, Link, Tickets, Words};
-use mrpc_table::{Memory, Table};
+use mrpc_table::{Bytes, Memory, Table};
 use policy_redact::{any_order, clear_again};
 use std::alloc::Global;
 use std::marker::Model;
@@ -40,7 +40,9 @@ pub struct Conn<'t> {
     accepted: u32,
     moment: u64,
     ended: bool,
+    // Room for an encoding, and for a frame.
     payload: Output,
+    frame: Bytes,
 }
 
 // By hand, so that a drop is one call where it is needed, and not a drop of each part.
@@ -57,6 +59,7 @@ impl<'t> Drop for Conn<'t> {
             moment: _,
             ended: _,
             payload: _payload,
+            frame: _frame,
         } = self;
     }
 }
@@ -119,6 +122,7 @@ impl<'t> Conn<'t> {
             moment: 0,
             ended: false,
             payload: Output::new(alloc)?,
+            frame: Bytes::new(alloc),
         })
     }
 
@@ -289,7 +293,7 @@ impl<'t> Conn<'t> {
     /// Encodes the first call that is ready and hands its frame to a link. `Nothing` comes exactly where no call is
     /// ready, so `Failed` and `Memory` only where one is. Where the link fails, the connection is at its end, as after
     /// `fail`. After `Memory` the call stands where it stood.
-    pub fn send_ready<L: Link>(&mut self, alloc: Global, link: &mut L) -> Sending
+    pub fn send_ready<L: Link>(&mut self, link: &mut L) -> Sending
         ensures nothing { (result ≡ Sending.Nothing)
             ↔ (first_at (length self.old.chain.engines) self.old.chain.row ≡ None) }
         ensures ready { (result ≡ Sending.Failed) ⊎ (result ≡ Sending.Memory)
@@ -312,7 +316,13 @@ impl<'t> Conn<'t> {
         let Some(head) = self.chain.head() else {
             return Sending::Nothing;
         };
-        match hand(alloc, &mut self.payload, self.table, head.call(), link) {
+        match hand(
+            &mut self.payload,
+            &mut self.frame,
+            self.table,
+            head.call(),
+            link,
+        ) {
             Handed::Done => {
                 let bytes = (HEADER_LEN + self.payload.as_slice().len()) as u64;
                 let seq = leave(&mut self.chain, &mut self.history, bytes);
@@ -330,12 +340,7 @@ impl<'t> Conn<'t> {
     /// Has the engines take turns, from the first on, until no call can go on, and then sends all calls that are ready.
     /// Behind a turn that cleared fields from a call it begins again at the first engine. After `Memory` and `Failed`,
     /// which come only where a call is ready, the turns and sendings before it stand.
-    pub fn drain<Q: Tickets, L: Link>(
-        &mut self,
-        alloc: Global,
-        tickets: &mut Q,
-        link: &mut L,
-    ) -> Drained
+    pub fn drain<Q: Tickets, L: Link>(&mut self, tickets: &mut Q, link: &mut L) -> Drained
         requires known { All (λ e. KnowsTenantOf (Q.knows tickets.old) e.entry.policy) self.old.chain.engines }
         ensures done { result ≡ Drained.Done → Drains (under self.old) (course self.old) (course self.new) }
         ensures settled { result ≡ Drained.Done
@@ -359,7 +364,7 @@ impl<'t> Conn<'t> {
         self.is_connection();
         pass_all(self, tickets);
         self.is_connection();
-        let drained = send_all(alloc, self, link);
+        let drained = send_all(self, link);
         self.is_connection();
         drained
     }

@@ -15,7 +15,6 @@ use crate::answers::{Drained, Sending};
 use crate::conn::Conn;
 use chain_upgrade::Turned;
 use mrpc_base::{Link, Tickets};
-use std::alloc::Global;
 
 /// Has the engines take turns, from the first on, until no call can go on. Behind a turn that cleared fields from a
 /// call it begins again at the first engine.
@@ -61,7 +60,7 @@ fn turns_at<Q: Tickets>(conn: &mut Conn, at: u32, tickets: &mut Q) -> bool
 }
 
 /// Sends the calls that are ready, in order.
-pub(crate) fn send_all<L: Link>(alloc: Global, conn: &mut Conn, link: &mut L) -> Drained
+pub(crate) fn send_all<L: Link>(conn: &mut Conn, link: &mut L) -> Drained
     ensures done { result ≡ Drained.Done → SendsSome (under conn.old) (course conn.old) (course conn.new) }
     ensures none_ready { result ≡ Drained.Done
         → first_at (length conn.new.chain.engines) conn.new.chain.row ≡ None }
@@ -81,7 +80,7 @@ pub(crate) fn send_all<L: Link>(alloc: Global, conn: &mut Conn, link: &mut L) ->
     ensures cause { HasCause (result ≡ Drained.Failed) (L.faults link.old) (L.faults link.new) }
 {
     'calls: loop {
-        match conn.send_ready(alloc, link) {
+        match conn.send_ready(link) {
             Sending::Sent { .. } => {}
             Sending::Nothing => return Drained::Done,
             Sending::Failed => return Drained::Failed,

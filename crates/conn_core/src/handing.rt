@@ -1,6 +1,6 @@
 //! How a call is handed to a link, and leaves its chain.
 
-ghost use Rattle.std.specs.Prelude.{◌≡◌, ◌≢◌, ◌<◌, ◌≤◌, ◌++◌, ◌∷◌, [], IfOk, None, OnOk, length};
+ghost use Rattle.std.specs.Prelude.{◌≡◌, ◌≢◌, ◌<◌, ◌≤◌, ◌++◌, ◌∷◌, [], None, OnOk, length};
 ghost use Rattle.mrpc_base.specs.Faults.{HasCause};
 ghost use Rattle.mrpc_table.specs.Calls.{IsCallOf};
 ghost use Rattle.mrpc_table.specs.Valid.{IsValid};
@@ -12,16 +12,15 @@ ghost use Rattle.conn_core.specs.Kept.{Leaves};
 
 use call_history::{History, Record};
 use chain_upgrade::Chain;
-use frame_transport::{frame, kind_of};
+use frame_transport::{frame_into, kind_of};
 use mrpc_base::{Handed, Link};
 use mrpc_table::{Bytes, Call, Memory, Sort, Table};
-use std::alloc::Global;
 use wire_encode::{Output, encode_into};
 
-/// Encodes a call into `payload`, and hands its frame to a link.
+/// Encodes a call into `payload`, and hands its frame, which is put into `bytes`, to a link.
 pub(crate) fn hand<L: Link>(
-    alloc: Global,
     payload: &mut Output,
+    bytes: &mut Bytes,
     table: &Table,
     call: &Call,
     link: &mut L,
@@ -39,30 +38,30 @@ pub(crate) fn hand<L: Link>(
     ensures refused { result ≡ Handed.Failed → L.refused link.old (frame_of table.now call.now) link.new }
     ensures cause { HasCause (result ≡ Handed.Failed) (L.faults link.old) (L.faults link.new) }
 {
-    match frame_for(alloc, payload, table, call) {
-        Ok(bytes) => link.send(bytes.as_slice()),
+    match frame_for(payload, bytes, table, call) {
+        Ok(()) => link.send(bytes.as_slice()),
         Err(_) => Handed::Memory,
     }
 }
 
-// The frame of a call, whose encoding is left in `payload`.
+// The frame of a call, put into `bytes`. The call's encoding is left in `payload`.
 fn frame_for(
-    alloc: Global,
     payload: &mut Output,
+    bytes: &mut Bytes,
     table: &Table,
     call: &Call,
-) -> Result<Bytes, Memory>
+) -> Result<(), Memory>
     requires valid { IsValid table.now }
     requires fits { IsCallOf table.now call.now }
     requires short { length (payload_of table.now call.now) ≤ MAX_PAYLOAD }
     ensures encoded { OnOk result (payload.new ≡ payload_of table.now call.now) }
-    ensures frame { IfOk result (λ bytes. bytes ≡ frame_of table.now call.now) }
+    ensures frame { OnOk result (bytes.new ≡ frame_of table.now call.now) }
 {
     let message = table.message_at(call.method, call.number);
     encode_into(payload, &call.tree, table, message)?;
     let kind = kind_of(Sort::of_number(call.number));
-    frame(
-        alloc,
+    frame_into(
+        bytes,
         kind,
         call.method,
         call.conn,

@@ -34,4 +34,4 @@ pub use format::{
 };
 pub use laws::{frames_join, one_frame, one_split};
 pub use standing::{FrameRef, frame_at};
-pub use written::{frame, hello_frame};
+pub use written::{frame, frame_into, hello_frame};

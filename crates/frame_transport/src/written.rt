@@ -1,6 +1,6 @@
 //! The bytes of a frame, to be sent.
 
-ghost use Rattle.std.specs.Prelude.{◌≡◌, ◌≤◌, length, IfOk};
+ghost use Rattle.std.specs.Prelude.{◌≡◌, ◌≤◌, ◌++◌, length, IfOk, OnOk};
 ghost use Rattle.frame_transport.specs.Bytes.{frame_bytes};
 
 use crate::format::{
@@ -24,7 +24,27 @@ pub fn frame(
     requires short { length payload.now ≤ MAX_PAYLOAD }
     ensures { IfOk result (λ bytes. bytes ≡ frame_bytes kind VERSION method conn number payload.now) }
 {
-    write(alloc, kind, VERSION, method, conn, number, payload)
+    let mut bytes = Bytes::with_room(alloc, HEADER_LEN + payload.len())?;
+    write(&mut bytes, kind, VERSION, method, conn, number, payload)?;
+    Ok(bytes)
+}
+
+/// The same, written in place of what `out` has, whose room is used again.
+pub fn frame_into(
+    out: &mut Bytes,
+    kind: u8,
+    method: u16,
+    conn: u32,
+    number: u32,
+    payload: &[u8],
+) -> Result<(), Memory>
+    requires least { REQUEST ≤ kind }
+    requires greatest { kind ≤ REPLY }
+    requires short { length payload.now ≤ MAX_PAYLOAD }
+    ensures { OnOk result (out.new ≡ frame_bytes kind VERSION method conn number payload.now) }
+{
+    out.clear();
+    write(out, kind, VERSION, method, conn, number, payload)
 }
 
 /// The bytes of a hello, of version 2, with method and number 0. The format is this project's own.
@@ -32,21 +52,23 @@ pub fn hello_frame(alloc: Global, conn: u32, payload: &[u8]) -> Result<Bytes, Me
     requires short { length payload.now ≤ MAX_PAYLOAD }
     ensures { IfOk result (λ bytes. bytes ≡ frame_bytes HELLO HELLO_VERSION 0 conn 0 payload.now) }
 {
-    write(alloc, HELLO, HELLO_VERSION, 0, conn, 0, payload)
+    let mut bytes = Bytes::with_room(alloc, HEADER_LEN + payload.len())?;
+    write(&mut bytes, HELLO, HELLO_VERSION, 0, conn, 0, payload)?;
+    Ok(bytes)
 }
 
-// The header, whose numbers are big-endian, and the payload, in one reservation.
+// Appends the header, whose numbers are big-endian, and the payload.
 fn write(
-    alloc: Global,
+    out: &mut Bytes,
     kind: u8,
     version: u8,
     method: u16,
     conn: u32,
     number: u32,
     payload: &[u8],
-) -> Result<Bytes, Memory>
+) -> Result<(), Memory>
     requires short { length payload.now ≤ MAX_PAYLOAD }
-    ensures { IfOk result (λ bytes. bytes ≡ frame_bytes kind version method conn number payload.now) }
+    ensures { OnOk result (out.new ≡ out.old ++ frame_bytes kind version method conn number payload.now) }
 {
     let mut header = [0; HEADER_LEN];
     BigEndian::write_u32(&mut header, payload.len() as u32);
@@ -55,8 +77,7 @@ fn write(
     BigEndian::write_u16(&mut header[METHOD_PLACE as usize..], method);
     BigEndian::write_u32(&mut header[8..], conn);
     BigEndian::write_u32(&mut header[12..], number);
-    let mut bytes = Bytes::with_room(alloc, HEADER_LEN + payload.len())?;
-    bytes.append(&header)?;
-    bytes.append(payload)?;
-    Ok(bytes)
+    out.append(&header)?;
+    out.append(payload)?;
+    Ok(())
 }

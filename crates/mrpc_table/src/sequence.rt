@@ -104,6 +104,13 @@ impl<T> Sequence<T> {
 }
 
 impl Sequence<u8> {
+    /// Takes all bytes away. The room stays.
+    pub fn clear(&mut self)
+        ensures { self.new ≡ [] }
+    {
+        self.items.clear();
+    }
+
     /// A list of the bytes of a slice.
     pub fn from_slice(alloc: Global, bytes: &[u8]) -> Result<Sequence<u8>, Memory>
         ensures { IfOk result (λ s. s ≡ bytes.now) }

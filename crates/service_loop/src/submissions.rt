@@ -111,7 +111,8 @@ impl<'t> Submissions<'t> {
     /// clock's moment is shown, at most one call is taken unless as many stand as may, and what can go on is judged and
     /// sent.
     /// Behind the closing of the ring all steps that are left come, and the link's sending side is ended; from then on
-    /// there is nothing to do. A link that fails ends the connection, whose further submissions are given up. After
+    /// there is nothing to do. Where the link has no room for all that could be sent, all this is left to a later round,
+    /// so that no send waits. A link that fails ends the connection, whose further submissions are given up. After
     /// `Memory` the parts are still of the same heap and ring, and no more is said of them.
     pub fn round<R: Wait, C: Clock, Q: Tickets, L: Link>(
         &mut self,
@@ -160,7 +161,7 @@ impl<'t> Submissions<'t> {
         ensures idle { self.old.finished ≡ true → (result ≡ Activity.Idle) × (self.new ≡ self.old)
             × (link.new ≡ link.old) × (tickets.new ≡ tickets.old) }
     {
-        if self.finished {
+        if self.finished || !self.has_room(link) {
             return Activity::Idle;
         }
         match self.take_and_send(rt, alloc, clock, tickets, link) {
@@ -168,6 +169,14 @@ impl<'t> Submissions<'t> {
             Ok(false) => Activity::Idle,
             Err(Memory) => Activity::Memory,
         }
+    }
+
+    // Whether the link has room for all that a round can send: the calls that stand, and the one that it takes.
+    fn has_room<L: Link>(&self, link: &mut L) -> bool
+        ensures { link.new ≡ link.old }
+    {
+        let stand = self.conn.chain().calls().len();
+        link.has_room(stand.min(MAX_CALLS - 1) + 1)
     }
 
     // The same while the last drain isn't done. Tells whether something was done.
@@ -373,7 +382,7 @@ impl<'t> Submissions<'t> {
         if closing {
             self.finish(alloc, tickets, link)
         } else {
-            self.drain(alloc, tickets, link)
+            self.drain(tickets, link)
         }
     }
 
@@ -404,19 +413,14 @@ impl<'t> Submissions<'t> {
         ensures accepted { OnOk result (self.new.accepted ≡ self.old.accepted) }
     {
         self.apply_due(alloc, true)?;
-        self.drain(alloc, tickets, link)?;
+        self.drain(tickets, link)?;
         link.finish();
         self.finished = true;
         Ok(())
     }
 
     // Has the calls that stand go on as far as they can.
-    fn drain<Q: Tickets, L: Link>(
-        &mut self,
-        alloc: Global,
-        tickets: &mut Q,
-        link: &mut L,
-    ) -> Result<(), Memory>
+    fn drain<Q: Tickets, L: Link>(&mut self, tickets: &mut Q, link: &mut L) -> Result<(), Memory>
         requires serving { IsServing self.old }
         requires known { KnowTenants (Q.knows tickets.old) self.old.steps.now }
         ensures serving { OnOk result (IsServing self.new) }
@@ -443,7 +447,7 @@ impl<'t> Submissions<'t> {
         if self.conn.ended() {
             return Ok(());
         }
-        let drained = self.conn.drain(alloc, tickets, link);
+        let drained = self.conn.drain(tickets, link);
         self.conn.is_connection();
         match drained {
             Drained::Done | Drained::Failed => Ok(()),

@@ -204,7 +204,10 @@ module _ (κ : NamedLft) where
                   word w64,
                   (
                     search sendable,
-                    (output.the_send, tt),
+                    (
+                      output.the_send,
+                      (search (crosses, sendable) depth 20, tt),
+                    ),
                   ),
                 ),
               ),

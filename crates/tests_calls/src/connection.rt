@@ -243,15 +243,13 @@ impl<'t> Scene<'t> {
     /// Turns until no call can go on, and then sendings: what they come to.
     pub fn drain(&mut self, rt: &impl Abort) -> Drained {
         assert!(rt; knows_tenants(self.conn.chain(), &self.tickets));
-        self.conn
-            .drain(self.alloc, &mut self.tickets, &mut self.link)
+        self.conn.drain(&mut self.tickets, &mut self.link)
     }
 
     /// The same to a link that finds no memory.
     pub fn drain_without_memory(&mut self, rt: &impl Abort) -> Drained {
         assert!(rt; knows_tenants(self.conn.chain(), &self.tickets));
-        self.conn
-            .drain(self.alloc, &mut self.tickets, &mut NoFrames {})
+        self.conn.drain(&mut self.tickets, &mut NoFrames {})
     }
 
     /// Ends the connection.

@@ -331,9 +331,7 @@ impl<'t> Work<'t> {
         if !knows_tenants(self.conn.chain(), &self.tickets) {
             return None;
         }
-        let drained = self
-            .conn
-            .drain(self.alloc, &mut self.tickets, &mut self.link);
+        let drained = self.conn.drain(&mut self.tickets, &mut self.link);
         (drained == Drained::Done).then_some(())
     }
 
