@@ -1,6 +1,6 @@
 //! Marks: what a standing call keeps of the engines that it met.
 
-ghost use Rattle.std.specs.Prelude.{◌≡◌, ◌≤◌, ◌==◌, All, IsTrue, true, not, filter, length};
+ghost use Rattle.std.specs.Prelude.{◌≡◌, ◌≤◌, ◌==◌, All, IfSome, IsTrue, true, not, filter, length};
 ghost use Rattle.std.specs.List.{list_any};
 ghost use Rattle.engine_core.specs.Marks.{is_allowing, other_marks};
 ghost use Rattle.engine_core.specs.Steps.{marked};
@@ -79,23 +79,40 @@ pub(crate) fn forget_allowing(marks: &mut Marks)
 pub(crate) fn keep_of(marks: &mut Marks, engines: &[Engine])
     ensures { marks.new.items ≡ filter (λ m. list_any (λ e. e.entry.attach == m.attach) engines.now) marks.old.items }
 {
-    if !go_along(marks, engines) {
+    if !are_of(marks.as_slice(), engines) {
         marks.retain(|mark| has_attachment(engines, mark.attach));
     }
 }
 
-// Whether each mark is seen to be of one of the engines while these are passed once, as where marks come in their order.
-fn go_along(marks: &Marks, engines: &[Engine]) -> bool
+// Whether each mark is of one of the engines. That of the next mark is looked for behind that of the mark before first,
+// since marks mostly stand in the order of the engines.
+fn are_of(marks: &[Mark], engines: &[Engine]) -> bool
     ensures { IsTrue result
-        → All (λ m. list_any (λ e. e.entry.attach == m.attach) engines.now ≡ true) marks.now.items }
+        → All (λ m. list_any (λ e. e.entry.attach == m.attach) engines.now ≡ true) marks.now }
 {
-    let mut seen = 0;
-    for engine in engines {
-        if seen < marks.len() && marks[seen].attach == engine.attach() {
-            seen += 1;
+    let mut next = 0;
+    for mark in marks {
+        match place_of(engines, next, mark.attach) {
+            Some(place) => next = place.wrapping_add(1),
+            None => return false,
         }
     }
-    seen == marks.len()
+    true
+}
+
+// The place of an engine that has the attachment, which is this one where it has it.
+fn place_of(engines: &[Engine], likely: usize, attach: u32) -> Option<usize>
+    ensures { IfSome result (λ _. list_any (λ e. e.entry.attach == attach) engines.now ≡ true) }
+{
+    if likely < engines.len() && engines[likely].attach() == attach {
+        return Some(likely);
+    }
+    for place in 0..engines.len() {
+        if engines[place].attach() == attach {
+            return Some(place);
+        }
+    }
+    None
 }
 
 // Whether one of the engines has the attachment.
