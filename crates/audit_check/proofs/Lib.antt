@@ -1,3 +1,4 @@
+mod Briefs
 mod Calls
 mod Cuts
 mod FirstLines

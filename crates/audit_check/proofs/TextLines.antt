@@ -1,7 +1,8 @@
 -- A text that is read line by line.
 use Rattle.std.proofs.Common.{◌≡◌, ◌≢◌, ℕ, ◌+◌, ◌<◌, ◌≤◌, ◌⊎◌, Bool, true, false, cond, List, [], ◌∷◌, ◌++◌, All}
 use Rattle.std.proofs.Common.{Option, Some, None, IfSome, option_map, find, length, arith, refl, ap, sym, subst, ◌∙◌}
-use Rattle.std.proofs.Common.{inl, inr, append_assoc, length-append}
+use Rattle.std.proofs.Common.{inl, inr, append_assoc, length-append, Result, Ok, Err}
+use Rattle.std.specs.Prelude.{MatchResult}
 use Rattle.std.specs.Str.{bytes_eq}
 use Rattle.std.proofs.lemmas.Grind.{flat_map-append}
 use Rattle.std.proofs.lemmas.List.{append-nil}
@@ -265,3 +266,11 @@ pub read_whole : (T : Table) (declared : Declared) (limit : ℕ) (text rest : Li
 read_whole T declared limit text rest p r none =
     let P : List ℕ → Type 0 = λ text. Tells T declared text r.history r.told in
     subst P (sym (r.is_text ∙ ap (λ (l : List ℕ). r.front ++ l) none ∙ append-nil r.front)) r.tells
+
+-- a line was taken, or couldn't be
+pub taken_on : StandsCut → AreApart → (T : Table) (declared : Declared) (limit : ℕ) (text rest first others : List ℕ) (p p' : Progress) (x : AuditLine) (result : Result (Unit {0}) AuditFault)
+    → (r : IsRead T declared limit text rest p) → 0 < length rest → IsFirstLine rest first others → IsLine T declared x → first ≡ bytes_of T x
+    → MatchResult result (λ _. TakesOn T limit r.history r.told x p') (FailsOn r.history r.told x)
+    → MatchResult result (λ _. IsRead T declared limit text others p') (FaultsAt (IsFirstBad T declared text))
+taken_on cut apart T declared limit text rest first others p p' x (Ok u) r some is in' e takes = read_more T declared limit text rest first others p p' x r is.joined in' e takes
+taken_on cut apart T declared limit text rest first others p p' x (Err fault) r some is in' e fails = fails_as cut apart T declared limit text rest first others p x fault r some is e fails

@@ -1,10 +1,12 @@
 //! The check of a text.
 
-ghost use Rattle.std.specs.Prelude.{◌≡◌, ◌≤◌, ◌⊎◌, ℕ, All, IfErr, IfOk, MatchResult, length};
+ghost use Rattle.std.specs.Prelude.{◌≡◌, ◌+◌, ◌<◌, ◌≤◌, ◌^◌, ◌⊎◌, ℕ, List, All, IfErr, IfOk, MatchResult, length};
 ghost use Rattle.mrpc_table.specs.Valid.{IsValid};
 ghost use Rattle.engine_core.specs.Policies.{IsPolicy};
 ghost use Rattle.audit_text.specs.declared.reading.AuditFault.{AuditFault};
 ghost use Rattle.audit_check.specs.Checking.{FaultsAt, IsChecked, IsFirstBad};
+ghost use Rattle.audit_check.specs.Reading.{IsFamiliar, IsRead};
+ghost use Rattle.audit_check.specs.States.{IsFirstLine};
 ghost use Rattle.audit_check.specs.declared.checked.Checked.{Checked};
 
 use crate::checked::Checked;
@@ -12,11 +14,12 @@ use crate::first_line::first_line;
 use crate::laws::a_text_has_one_answer;
 use crate::progress::Progress;
 use audit_text::{
-    AuditFault, a_line_is_cut_into_its_words, a_stands_line_tells_one_call, read_line,
+    AuditFault, a_line_is_cut_into_its_words, a_stands_line_tells_one_call, read_brief, read_line,
 };
 use mrpc_table::Table;
 use policy_blocks::Declarations;
 use std::alloc::Global;
+use wire_encode::Output;
 
 /// Checks the text of an audit, of at most 16777216 bytes, under a table, the policies that were declared, and a
 /// limit of loads. It is legal where its happenings are a legal history, behind which there are no lines of calls that stand, or
@@ -47,7 +50,7 @@ pub fn check_audit(
     read_text(alloc, table, declared, loads, text)
 }
 
-// Reads a text line by line, and answers what is to be answered of it.
+// Reads a text line by line, and answers what is to be answered of it. One room serves for the encodings of all lines.
 fn read_text(
     alloc: Global,
     table: &Table,
@@ -61,19 +64,44 @@ fn read_text(
     ensures checked { IfOk result (IsChecked table.now declared.now loads text.now) }
     ensures bad { IfErr result (FaultsAt (IsFirstBad table.now declared.now text.now)) }
 {
-    a_line_is_cut_into_its_words();
-    a_stands_line_tells_one_call();
     let mut progress = Progress::new(alloc, loads)?;
+    let mut encoding = Output::new(alloc)?;
     let mut rest = text;
     while !rest.is_empty() {
         let (line, others) = first_line(rest);
-        let Some(line) = read_line(alloc, line, table, declared)? else {
-            return Err(AuditFault::Bad {
-                line: progress.next_line(),
-            });
-        };
-        progress.take(alloc, table, line)?;
+        take_line(alloc, &mut encoding, &mut progress, table, declared, line)?;
         rest = others;
     }
     Ok(progress.end()?)
+}
+
+// Reads the first line of what is left of a text, and takes what it tells.
+fn take_line(
+    alloc: Global,
+    encoding: &mut Output,
+    progress: &mut Progress,
+    table: &Table,
+    declared: &Declarations,
+    line: &[u8],
+) -> Result<(), AuditFault>
+    requires valid { IsValid table.now }
+    requires policies { All (λ p. IsPolicy p.policy) declared.now.policies }
+    requires few { progress.old.happenings + progress.old.stands + 3 < 2 ^ 32 }
+    requires familiar { IsFamiliar table.now progress.old }
+    ensures { (limit : ℕ) (text rest others : List ℕ) → IsRead table.now declared.now limit text rest progress.old
+        → 0 < length rest → IsFirstLine rest line.now others
+        → MatchResult result (λ _. IsRead table.now declared.now limit text others progress.new)
+        (FaultsAt (IsFirstBad table.now declared.now text)) }
+{
+    a_line_is_cut_into_its_words();
+    a_stands_line_tells_one_call();
+    if let Some(next) = read_brief(line) {
+        return progress.note(alloc, table, next);
+    }
+    match read_line(alloc, encoding, line, table, declared)? {
+        Some(told) => progress.take(alloc, table, told),
+        None => Err(AuditFault::Bad {
+            line: progress.next_line(),
+        }),
+    }
 }

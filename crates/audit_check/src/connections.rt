@@ -10,10 +10,13 @@ ghost use Rattle.call_history.specs.Rules.{May};
 ghost use Rattle.audit_rules.specs.First.{BreaksFirst, order_of};
 ghost use Rattle.audit_rules.specs.Knowing.{IsReadable};
 ghost use Rattle.audit_check.specs.Checking.{IsFirstOpen, on_connection};
+ghost use Rattle.audit_text.specs.Briefs.{told_by, told_in};
 ghost use Rattle.audit_check.specs.declared.connections.TheConstants.{NEAR};
 ghost use Rattle.audit_check.specs.States.{IsEarlier, IsKnown, KnowsAll, KnowsEach, checker_of};
 
+use crate::brief::{happened, judge};
 use audit_rules::{Checker, Rule};
+use audit_text::BriefLine;
 use call_history::Happened;
 use mrpc_table::{Memory, Table};
 use std::alloc::Global;
@@ -70,6 +73,31 @@ impl Connections {
         if place < self.near.len() {
             return Ok(self.near[place].check(table, next.what));
         }
+        self.check_far(alloc, table, next)
+    }
+
+    /// The same for what became of a call, as its line tells it.
+    pub fn check_brief(
+        &mut self,
+        alloc: Global,
+        table: &Table,
+        next: BriefLine<'_>,
+    ) -> Result<Option<Rule>, Memory>
+        requires valid { IsValid table.now }
+        requires known { IsKnown table.now self.old }
+        ensures may { (h : History) → KnowsAll table.now h self.old → IfOk result (λ r. IfNone r
+            (May (on_connection table.now self.old.limit next.entry.conn) (behind next.entry.conn h) (told_by next.entry.what))) }
+        ensures knows { (h : History) → KnowsAll table.now h self.old
+            → IfOk result (λ r. IfNone r (KnowsAll table.now (h ++ told_in next.entry ∷ []) self.new)) }
+        ensures breaks { (h : History) → KnowsAll table.now h self.old → IfOk result (λ r. IfSome r
+            (BreaksFirst (on_connection table.now self.old.limit next.entry.conn) (behind next.entry.conn h) (told_by next.entry.what))) }
+        ensures limit { self.new.limit ≡ self.old.limit }
+    {
+        let place = next.conn as usize;
+        if place < self.near.len() {
+            return Ok(judge(&mut self.near[place], table, next.what));
+        }
+        let next = happened(alloc, next)?;
         self.check_far(alloc, table, next)
     }
 

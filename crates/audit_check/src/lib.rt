@@ -9,6 +9,7 @@
 #![tactic(auto)]
 
 mod audit;
+mod brief;
 mod checked;
 mod connections;
 mod first_line;

@@ -4,6 +4,8 @@ ghost use Rattle.std.specs.Prelude.{◌≡◌, ◌+◌, ◌<◌, ◌^◌, ℕ, L
 ghost use Rattle.mrpc_table.specs.Valid.{IsValid};
 ghost use Rattle.mrpc_table.specs.declared.table.Table.{Table};
 ghost use Rattle.call_history.specs.Legal.{History};
+ghost use Rattle.audit_text.specs.Briefs.{told_in};
+ghost use Rattle.audit_text.specs.declared.line.AuditLine.TheVariants as lines;
 ghost use Rattle.audit_check.specs.Checking.{IsJudged, StandsLine};
 ghost use Rattle.audit_check.specs.Reading.{FailsOn, IsFamiliar, IsProgress, IsReadableLine, TakesOn};
 
@@ -11,7 +13,7 @@ use crate::checked::Checked;
 use crate::connections::Connections;
 use crate::row::Told;
 use crate::stage::Stage;
-use audit_text::{AuditFault, AuditLine};
+use audit_text::{AuditFault, AuditLine, BriefLine};
 use mrpc_table::{Memory, Table};
 use std::alloc::Global;
 
@@ -81,6 +83,29 @@ impl Progress {
                 Ok(())
             }
         }
+    }
+
+    /// The same for a line that tells what became of a call.
+    pub fn note(
+        &mut self,
+        alloc: Global,
+        table: &Table,
+        next: BriefLine<'_>,
+    ) -> Result<(), AuditFault>
+        requires valid { IsValid table.now }
+        requires few { self.old.happenings + self.old.stands + 3 < 2 ^ 32 }
+        requires familiar { IsFamiliar table.now self.old }
+        ensures { (limit : ℕ) (h : History) (told : List StandsLine) → IsProgress table.now limit h told self.old
+            → MatchResult result (λ _. TakesOn table.now limit h told (lines.Happened (told_in next.entry)) self.new)
+            (FailsOn h told (lines.Happened (told_in next.entry))) }
+    {
+        let number = self.next_line();
+        if self.stands > 0 {
+            return Err(AuditFault::Bad { line: number });
+        }
+        self.stage.note(alloc, table, next, number)?;
+        self.happenings += 1;
+        Ok(())
     }
 
     /// What is answered of a text that ends here.

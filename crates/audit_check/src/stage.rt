@@ -4,6 +4,7 @@ ghost use Rattle.std.specs.Prelude.{◌≡◌, ◌+◌, ◌<◌, ◌≤◌, ◌^
 ghost use Rattle.mrpc_table.specs.Valid.{IsValid};
 ghost use Rattle.mrpc_table.specs.declared.table.Table.{Table};
 ghost use Rattle.call_history.specs.Legal.{History, IsLegal};
+ghost use Rattle.audit_text.specs.Briefs.{told_in};
 ghost use Rattle.audit_rules.specs.Knowing.{IsReadable};
 ghost use Rattle.audit_check.specs.Checking.{IsJudged, StandsLine};
 ghost use Rattle.audit_check.specs.Stages.{IsHappening, IsIllegalAt, IsStage};
@@ -15,6 +16,7 @@ use crate::checked::Checked;
 use crate::connections::{Connections, left_open};
 use crate::row::{Row, Told};
 use audit_rules::Rule;
+use audit_text::BriefLine;
 use call_history::Happened;
 use mrpc_table::{Memory, Table};
 use std::alloc::Global;
@@ -56,6 +58,32 @@ impl Stage {
     {
         match self {
             Stage::Happening(connections) => match connections.check(alloc, table, next)? {
+                None => Ok(()),
+                Some(rule) => {
+                    self.break_at(Illegal { line, rule });
+                    Ok(())
+                }
+            },
+            Stage::Standing(_) | Stage::Illegal(_) => Ok(()),
+        }
+    }
+
+    /// The same for what became of a call, as its line tells it.
+    pub fn note(
+        &mut self,
+        alloc: Global,
+        table: &Table,
+        next: BriefLine<'_>,
+        line: u64,
+    ) -> Result<(), Memory>
+        requires valid { IsValid table.now }
+        requires known { (limit : ℕ) × (h : History) × IsStage table.now limit h [] self.old
+            × (line ≡ length h + 1) × (line + 2 < 2 ^ 32) }
+        ensures { (limit : ℕ) (h : History) → IsStage table.now limit h [] self.old → line ≡ length h + 1
+            → OnOk result (IsStage table.now limit (h ++ told_in next.entry ∷ []) [] self.new) }
+    {
+        match self {
+            Stage::Happening(connections) => match connections.check_brief(alloc, table, next)? {
                 None => Ok(()),
                 Some(rule) => {
                     self.break_at(Illegal { line, rule });

@@ -250,4 +250,4 @@ free-before past what (Waits seq) opened malformed =
     let at : RefusesMalformed (Took opened.0 ∷ opened.1) what = subst (λ (p : Behind). RefusesMalformed p what) opened.2 malformed in
     let is : what ≡ Refused opened.0.seq cause.Malformed = at-once opened.0.copy opened.0.seq what opened.3 at in
     subst (λ (w : Happening). IsFreeBefore w (Waits seq)) (sym is) tt
-free-before past what (Over seq name ticket cap) opened malformed = free-anyway what (Over seq name ticket cap) tt
+free-before past what (Over seq at ticket cap) opened malformed = free-anyway what (Over seq at ticket cap) tt

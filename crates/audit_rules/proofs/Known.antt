@@ -19,7 +19,7 @@ use Rattle.audit_rules.proofs.Numbers.{above, read, within}
 pub free-numbers : (left : Left) (ns : List ℕ) → IsFree left → with_waiting left ns ≡ ns
 free-numbers Nothing ns free = refl
 free-numbers (Waits seq) ns free = absurd free
-free-numbers (Over seq name ticket cap) ns free = refl
+free-numbers (Over seq at ticket cap) ns free = refl
 
 pub known-rising : (T : Table) (past : Behind) (c : Checker) → Knows T past c → IsFree c.left → IsRising 0 c.taken (seqs_of c.calls)
 known-rising T past c knows free = subst (IsRising 0 c.taken) (free-numbers c.left (seqs_of c.calls) free) knows.rising

@@ -1,4 +1,5 @@
 mod Asked
+mod Briefs
 mod Clocks
 mod Draws
 mod Due

@@ -106,9 +106,9 @@ not-left past what Nothing opened malformed drawn other = refl
 not-left past what (Waits seq) opened malformed drawn other =
     let at : RefusesMalformed (Took opened.0 ∷ opened.1) what = subst (λ (p : Behind). RefusesMalformed p what) opened.2 malformed in
     absurd (other opened.0.seq cause.Malformed (at-once opened.0.copy opened.0.seq what opened.3 at))
-not-left past what (Over seq name ticket cap) opened malformed drawn other =
-    let at : RefusesDrawn (Drawn seq name opened.0 ticket ∷ opened.1) what = subst (λ (p : Behind). RefusesDrawn p what) opened.2 drawn in
-    absurd (other seq (cause.Quota name ticket cap) (at opened.4.0 cap opened.4.1 opened.4.2 opened.3))
+not-left past what (Over seq at ticket cap) opened malformed drawn other =
+    let refuses : RefusesDrawn (Drawn seq opened.0.name opened.1 ticket ∷ opened.2) what = subst (λ (p : Behind). RefusesDrawn p what) opened.3 drawn in
+    absurd (other seq (cause.Quota opened.0.name ticket cap) (refuses opened.6.0 cap opened.6.1 opened.6.2 opened.4))
 
 pub is-free : (past : Behind) (what : Happening) (left : Left) → LeavesOpen past left → RefusesMalformed past what
     → ((seq : ℕ) → what ≡ Refused seq cause.Malformed → ⊥) → IsFree left
@@ -116,7 +116,7 @@ is-free past what Nothing opened malformed other = tt
 is-free past what (Waits seq) opened malformed other =
     let at : RefusesMalformed (Took opened.0 ∷ opened.1) what = subst (λ (p : Behind). RefusesMalformed p what) opened.2 malformed in
     other opened.0.seq (at-once opened.0.copy opened.0.seq what opened.3 at)
-is-free past what (Over seq name ticket cap) opened malformed other = tt
+is-free past what (Over seq at ticket cap) opened malformed other = tt
 
 -- ---- a moment
 

@@ -182,8 +182,8 @@ waits-malformed past (Waits s) seq opened is =
     let same : Refused seq cause.Malformed ≡ Refused opened.0.seq cause.Malformed = at-once opened.0.copy opened.0.seq (Refused seq cause.Malformed) opened.3 at in
     let number : s ≡ seq = cc (opened.4, same) in
     ap (λ (n : ℕ). Waits n) number
-waits-malformed past (Over s name ticket cap) seq opened is =
-    absurd (subst (λ (p : Behind). RefusesMalformed p (Refused seq cause.Malformed)) opened.2 is)
+waits-malformed past (Over s at ticket cap) seq opened is =
+    absurd (subst (λ (p : Behind). RefusesMalformed p (Refused seq cause.Malformed)) opened.3 is)
 
 pub knows-malformed : (T : Table) (past : Behind) (seq : ℕ) (c : Checker) → Knows T past c
     → May (under T c) past (Refused seq cause.Malformed) → IsFate past seq (Refused seq cause.Malformed)

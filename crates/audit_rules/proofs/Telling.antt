@@ -152,7 +152,7 @@ same-held one u past ps call q (Some h) (Some k) tells told =
 free-settled : (past : Behind) (left : Left) → LeavesOpen past left → (AwaitsMalformed past → ⊥) → IsFree left
 free-settled past Nothing opened none = tt
 free-settled past (Waits seq) opened none = none (subst AwaitsMalformed (sym opened.2) opened.3)
-free-settled past (Over seq name ticket cap) opened none = tt
+free-settled past (Over seq at ticket cap) opened none = tt
 
 -- where nothing is told, a checker is as it was
 pub told-none : (T : Table) (past : Behind) (c : Checker) → IsSettledUp past → Knows T past c → KnowsTold T past [] c

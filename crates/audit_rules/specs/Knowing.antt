@@ -1,9 +1,10 @@
 -- What a checker knows of a connection: what its happenings have made (this project's own).
-use Rattle.std.specs.Prelude.{◌≡◌, ℕ, ◌+◌, ◌<◌, ◌≤◌, ◌^◌, max, List, [], ◌∷◌, ◌++◌, All, length, map, min, Some, vec_capacity}
+use Rattle.std.specs.Prelude.{◌≡◌, ℕ, ◌+◌, ◌<◌, ◌≤◌, ◌^◌, max, List, [], ◌∷◌, ◌++◌, All, length, map, min, slice_get, Some, vec_capacity}
 use Rattle.std.specs.List.{AllZip}
 use Rattle.std.specs.VecDeque.{deque_capacity}
 use Rattle.mrpc_table.specs.Calls.{IsCallOf}
 use Rattle.mrpc_table.specs.declared.table.Table.{Table}
+use Rattle.engine_core.specs.Chains.{Entry}
 use Rattle.engine_core.specs.Engines.{EngineParts}
 use Rattle.engine_core.specs.Policies.{IsPolicy}
 use Rattle.engine_core.specs.declared.TheConstants.{MAX_ENGINES}
@@ -11,7 +12,7 @@ use Rattle.engine_core.specs.declared.call_row.TheConstants.{MAX_CALLS}
 use Rattle.engine_core.specs.declared.policy.Policy.{Policy}
 use Rattle.engine_core.specs.declared.op.Op.{Op as Step}
 use Rattle.engine_core.specs.declared.op.Op.TheVariants.{Attach, Detach, Upgrade}
-use Rattle.call_history.specs.Behind.{Behind, has_failed, noted_calls, policy_of, standing, taken}
+use Rattle.call_history.specs.Behind.{Behind, chain, has_failed, noted_calls, policy_of, standing, taken}
 use Rattle.call_history.specs.Legal.{AwaitsMalformed, AwaitsQuota, HasNoCopy}
 use Rattle.call_history.specs.Rules.{IsTakenBy, KeepsChain, NotesWhatIsDue, RefusesAsAnswered, SendsInOrder, Under, cap_of}
 use Rattle.call_history.specs.declared.happening.Cause.{Cause}
@@ -56,7 +57,7 @@ IsReadable T _ = Unit {0}
 abbrev pub with_waiting : Left → List ℕ → List ℕ
 with_waiting Nothing numbers = numbers
 with_waiting (Waits seq) numbers = numbers ++ seq ∷ []
-with_waiting (Over seq name ticket cap) numbers = numbers
+with_waiting (Over seq at ticket cap) numbers = numbers
 
 abbrev pub numbers_of : Checker → List ℕ
 numbers_of c = with_waiting c.left (seqs_of c.calls)
@@ -65,7 +66,7 @@ numbers_of c = with_waiting c.left (seqs_of c.calls)
 abbrev pub IsFree : Left → Type 0
 IsFree Nothing = Unit {0}
 IsFree (Waits seq) = ⊥
-IsFree (Over seq name ticket cap) = Unit {0}
+IsFree (Over seq at ticket cap) = Unit {0}
 
 -- a call is refused for being malformed where one waits for that alone
 abbrev pub IsFreeFor : Cause → Left → Type 0
@@ -90,9 +91,10 @@ abbrev pub LeavesOpen : Behind → Left → Type 0
 LeavesOpen past Nothing = (AwaitsMalformed past → ⊥) × (AwaitsQuota past → ⊥)
 LeavesOpen past (Waits seq) = (call : Taken) × (earlier : Behind) × (past ≡ Took call ∷ earlier) × HasNoCopy call.copy
     × (call.seq ≡ seq)
-LeavesOpen past (Over seq name ticket cap) = (window : ℕ) × (earlier : Behind)
-    × (past ≡ Drawn seq name window ticket ∷ earlier) × (cap ≤ ticket)
-    × ((policy : Policy) × (policy_of name earlier ≡ Some policy) × (cap_of policy ≡ Some cap))
+LeavesOpen past (Over seq at ticket cap) = (entry : Entry) × (window : ℕ) × (earlier : Behind)
+    × (past ≡ Drawn seq entry.name window ticket ∷ earlier) × (cap ≤ ticket)
+    × (slice_get (chain past).entries at ≡ Some entry)
+    × ((policy : Policy) × (policy_of entry.name earlier ≡ Some policy) × (cap_of policy ≡ Some cap))
 
 -- there is room for all engines and all calls
 pub record HasRoom (c : Checker) : Type 0 where

@@ -11,6 +11,8 @@ use Rattle.call_history.specs.declared.happening.Cause.{Cause}
 use Rattle.call_history.specs.declared.happening.Cause.TheVariants as cause
 use Rattle.call_history.specs.declared.happening.Happening.{Happening}
 use Rattle.call_history.specs.declared.happening.Happening.TheVariants.{Took, Away, Op, Moment, Charged, Drawn, Counted, Redacted, Sent, Refused}
+use Rattle.audit_rules.specs.declared.left.Left.{Left}
+use Rattle.audit_rules.specs.declared.left.Left.TheVariants as lefts
 use Rattle.audit_rules.specs.declared.rule.Rule.{Rule}
 use Rattle.audit_rules.specs.declared.rule.Rule.TheVariants as rules
 
@@ -34,6 +36,26 @@ abbrev pub is_quiet : Happening → Bool
 is_quiet (Op step) = true
 is_quiet (Moment ms) = true
 is_quiet _ = false
+
+-- what was noted of a call, or that it was sent
+abbrev pub IsOfCall : Happening → Type 0
+IsOfCall (Charged seq name left) = Unit {0}
+IsOfCall (Drawn seq name window ticket) = Unit {0}
+IsOfCall (Counted seq name) = Unit {0}
+IsOfCall (Sent seq bytes) = Unit {0}
+IsOfCall _ = ⊥
+
+-- a malformed call waits for its refusal
+abbrev pub is_waiting : Left → Bool
+is_waiting lefts.Nothing = false
+is_waiting (lefts.Waits seq) = true
+is_waiting (lefts.Over seq at ticket cap) = false
+
+-- nothing waits for a refusal but the calls of a failed link
+abbrev pub is_nothing : Left → Bool
+is_nothing lefts.Nothing = true
+is_nothing (lefts.Waits seq) = false
+is_nothing (lefts.Over seq at ticket cap) = false
 
 -- the outcome denies by a rule of this name
 abbrev pub IsRuleNamed : Policy → Outcome → List ℕ → Type 0

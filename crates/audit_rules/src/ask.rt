@@ -16,11 +16,11 @@ ghost use Rattle.call_history.specs.Ties.{AreNumbersApart, AreTied};
 ghost use Rattle.audit_rules.specs.Asking.{IsAsked, IsRising, IsRowBehind, LetsAll, answer_of, seqs_of};
 
 use crate::drawn::Draws;
-use crate::engines::place_of;
+use crate::engines::place_named;
 use crate::prepared::Prepared;
 use call_history::{chain_goes_on, ties_go_on};
 use engine_core::{CallRow, Engine, Noted, Outcome, one_answer};
-use mrpc_table::{Name, Table};
+use mrpc_table::Table;
 use std::collections::VecDeque;
 
 // A call that stands, the entry of a name at which it is, and how a turn of that entry comes out for it.
@@ -155,7 +155,7 @@ pub(crate) fn ask(
     reached: &mut VecDeque<usize>,
     engines: &mut [Engine],
     seq: u32,
-    name: &Name,
+    name: &[u8],
     table: &Table,
     now: u64,
     ticket: u64,
@@ -184,7 +184,7 @@ pub(crate) fn ask(
     chain_goes_on();
     ties_go_on();
     let place = place_of_call(calls, seq)?;
-    let at = place_of(engines, name)?;
+    let at = place_named(engines, name)?;
     let from = reached[place];
     if !reaches(calls, place, engines, from, at, table, now) {
         return None;

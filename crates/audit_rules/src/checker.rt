@@ -167,16 +167,27 @@ impl Checker {
 
     // Whether a call is refused at once whose ticket isn't below the cap.
     fn refuses_drawn(&self, what: &Happening) -> bool
-        ensures { (past : Behind) → LeavesOpen past self.now.left → IsTrue result ↔ RefusesDrawn past what.now }
+        ensures { (T : TheTable) (past : Behind) → Knows T past self.now → IsTrue result ↔ RefusesDrawn past what.now }
     {
-        match &self.left {
+        match self.left {
             Left::Over {
                 seq,
-                name,
+                at,
                 ticket,
                 cap,
-            } => is_over(what, *seq, name, *ticket, *cap),
+            } => self.refuses_over(what, seq, at, ticket, cap),
             Left::Nothing | Left::Waits { .. } => true,
+        }
+    }
+
+    // Whether the entry at a position refuses a call for its ticket.
+    fn refuses_over(&self, what: &Happening, seq: u32, at: usize, ticket: u64, cap: u64) -> bool
+        ensures { IfSome (slice_get self.now.engines.items at) (λ e. IsTrue result
+            ↔ (what.now ≡ Refused seq (cause.Quota e.entry.name ticket cap))) }
+    {
+        match self.engines.get(at) {
+            Some(engine) => is_over(what, seq, engine.name(), ticket, cap),
+            None => false,
         }
     }
 
@@ -221,15 +232,17 @@ impl Checker {
             Happening::Op(step) => self.operate(step),
             Happening::Moment { ms } => self.show(ms),
             Happening::Charged { seq, name, level } => {
-                self.note(table, seq, &name, Noted::Charged { level })
+                self.note(table, seq, name.as_slice(), Noted::Charged { level })
             }
             Happening::Drawn {
                 seq,
                 name,
                 window,
                 ticket,
-            } => self.draw(table, seq, name, window, ticket),
-            Happening::Counted { seq, name } => self.note(table, seq, &name, Noted::Counted),
+            } => self.draw(table, seq, name.as_slice(), window, ticket),
+            Happening::Counted { seq, name } => {
+                self.note(table, seq, name.as_slice(), Noted::Counted)
+            }
             Happening::Redacted { seq, name, version } => { self.clear(table, seq, &name, version) }
             Happening::Sent { seq, bytes } => self.send(table, seq, bytes),
             Happening::Refused { seq, cause } => self.refuse(table, seq, cause),
@@ -326,7 +339,7 @@ impl Checker {
 
 // The first of the rules that a happening breaks, by whether it keeps its own, refuses what was drawn, and keeps to a
 // failed link.
-fn first_of(own: Rule, kept: bool, drawn: bool, linked: bool) -> Option<Rule>
+pub(crate) fn first_of(own: Rule, kept: bool, drawn: bool, linked: bool) -> Option<Rule>
     ensures { result ≡ first_of own kept drawn linked }
 {
     if !kept && own == Rule::C {

@@ -13,9 +13,16 @@ use std::collections::VecDeque;
 pub(crate) fn place_of(engines: &[Engine], name: &Name) -> Option<usize>
     ensures { result ≡ position (λ e. is_named name.now e.entry) engines.now }
 {
+    place_named(engines, name.as_slice())
+}
+
+// The same, by the bytes of the name.
+pub(crate) fn place_named(engines: &[Engine], name: &[u8]) -> Option<usize>
+    ensures { result ≡ position (λ e. is_named name.now e.entry) engines.now }
+{
     engines
         .iter()
-        .position(|engine| engine.name().as_slice() == name.as_slice())
+        .position(|engine| engine.name().as_slice() == name)
 }
 
 // Puts an item at a position, for which there is room.

@@ -12,7 +12,7 @@ ghost use Rattle.engine_core.specs.Answers.{note, ticket_in};
 ghost use Rattle.engine_core.specs.Chains.{Entry};
 ghost use Rattle.engine_core.specs.Engines.{EngineParts};
 ghost use Rattle.engine_core.specs.Turns.{noted_in, refusal};
-ghost use Rattle.call_history.specs.Behind.{Behind, has_failed, policy_of};
+ghost use Rattle.call_history.specs.Behind.{Behind, chain, has_failed, policy_of};
 ghost use Rattle.call_history.specs.Events.{note_behind};
 ghost use Rattle.call_history.specs.Rules.{May};
 ghost use Rattle.call_history.specs.Rules.{IsAt, IsCalledFor, IsCleared, IsSentNext};
@@ -61,6 +61,33 @@ impl Checker {
         } }
         ensures room { HasRoom self.new }
     {
+        self.ask_named(table, seq, name.as_slice(), ticket)
+    }
+
+    // The same, by the bytes of the name.
+    fn ask_named(&mut self, table: &Table, seq: u32, name: &[u8], ticket: u64) -> Option<Asked>
+        requires knowing { IsKnowing table.now self.old }
+        requires free { IsFree self.old.left }
+        ensures asked { (past : Behind) → Knows table.now past self.old
+            → IfSome result (λ a. IsAsked (under table.now self.old) past self.old.attached seq name.now a self.old.calls
+            self.new.engines.items self.new.calls self.new.reached.items) }
+        ensures none { (past : Behind) → Knows table.now past self.old
+            → IfNone result ((e : Entry) → IsAt (under table.now self.old) past seq name.now e → ⊥) }
+        ensures drawn { IfSome result (λ a. (window drawn : ℕ) → noted_in a.outcome ≡ Noted.Drawn window drawn
+            → drawn ≡ ticket) }
+        ensures numbers { seqs_of self.new.calls ≡ seqs_of self.old.calls }
+        ensures entries { map (λ e. e.entry) self.new.engines.items ≡ map (λ e. e.entry) self.old.engines.items }
+        ensures of_table { All (λ s. IsCallOf table.now s.call) self.new.calls }
+        ensures places { length self.new.reached.items ≡ length self.old.reached.items }
+        ensures latest { self.new.latest ≡ self.old.latest }
+        ensures left { self.new.left ≡ self.old.left }
+        ensures rest { self.new ≡ record self.old {
+          engines = self.new.engines;
+          calls = self.new.calls;
+          reached = self.new.reached;
+        } }
+        ensures room { HasRoom self.new }
+    {
         ask(
             &mut self.calls,
             &mut self.reached,
@@ -74,7 +101,7 @@ impl Checker {
     }
 
     // A note of a call that isn't a ticket.
-    pub(crate) fn note(&mut self, table: &Table, seq: u32, name: &Name, noted: Noted) -> bool
+    pub(crate) fn note(&mut self, table: &Table, seq: u32, name: &[u8], noted: Noted) -> bool
         requires knowing { IsKnowing table.now self.old }
         requires free { IsFree self.old.left }
         requires noted { noted ≢ Noted.Nothing }
@@ -90,7 +117,7 @@ impl Checker {
     {
         one_answer();
         chain_goes_on();
-        let Some(asked) = self.ask(table, seq, name, 0) else {
+        let Some(asked) = self.ask_named(table, seq, name, 0) else {
             return false;
         };
         if noted_in(asked.outcome) != noted {
@@ -124,24 +151,24 @@ impl Checker {
         &mut self,
         table: &Table,
         seq: u32,
-        name: Name,
+        name: &[u8],
         window: u64,
         ticket: u64,
     ) -> bool
         requires knowing { IsKnowing table.now self.old }
         requires free { IsFree self.old.left }
         ensures due { (past : Behind) → Knows table.now past self.old
-            → OnTrue result (IsCalledFor (under table.now self.old) past seq name (Noted.Drawn window ticket)) }
+            → OnTrue result (IsCalledFor (under table.now self.old) past seq name.now (Noted.Drawn window ticket)) }
         ensures not_due { (past : Behind) → Knows table.now past self.old
-            → OnFalse result (IsCalledFor (under table.now self.old) past seq name (Noted.Drawn window ticket) → ⊥) }
+            → OnFalse result (IsCalledFor (under table.now self.old) past seq name.now (Noted.Drawn window ticket) → ⊥) }
         ensures knows { (past : Behind) → Knows table.now past self.old
-            → May (under table.now self.old) past (Drawn seq name window ticket)
-            → OnTrue result (Knows table.now (Drawn seq name window ticket ∷ past) self.new) }
+            → May (under table.now self.old) past (Drawn seq name.now window ticket)
+            → OnTrue result (Knows table.now (Drawn seq name.now window ticket ∷ past) self.new) }
         ensures same { (T : TheTable) → under T self.new ≡ under T self.old }
     {
         one_answer();
         chain_goes_on();
-        let Some(asked) = self.ask(table, seq, &name, ticket) else {
+        let Some(asked) = self.ask_named(table, seq, name, ticket) else {
             return false;
         };
         if noted_in(asked.outcome) != (Noted::Drawn { window, ticket }) {
@@ -150,41 +177,43 @@ impl Checker {
         if !self.is_next(&asked, seq) {
             return false;
         }
-        self.settle(&asked, seq, name, ticket);
+        self.settle(&asked, seq, ticket);
         true
     }
 
     // A call for which a ticket was drawn passes the entry where the ticket is below the cap, and waits for its refusal
     // where it isn't.
-    fn settle(&mut self, asked: &Asked, seq: u32, name: Name, ticket: u64)
+    fn settle(&mut self, asked: &Asked, seq: u32, ticket: u64)
         requires engine { asked.now.at < length self.old.engines.items }
         requires few { length self.old.engines.items ≤ 8 }
         requires place { asked.now.place < length self.old.reached.items }
         ensures rest { self.new ≡ record self.old { left = self.new.left; reached = self.new.reached } }
         ensures free { IsFree self.old.left → IsFree self.new.left }
         ensures left { (past : Behind) (window : ℕ) → self.old.left ≡ Nothing
-            → IfSome (slice_get self.old.engines.items asked.now.at) (λ e. policy_of name past ≡ Some e.entry.policy
-            → LeavesOpen (Drawn seq name window ticket ∷ past) self.new.left) }
+            → IfSome (slice_get self.old.engines.items asked.now.at) (λ e. policy_of e.entry.name past ≡ Some e.entry.policy
+            → slice_get (chain past).entries asked.now.at ≡ Some e.entry
+            → LeavesOpen (Drawn seq e.entry.name window ticket ∷ past) self.new.left) }
         ensures capacity { deque_capacity self.new.reached ≡ deque_capacity self.old.reached }
         ensures reached { (self.new.reached.items ≡ self.old.reached.items)
             ⊎ ((self.new.reached.items ≡ set self.old.reached.items asked.now.place (asked.now.at + 1))
             × ((e : EngineParts) (cap : ℕ) → slice_get self.old.engines.items asked.now.at ≡ Some e
             → cap_of e.entry.policy ≡ Some cap → ticket < cap)) }
     {
-        if self.awaits_refusal(asked.at, seq, name, ticket) {
+        if self.awaits_refusal(asked.at, seq, ticket) {
             return;
         }
         self.reached[asked.place] = asked.at + 1;
     }
 
     // Whether the ticket of a call isn't below the cap; then it waits for its refusal.
-    fn awaits_refusal(&mut self, at: usize, seq: u32, name: Name, ticket: u64) -> bool
+    fn awaits_refusal(&mut self, at: usize, seq: u32, ticket: u64) -> bool
         requires { at < length self.old.engines.items }
         ensures rest { self.new ≡ record self.old { left = self.new.left } }
         ensures free { IsFree self.old.left → IsFree self.new.left }
         ensures left { (past : Behind) (window : ℕ) → self.old.left ≡ Nothing
-            → IfSome (slice_get self.old.engines.items at) (λ e. policy_of name past ≡ Some e.entry.policy
-            → LeavesOpen (Drawn seq name window ticket ∷ past) self.new.left) }
+            → IfSome (slice_get self.old.engines.items at) (λ e. policy_of e.entry.name past ≡ Some e.entry.policy
+            → slice_get (chain past).entries at ≡ Some e.entry
+            → LeavesOpen (Drawn seq e.entry.name window ticket ∷ past) self.new.left) }
         ensures below { OnFalse result ((e : EngineParts) (cap : ℕ) → slice_get self.old.engines.items at ≡ Some e
             → cap_of e.entry.policy ≡ Some cap → ticket < cap) }
     {
@@ -196,7 +225,7 @@ impl Checker {
         }
         self.left = Left::Over {
             seq,
-            name,
+            at,
             ticket,
             cap,
         };

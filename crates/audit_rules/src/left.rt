@@ -1,7 +1,5 @@
 //! What a happening leaves open.
 
-use mrpc_table::Name;
-
 /// What the last happening leaves open, other than the refusals of a failed link.
 #[derive(Drop)]
 pub enum Left {
@@ -10,10 +8,10 @@ pub enum Left {
     Waits {
         seq: u32,
     },
-    /// A call whose ticket isn't below the cap waits for its refusal.
+    /// A call whose ticket isn't below the cap waits for its refusal by the entry at a position.
     Over {
         seq: u32,
-        name: Name,
+        at: usize,
         ticket: u64,
         cap: u64,
     },

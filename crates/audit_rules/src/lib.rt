@@ -11,6 +11,7 @@
 #![tactic(auto)]
 
 mod ask;
+mod brief;
 mod changes;
 mod checker;
 mod drawn;

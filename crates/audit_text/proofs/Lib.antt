@@ -1,3 +1,4 @@
+mod Briefs
 mod Bytes
 mod Causes
 mod CopyLines

@@ -74,7 +74,7 @@ front-same a b e = sym (front-of a) ∙ ap front e ∙ front-of b
 text-words : (text : List ℕ) → text ≡ spaced (words_of text)
 text-words text = sym (join_with_byte-slice_split 32 text)
 
-bytes-told : (T : Table) (all text : List ℕ) (x : AuditLine) → all ≡ text ++ 10 ∷ [] → words_of text ≡ line_words T x → all ≡ bytes_of T x
+pub bytes-told : (T : Table) (all text : List ℕ) (x : AuditLine) → all ≡ text ++ 10 ∷ [] → words_of text ≡ line_words T x → all ≡ bytes_of T x
 bytes-told T all text x is e = is ∙ ap (λ l. l ++ 10 ∷ []) (text-words text ∙ ap spaced e) ∙ sym (bytes-line T x)
 
 pub whole-told : (T : Table) (declared : Declared) (all text : List ℕ) (r : Result (Option AuditLine) Memory)

@@ -1,3 +1,4 @@
+pub mod Briefs
 pub mod Copies
 pub mod Faults
 pub mod Hexadecimal

@@ -101,8 +101,15 @@ fn malformed(rest: Rest<'_>) -> Option<TookCopy>
     })
 }
 
-// The message whose encoding is these bytes. What they mean is encoded again, so that no other bytes are taken.
-fn meant(alloc: Global, bytes: &[u8], table: &Table, message: u32) -> Result<Option<Tree>, Memory>
+// The message whose encoding is these bytes. What they mean is encoded again, in the room of `out`, so that no other
+// bytes are taken.
+fn meant(
+    alloc: Global,
+    out: &mut Output,
+    bytes: &[u8],
+    table: &Table,
+    message: u32,
+) -> Result<Option<Tree>, Memory>
     requires valid { IsValid table.now }
     requires known { message < length table.now.messages }
     ensures { Reads (IsCopied table.now message) (λ t. encoding table.now message t ∷ []) (bytes.now ∷ []) result }
@@ -110,7 +117,7 @@ fn meant(alloc: Global, bytes: &[u8], table: &Table, message: u32) -> Result<Opt
     let Some(tree) = decoded(alloc, bytes, table, message)? else {
         return Ok(None);
     };
-    if is_encoding(alloc, bytes, &tree, table, message)? {
+    if is_encoding(out, bytes, &tree, table, message)? {
         Ok(Some(tree))
     } else {
         Ok(None)
@@ -135,7 +142,7 @@ fn decoded(alloc: Global, bytes: &[u8], table: &Table, message: u32) -> Result<O
 
 // Whether bytes are the encoding of a message.
 fn is_encoding(
-    alloc: Global,
+    out: &mut Output,
     bytes: &[u8],
     tree: &Tree,
     table: &Table,
@@ -146,14 +153,14 @@ fn is_encoding(
     requires normal { IsNormal table.now message tree.now }
     ensures { IfOk result (λ same. same ≡ bytes_eq bytes.now (encoding table.now message tree.now)) }
 {
-    let mut out = Output::new(alloc)?;
-    encode_into(&mut out, tree, table, message)?;
+    encode_into(out, tree, table, message)?;
     Ok(bytes == out.as_slice())
 }
 
 // The message whose encoding a word spells, whose bytes are put into a row that is long enough.
 fn spelled(
     alloc: Global,
+    out: &mut Output,
     row: &mut [u8],
     word: &[u8],
     table: &Table,
@@ -166,13 +173,19 @@ fn spelled(
         (word.now ∷ []) result }
 {
     match read_bytes(row, word) {
-        Some(count) => meant(alloc, &row[..count], table, message),
+        Some(count) => meant(alloc, out, &row[..count], table, message),
         None => Ok(None),
     }
 }
 
 // The message whose encoding a word spells.
-fn copied(alloc: Global, word: &[u8], table: &Table, message: u32) -> Result<Option<Tree>, Memory>
+fn copied(
+    alloc: Global,
+    out: &mut Output,
+    word: &[u8],
+    table: &Table,
+    message: u32,
+) -> Result<Option<Tree>, Memory>
     requires valid { IsValid table.now }
     requires known { message < length table.now.messages }
     ensures { Reads (IsCopied table.now message) (λ t. hex_word (encoding table.now message t) ∷ [])
@@ -180,15 +193,16 @@ fn copied(alloc: Global, word: &[u8], table: &Table, message: u32) -> Result<Opt
 {
     if word.len() > 2 * ROOM {
         let mut longer = vec![in alloc; 0u8; word.len() / 2 + 1]?;
-        return spelled(alloc, &mut longer, word, table, message);
+        return spelled(alloc, out, &mut longer, word, table, message);
     }
     let mut row = [0; ROOM];
-    spelled(alloc, &mut row, word, table, message)
+    spelled(alloc, out, &mut row, word, table, message)
 }
 
 // The word of a copy, as the last one. (No other text spells an encoding: no space is a digit.)
 fn copy_at(
     alloc: Global,
+    out: &mut Output,
     rest: Rest<'_>,
     table: &Table,
     message: u32,
@@ -200,13 +214,14 @@ fn copy_at(
 {
     match rest {
         None => Ok(None),
-        Some(text) => copied(alloc, text, table, message),
+        Some(text) => copied(alloc, out, text, table, message),
     }
 }
 
 // What was taken of a call of a method. A copy has a method that the table has.
 fn copy(
     alloc: Global,
+    out: &mut Output,
     rest: Rest<'_>,
     table: &Table,
     method: u16,
@@ -227,21 +242,26 @@ fn copy(
         return Ok(None);
     }
     let message = table.message_at(method, number);
-    match copy_at(alloc, rest, table, message)? {
+    match copy_at(alloc, out, rest, table, message)? {
         None => Ok(None),
         Some(tree) => Ok(Some(TookCopy::Copy { tree })),
     }
 }
 
 /// An accepted call.
-pub(crate) fn taken(alloc: Global, rest: Rest<'_>, table: &Table) -> Result<Option<Taken>, Memory>
+pub(crate) fn taken(
+    alloc: Global,
+    out: &mut Output,
+    rest: Rest<'_>,
+    table: &Table,
+) -> Result<Option<Taken>, Memory>
     requires { IsValid table.now }
     ensures { Reads (IsAcceptance table.now) (taken_words table.now) (words_in rest.entry) result }
 {
     let Some((head, rest)) = numbers(rest) else {
         return Ok(None);
     };
-    match copy(alloc, rest, table, head.method, head.number)? {
+    match copy(alloc, out, rest, table, head.method, head.number)? {
         None => Ok(None),
         Some(copy) => Ok(Some(Taken {
             seq: head.seq,

@@ -21,6 +21,7 @@ mod line;
 mod reading;
 mod record;
 mod row;
+mod short_line;
 mod step;
 mod what;
 mod word;
@@ -34,7 +35,7 @@ pub use laws::{
 pub use line::{AuditLine, read_line};
 pub use reading::{AuditFault, read_audit};
 pub use record::append_record;
+pub use short_line::{Brief, BriefLine, read_brief};
 pub use writing::{
     append_audit_line, append_hex_word, append_stands_line, append_took_line, audit_line,
-    encoded_copy,
 };

@@ -21,6 +21,7 @@ use call_history::{Happened, Happening};
 use mrpc_table::{Memory, Name, Table, is_name_form};
 use policy_blocks::Declarations;
 use std::alloc::Global;
+use wire_encode::Output;
 
 /// A line of an audit text.
 #[derive(Drop)]
@@ -98,6 +99,7 @@ fn stands(alloc: Global, conn: u32, rest: Rest<'_>) -> Result<Option<AuditLine>,
 // A happening of a kind, by the words behind the connection.
 fn what(
     alloc: Global,
+    encoding: &mut Output,
     kind: Kind,
     rest: Rest<'_>,
     table: &Table,
@@ -108,7 +110,7 @@ fn what(
         (words_in rest.entry) result }
 {
     match kind {
-        Kind::Took => match taken(alloc, rest, table)? {
+        Kind::Took => match taken(alloc, encoding, rest, table)? {
             None => Ok(None),
             Some(call) => Ok(Some(Happening::Took(call))),
         },
@@ -130,6 +132,7 @@ fn what(
 // A line, by its words.
 fn line_of(
     alloc: Global,
+    encoding: &mut Output,
     text: &[u8],
     table: &Table,
     declared: &Declarations,
@@ -149,14 +152,14 @@ fn line_of(
     let Some(kind) = Kind::of_word(word) else {
         return Ok(None);
     };
-    match what(alloc, kind, rest, table, declared)? {
+    match what(alloc, encoding, kind, rest, table, declared)? {
         None => Ok(None),
         Some(what) => Ok(Some(AuditLine::Happened(Happened { conn, what }))),
     }
 }
 
 // What stands before the line feed at the end.
-fn before_feed(line: &[u8]) -> Option<&[u8]>
+pub(crate) fn before_feed(line: &[u8]) -> Option<&[u8]>
     ensures { MatchOption result ((front : List ℕ) → line.now ≡ front ++ 10 ∷ [] → ⊥)
         (λ text. line.now ≡ text.now ++ 10 ∷ []) }
 {
@@ -171,9 +174,11 @@ fn before_feed(line: &[u8]) -> Option<&[u8]>
 /// `None` comes exactly where they are no line that can be written: hexadecimal digits are lower-case, and those of the
 /// encoding of a normal tree of the method's message, numbers are decimal without sign or leading zero and in the
 /// ranges of their types, names have their form, and a step's label is one that was declared. The only error is
-/// `Memory`.
+/// `Memory`. Copies are encoded in the room of `encoding`, whatever stands in it, so that many lines take memory for it
+/// once.
 pub fn read_line(
     alloc: Global,
+    encoding: &mut Output,
     line: &[u8],
     table: &Table,
     declared: &Declarations,
@@ -190,5 +195,5 @@ pub fn read_line(
     let Some(text) = before_feed(line) else {
         return Ok(None);
     };
-    line_of(alloc, text, table, declared)
+    line_of(alloc, encoding, text, table, declared)
 }

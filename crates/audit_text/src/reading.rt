@@ -16,6 +16,7 @@ use mrpc_table::{Memory, Sequence, Table, cut};
 use policy_blocks::Declarations;
 use std::alloc::Global;
 use thiserror::Error;
+use wire_encode::Output;
 
 /// Why a text isn't read as a history.
 #[derive(Clone, Copy, Debug, PartialEq, Eq, Error)]
@@ -74,6 +75,7 @@ fn happening_in(line: Option<AuditLine>) -> Option<Happened>
 // The happening whose line stands at the front of a text, and what stands behind it; none where no such line does.
 fn front_happening<'a>(
     alloc: Global,
+    encoding: &mut Output,
     text: &'a [u8],
     table: &Table,
     declared: &Declarations,
@@ -87,7 +89,7 @@ fn front_happening<'a>(
 {
     a_line_is_cut_into_its_words();
     let (line, behind) = first_line(text);
-    match happening_in(read_line(alloc, line, table, declared)?) {
+    match happening_in(read_line(alloc, encoding, line, table, declared)?) {
         None => Ok(None),
         Some(happened) => Ok(Some((happened, behind))),
     }
@@ -112,9 +114,11 @@ pub fn read_audit(
 {
     a_text_has_one_history();
     let mut history = Sequence::new(alloc);
+    let mut encoding = Output::new(alloc)?;
     let mut rest = text;
     while !rest.is_empty() {
-        let Some((happened, behind)) = front_happening(alloc, rest, table, declared)? else {
+        let Some((happened, behind)) = front_happening(alloc, &mut encoding, rest, table, declared)?
+        else {
             return Err(AuditFault::Bad {
                 line: history.len() as u64 + 1,
             });

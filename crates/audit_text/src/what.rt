@@ -92,7 +92,7 @@ pub(crate) fn sent(rest: Rest<'_>) -> Option<Happening>
 
 // `SEQ NAME`, and what is left.
 #[tactic(auto, unfolding(crate::specs::Said::noted_said))]
-fn noted(rest: Rest<'_>) -> Option<(u32, &[u8], Rest<'_>)>
+pub(crate) fn noted(rest: Rest<'_>) -> Option<(u32, &[u8], Rest<'_>)>
     ensures { option_map (λ p. (p.0, p.1.now, words_in p.2)) result ≡ noted_said (words_in rest.entry) }
 {
     let (seq, rest) = number32(rest)?;

@@ -53,10 +53,14 @@ pub(crate) fn end(rest: Rest<'_>) -> Option<()>
     }
 }
 
+// Most numbers have one to four digits, and a call whose result has several words costs as much as some digits. So what
+// reads a number stands where it is read, but for the way of other words.
+
 // So many digits spell a number of 64 bits, whichever they are.
 const FEW_DIGITS: usize = 19;
 
 // Whether digits are a number: there are some, and no zero stands in front of others.
+#[inline(always)]
 fn is_number(digits: &[u8]) -> bool
     requires { list_all is_ascii_digit digits.now ≡ true }
     ensures { result ≡ is_decimal digits.now }
@@ -69,6 +73,7 @@ fn is_number(digits: &[u8]) -> bool
 
 // The number that the first digits of a text spell, at most 19 of them, and what stands behind these; none where they
 // are no number.
+#[inline(always)]
 fn front_number(text: &[u8]) -> Option<(u64, &[u8])>
     ensures { IfSome result (λ r. IsNumberBefore text.now r.0 r.1.now) }
 {
@@ -86,6 +91,7 @@ fn front_number(text: &[u8]) -> Option<(u64, &[u8])>
 }
 
 // What stands behind the space with which a text begins.
+#[inline(always)]
 fn behind_space(text: &[u8]) -> Option<&[u8]>
     ensures { IfSome result (λ r. text.now ≡ 32 ∷ r.now) }
 {
@@ -96,6 +102,7 @@ fn behind_space(text: &[u8]) -> Option<&[u8]>
 }
 
 // A number of few digits as the first word, and what is left. None where the first word is another.
+#[inline(always)]
 fn short_number(text: &[u8]) -> Option<(u64, Rest<'_>)>
     ensures { IfSome result (λ p. number_said (2 ^ 64) (words_of text.now) ≡ Some (p.0, words_in p.1)) }
 {
@@ -108,6 +115,7 @@ fn short_number(text: &[u8]) -> Option<(u64, Rest<'_>)>
 }
 
 // A number of 64 bits, by its whole word.
+#[inline(never)]
 #[tactic(auto, unfolding(crate::specs::Reading::number_said))]
 fn any_number(rest: Rest<'_>) -> Option<(u64, Rest<'_>)>
     ensures { option_map (λ p. (p.0, words_in p.1)) result ≡ number_said (2 ^ 64) (words_in rest.entry) }
@@ -120,6 +128,7 @@ fn any_number(rest: Rest<'_>) -> Option<(u64, Rest<'_>)>
 }
 
 /// A number of 64 bits. (Most words of an audit are short numbers, whose digits are looked at once.)
+#[inline(always)]
 #[tactic(auto, unfolding(crate::specs::Reading::number_said))]
 pub(crate) fn number64(rest: Rest<'_>) -> Option<(u64, Rest<'_>)>
     ensures { option_map (λ p. (p.0, words_in p.1)) result ≡ number_said (2 ^ 64) (words_in rest.entry) }
@@ -131,6 +140,7 @@ pub(crate) fn number64(rest: Rest<'_>) -> Option<(u64, Rest<'_>)>
 }
 
 /// A number of 32 bits.
+#[inline(always)]
 pub(crate) fn number32(rest: Rest<'_>) -> Option<(u32, Rest<'_>)>
     ensures { option_map (λ p. (p.0, words_in p.1)) result ≡ number_said (2 ^ 32) (words_in rest.entry) }
 {
@@ -142,6 +152,7 @@ pub(crate) fn number32(rest: Rest<'_>) -> Option<(u32, Rest<'_>)>
 }
 
 /// A number of 16 bits.
+#[inline(always)]
 pub(crate) fn number16(rest: Rest<'_>) -> Option<(u16, Rest<'_>)>
     ensures { option_map (λ p. (p.0, words_in p.1)) result ≡ number_said (2 ^ 16) (words_in rest.entry) }
 {
@@ -153,6 +164,7 @@ pub(crate) fn number16(rest: Rest<'_>) -> Option<(u16, Rest<'_>)>
 }
 
 /// A number of 64 bits, as the last word.
+#[inline(always)]
 #[tactic(auto, unfolding(crate::specs::Reading::last_said))]
 pub(crate) fn last64(rest: Rest<'_>) -> Option<u64>
     ensures { result ≡ last_said (2 ^ 64) (words_in rest.entry) }

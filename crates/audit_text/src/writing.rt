@@ -15,7 +15,7 @@ use call_history::{Cause, Happened, Happening, Taken, TookCopy};
 use engine_core::Op;
 use mrpc_table::{Bytes, Memory, Table};
 use std::alloc::Global;
-use wire_encode::encode;
+use wire_encode::{Output, encode_into};
 
 // How many bytes are made in a row, before they are appended at once. What is longer is appended word by word.
 const ROOM: usize = 128;
@@ -44,7 +44,10 @@ pub fn append_audit_line(
 {
     let conn = happened.conn;
     match &happened.what {
-        Happening::Took(call) => append_took(alloc, out, conn, call, table),
+        Happening::Took(call) => {
+            let mut encoding = Output::new(alloc)?;
+            append_took(alloc, out, &mut encoding, conn, call, table)
+        }
         Happening::Away {
             method,
             number,
@@ -105,6 +108,7 @@ pub fn append_audit_line(
 pub(crate) fn append_took(
     alloc: Global,
     out: &mut Bytes,
+    encoding: &mut Output,
     conn: u32,
     call: &Taken,
     table: &Table,
@@ -113,22 +117,13 @@ pub(crate) fn append_took(
     requires fits { FitsCall table.now call.now call.now.copy }
     ensures { OnOk result (out.new ≡ out.old ++ audit_line table.now (record { conn = conn; what = Took call.now })) }
 {
-    let encoding = encoded_copy(alloc, call, table)?;
-    append_took_line(alloc, out, conn, call, encoding.as_slice())
-}
-
-/// The encoding of an accepted call's copy; nothing where the call is malformed. The only error is `Memory`.
-pub fn encoded_copy(alloc: Global, call: &Taken, table: &Table) -> Result<Bytes, Memory>
-    requires valid { IsValid table.now }
-    requires fits { FitsCall table.now call.now call.now.copy }
-    ensures { IfOk result (λ bytes. bytes ≡ encoding_of table.now call.now call.now.copy) }
-{
     match &call.copy {
         TookCopy::Copy { tree } => {
             let message = table.message_at(call.method, call.number);
-            encode(alloc, tree, table, message)
+            encode_into(encoding, tree, table, message)?;
+            append_took_line(alloc, out, conn, call, encoding.as_slice())
         }
-        TookCopy::Malformed { .. } => Ok(Bytes::new(alloc)),
+        TookCopy::Malformed { .. } => append_took_line(alloc, out, conn, call, &[]),
     }
 }
 

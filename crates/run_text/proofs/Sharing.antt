@@ -138,7 +138,10 @@ module _ (κ : NamedLft) where
                   word w64,
                   (
                     search sendable,
-                    (output.the_sync, tt),
+                    (
+                      output.the_sync,
+                      (search (crosses, sendable) depth 20, tt),
+                    ),
                   ),
                 ),
               ),

@@ -8,6 +8,7 @@ use conn_core::Conn;
 use connection_text::{append_happened, append_standing};
 use mrpc_table::{Bytes, Memory, Table};
 use std::alloc::Global;
+use wire_encode::Output;
 
 /// Appends the audit of all that happened on a connection, by its own table. The only error is `Memory`.
 pub fn append_history(
@@ -20,8 +21,9 @@ pub fn append_history(
     requires same { calls.now.table ≡ table.now }
     ensures { OnOk result (out.new ≡ out.old ++ history_lines calls.now) }
 {
+    let mut encoding = Output::new(alloc)?;
     for place in 0..calls.history().len() {
-        append_happened(alloc, out, calls, place, table)?;
+        append_happened(alloc, out, &mut encoding, calls, place, table)?;
     }
     Ok(())
 }

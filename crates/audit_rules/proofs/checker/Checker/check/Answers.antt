@@ -30,7 +30,7 @@ returns-clause-may c = λ past knows.
     subst (λ (r : Option Rule). IfNone r (May (under c.args.table.now c.args.self.now) past c.args.what)) (sym by)
     (may-come (under c.args.table.now c.args.self.now) past c.args.what ((c.is_numbered.ensures past knows).0 c.if-not-is_numbered.false)
     ((c.refuses_malformed.ensures past knows.left).0 c.if-not-refuses_malformed.false) c.meets-kept.result c.refuses_drawn-drawn.result c.keeps_link-linked.result
-    (c.meets-kept.ensures.kept past knows) (c.refuses_drawn-drawn.ensures past knows.left) (c.keeps_link-linked.ensures c.args.table.now past knows)))
+    (c.meets-kept.ensures.kept past knows) (c.refuses_drawn-drawn.ensures c.args.table.now past knows) (c.keeps_link-linked.ensures c.args.table.now past knows)))
 
 pub returns-clause-breaks : goal.returns-clause-breaks
 returns-clause-breaks c = λ past knows.
@@ -39,7 +39,7 @@ returns-clause-breaks c = λ past knows.
     (breaks-first (under c.args.table.now c.args.self.now) past c.args.what ((c.is_numbered.ensures past knows).0 c.if-not-is_numbered.false)
     ((c.refuses_malformed.ensures past knows.left).0 c.if-not-refuses_malformed.false) c.meets-kept.result c.refuses_drawn-drawn.result c.keeps_link-linked.result
     (c.meets-kept.ensures.kept past knows) (c.meets-kept.ensures.broken past knows)
-    (c.refuses_drawn-drawn.ensures past knows.left) (c.keeps_link-linked.ensures c.args.table.now past knows)))
+    (c.refuses_drawn-drawn.ensures c.args.table.now past knows) (c.keeps_link-linked.ensures c.args.table.now past knows)))
 
 pub returns-clause-knows : goal.returns-clause-knows
 returns-clause-knows c = λ past knows.
@@ -50,4 +50,4 @@ returns-clause-knows c = λ past knows.
     c.refuses_drawn-drawn.result c.keeps_link-linked.result (c.meets-kept.ensures.knows past knows)
     (may-come (under c.args.table.now c.args.self.now) past c.args.what ((c.is_numbered.ensures past knows).0 c.if-not-is_numbered.false)
     ((c.refuses_malformed.ensures past knows.left).0 c.if-not-refuses_malformed.false) c.meets-kept.result c.refuses_drawn-drawn.result c.keeps_link-linked.result
-    (c.meets-kept.ensures.kept past knows) (c.refuses_drawn-drawn.ensures past knows.left) (c.keeps_link-linked.ensures c.args.table.now past knows))))
+    (c.meets-kept.ensures.kept past knows) (c.refuses_drawn-drawn.ensures c.args.table.now past knows) (c.keeps_link-linked.ensures c.args.table.now past knows))))

@@ -22,8 +22,8 @@ pub returns-then-ne-clause-not_due : goal.returns-then-ne-clause-not_due
 returns-then-ne-clause-not_due c = λ past knows due.
     (let is = answer-noted c.in-Some.asked.outcome c.args.noted
     (met (under c.args.table.now c.args.self.now) past c.args.self.now.attached c.args.seq c.args.name.now
-    c.in-Some.asked c.args.self.now.calls c.ask.new.self.engines.items c.ask.new.self.calls
-    c.ask.new.self.reached.items (c.in-Some.ensures.asked past knows) c.one_answer.ensures.at_most _
+    c.in-Some.asked c.args.self.now.calls c.ask_named.new.self.engines.items c.ask_named.new.self.calls
+    c.ask_named.new.self.reached.items (c.in-Some.ensures.asked past knows) c.one_answer.ensures.at_most _
     c.requires.no_ticket due.meets) in
     grind (arith, common_steps, is, c.noted_in.ensures, c.ne.ensures, c.if-ne.true))
 
@@ -32,68 +32,68 @@ is_next-requires c =
     let past = c.requires.knowing.0 in
     let knows = c.requires.knowing.1 in
     let at = asked-latest c.args.table.now past c.args.self.now c.args.seq c.args.name.now c.in-Some.asked
-    c.ask.new.self.engines.items c.ask.new.self.calls c.ask.new.self.reached.items
+    c.ask_named.new.self.engines.items c.ask_named.new.self.calls c.ask_named.new.self.reached.items
     (c.in-Some.ensures.asked past knows) knows in
-    omega (arith, at, ap (λ v. length v.items) c.ask.ensures.latest)
+    omega (arith, at, ap (λ v. length v.items) c.ask_named.ensures.latest)
 
 pub returns-then-not-is_next-clause-not_due : goal.returns-then-not-is_next-clause-not_due
 returns-then-not-is_next-clause-not_due c = λ past knows due.
-    (let more : c.args.seq ≤ get_or c.ask.new.self.latest.items c.in-Some.asked.at 0 = c.if-not-is_next.ensures.not_next in
+    (let more : c.args.seq ≤ get_or c.ask_named.new.self.latest.items c.in-Some.asked.at 0 = c.if-not-is_next.ensures.not_next in
     not-called (under c.args.table.now c.args.self.now) past c.args.self.now.attached c.args.seq c.args.name.now
-    c.in-Some.asked c.args.self.now.calls c.ask.new.self.engines.items c.ask.new.self.calls
-    c.ask.new.self.reached.items (c.in-Some.ensures.asked past knows) c.args.noted
-    (get_or c.ask.new.self.latest.items c.in-Some.asked.at 0)
+    c.in-Some.asked c.args.self.now.calls c.ask_named.new.self.engines.items c.ask_named.new.self.calls
+    c.ask_named.new.self.reached.items (c.in-Some.ensures.asked past knows) c.args.noted
+    (get_or c.ask_named.new.self.latest.items c.in-Some.asked.at 0)
     (asked-some c.args.table.now past c.args.self.now c.args.seq c.args.name.now c.in-Some.asked
-    c.ask.new.self.engines.items c.ask.new.self.calls c.ask.new.self.reached.items
+    c.ask_named.new.self.engines.items c.ask_named.new.self.calls c.ask_named.new.self.reached.items
     (c.in-Some.ensures.asked past knows) knows c.requires.free)
-    (rw c.ask.ensures.latest
+    (rw c.ask_named.ensures.latest
     (latest-at c.args.table.now past c.args.self.now c.args.seq c.args.name.now c.in-Some.asked
-    c.ask.new.self.engines.items c.ask.new.self.calls c.ask.new.self.reached.items
+    c.ask_named.new.self.engines.items c.ask_named.new.self.calls c.ask_named.new.self.reached.items
     (c.in-Some.ensures.asked past knows) knows)) more due)
 
 pub index_mut-requires : goal.index_mut-requires
 index_mut-requires c = omega (
   arith,
-  asked-reached c.args.table.now c.requires.knowing.0 c.args.self.now c.args.seq c.args.name.now c.in-Some.asked c.ask.new.self.engines.items c.ask.new.self.calls
-      c.ask.new.self.reached.items (c.in-Some.ensures.asked c.requires.knowing.0 c.requires.knowing.1),
+  asked-reached c.args.table.now c.requires.knowing.0 c.args.self.now c.args.seq c.args.name.now c.in-Some.asked c.ask_named.new.self.engines.items c.ask_named.new.self.calls
+      c.ask_named.new.self.reached.items (c.in-Some.ensures.asked c.requires.knowing.0 c.requires.knowing.1),
   ap (λ (d : Checker). length d.reached.items) c.is_next.ensures.rest,
 )
 
 pub returns-clause-due : goal.returns-clause-due
 returns-clause-due c = λ past knows.
-    (let less : get_or c.ask.new.self.latest.items c.in-Some.asked.at 0 < c.args.seq = c.if-not-is_next.ensures.next in
+    (let less : get_or c.ask_named.new.self.latest.items c.in-Some.asked.at 0 < c.args.seq = c.if-not-is_next.ensures.next in
     let noted : noted_in c.in-Some.asked.outcome ≡ c.args.noted = grind (arith, common_steps, c.noted_in.ensures, c.ne.ensures, c.if-ne.false) in
     called-for (under c.args.table.now c.args.self.now) past c.args.self.now.attached c.args.seq c.args.name.now
-    c.in-Some.asked c.args.self.now.calls c.ask.new.self.engines.items c.ask.new.self.calls
-    c.ask.new.self.reached.items (c.in-Some.ensures.asked past knows) c.args.noted
-    (get_or c.ask.new.self.latest.items c.in-Some.asked.at 0)
+    c.in-Some.asked c.args.self.now.calls c.ask_named.new.self.engines.items c.ask_named.new.self.calls
+    c.ask_named.new.self.reached.items (c.in-Some.ensures.asked past knows) c.args.noted
+    (get_or c.ask_named.new.self.latest.items c.in-Some.asked.at 0)
     (noted-answer c.in-Some.asked.outcome c.args.noted noted c.requires.noted)
-    (rw c.ask.ensures.latest
+    (rw c.ask_named.ensures.latest
     (latest-at c.args.table.now past c.args.self.now c.args.seq c.args.name.now c.in-Some.asked
-    c.ask.new.self.engines.items c.ask.new.self.calls c.ask.new.self.reached.items
+    c.ask_named.new.self.engines.items c.ask_named.new.self.calls c.ask_named.new.self.reached.items
     (c.in-Some.ensures.asked past knows) knows)) less)
 
 pub returns-clause-knows : goal.returns-clause-knows
 returns-clause-knows c =
     let noted : noted_in c.in-Some.asked.outcome ≡ c.args.noted = grind (arith, common_steps, c.noted_in.ensures, c.ne.ensures, c.if-ne.false) in
     λ past what knows is may.
-    (let less : get_or c.ask.new.self.latest.items c.in-Some.asked.at 0 < c.args.seq = c.if-not-is_next.ensures.next in
+    (let less : get_or c.ask_named.new.self.latest.items c.in-Some.asked.at 0 < c.args.seq = c.if-not-is_next.ensures.next in
     let asked = c.in-Some.ensures.asked past knows in
     let distinct = (c.chain_goes_on.ensures.is_chain (under c.args.table.now c.args.self.now) past knows.row.prefix).names in
     let nothing : c.args.self.now.left ≡ Nothing =
     not-left past what c.args.self.now.left knows.left may.malformed may.drawn_refused
     (note-other past c.args.name.now c.args.seq c.args.noted what c.requires.noted is) in
-    let kept : c.is_next.new.self.left ≡ c.args.self.now.left = ap (λ (d : Checker). d.left) c.is_next.ensures.rest ∙ c.ask.ensures.left in
-    let places : c.is_next.new.self.reached ≡ c.ask.new.self.reached = ap (λ (d : Checker). d.reached) c.is_next.ensures.rest in
-    knows-noted c.args.table.now past c.args.self.now c.ask.new.self c.args.seq c.args.name.now c.in-Some.asked knows
-    c.requires.free asked c.ask.ensures.rest c.ask.ensures.room c.ask.ensures.numbers c.ask.ensures.entries c.ask.ensures.of_table
-    distinct _ what may c.args.noted (noted-on c.ask.new.self c.is_next.new.self _ c.is_next.ensures.rest refl)
+    let kept : c.is_next.new.self.left ≡ c.args.self.now.left = ap (λ (d : Checker). d.left) c.is_next.ensures.rest ∙ c.ask_named.ensures.left in
+    let places : c.is_next.new.self.reached ≡ c.ask_named.new.self.reached = ap (λ (d : Checker). d.reached) c.is_next.ensures.rest in
+    knows-noted c.args.table.now past c.args.self.now c.ask_named.new.self c.args.seq c.args.name.now c.in-Some.asked knows
+    c.requires.free asked c.ask_named.ensures.rest c.ask_named.ensures.room c.ask_named.ensures.numbers c.ask_named.ensures.entries c.ask_named.ensures.of_table
+    distinct _ what may c.args.noted (noted-on c.ask_named.new.self c.is_next.new.self _ c.is_next.ensures.rest refl)
     c.if-not-is_next.ensures.latest c.is_next.ensures.capacity less
-    (subst (λ (rs : List ℕ). AllZip (LetsAll (under c.args.table.now c.args.self.now) (what ∷ past)) (seqs_of c.ask.new.self.calls)
+    (subst (λ (rs : List ℕ). AllZip (LetsAll (under c.args.table.now c.args.self.now) (what ∷ past)) (seqs_of c.ask_named.new.self.calls)
     (set rs c.in-Some.asked.place (c.in-Some.asked.at + 1))) (sym (ap (λ v. v.items) places))
-    (reaches-passed c.args.table.now past c.args.self.now c.ask.new.self c.args.seq c.args.name.now c.in-Some.asked knows
-    c.requires.free asked c.ask.ensures.rest c.ask.ensures.room c.ask.ensures.numbers c.ask.ensures.entries c.ask.ensures.of_table
-    distinct c.ask.new.self what may c.args.noted noted c.requires.noted is (no-ticket asked.entry.policy c.args.noted c.requires.no_ticket)))
+    (reaches-passed c.args.table.now past c.args.self.now c.ask_named.new.self c.args.seq c.args.name.now c.in-Some.asked knows
+    c.requires.free asked c.ask_named.ensures.rest c.ask_named.ensures.room c.ask_named.ensures.numbers c.ask_named.ensures.entries c.ask_named.ensures.of_table
+    distinct c.ask_named.new.self what may c.args.noted noted c.requires.noted is (no-ticket asked.entry.policy c.args.noted c.requires.no_ticket)))
     (ap (λ v. deque_capacity v) places) noted c.requires.noted is
     (subst (λ (l : Left). LeavesOpen (what ∷ past) l) (sym (kept ∙ nothing)) (note-settles past c.args.name.now c.args.seq c.args.noted what c.requires.noted c.requires.no_ticket is))
     (subst IsFree (sym (kept ∙ nothing)) tt))

@@ -1,0 +1,169 @@
+-- What is asked of every happening, of one that was noted of a call, or that it was sent.
+use Rattle.std.proofs.Common.{◌≡◌, ℕ, Option, Bool, true, false, not, List, [], ◌∷◌, ◌∙◌, slice_get, ap, refl, sym, subst, arith}
+use Rattle.std.specs.Bool.{OnFalse, OnTrue}
+use Rattle.std.specs.Prelude.{◌↔◌, IfNone, IfSome, IsTrue, Some}
+use Rattle.mrpc_table.specs.declared.table.Table.{Table}
+use Rattle.engine_core.specs.Chains.{Chain, Entry}
+use Rattle.engine_core.specs.Engines.{EngineParts}
+use Rattle.call_history.specs.Behind.{Behind, has_failed, policy_of, standing}
+use Rattle.call_history.specs.Legal.{AwaitsMalformed, AwaitsQuota, HasNoCopy}
+use Rattle.call_history.specs.Rules.{EndsWithLink, IsLeft, IsLinkRefusal, IsNoMalformedRefusal, IsNumbered, IsQuiet, IsRefusedAtOnce, May, RefusesDrawn, RefusesMalformed, Under, cap_of}
+use Rattle.call_history.specs.declared.happening.Cause.{Cause}
+use Rattle.call_history.specs.declared.happening.Cause.TheVariants as cause
+use Rattle.call_history.specs.declared.happening.Happening.{Happening}
+use Rattle.call_history.specs.declared.happening.Happening.TheVariants.{Took, Away, Op, Moment, Charged, Drawn, Counted, Sent, Refused}
+use Rattle.call_history.specs.declared.happening.Taken.{Taken}
+use Rattle.call_history.specs.declared.happening.TookCopy.{TookCopy}
+use Rattle.call_history.specs.declared.happening.TookCopy.TheVariants.{Copy, Malformed}
+use Rattle.audit_rules.specs.First.{BreaksFirst}
+use Rattle.audit_rules.specs.Knowing.{IsFree, Knows, LeavesOpen, Owns, under}
+use Rattle.audit_rules.specs.Sorts.{IsOfCall, first_of, is_nothing, is_waiting, own_rule}
+use Rattle.audit_rules.specs.declared.checker.Checker.{Checker}
+use Rattle.audit_rules.specs.declared.left.Left.{Left}
+use Rattle.audit_rules.specs.declared.left.Left.TheVariants as lefts
+use Rattle.audit_rules.specs.declared.rule.Rule.{Rule}
+use Rattle.audit_rules.specs.declared.rule.Rule.TheVariants as rules
+use Rattle.audit_rules.proofs.Firsts.{breaks-first, breaks-malformed, if-none-both, may-come}
+use Rattle.audit_rules.proofs.Known.{unmap-at}
+use Rattle.audit_rules.proofs.States.{at-once}
+use Rattle.audit_rules.proofs.Stepping.{one-some}
+
+-- ---- of the happening alone
+
+no-refusal : (what : Happening) → IsOfCall what → (seq : ℕ) (why : Cause) → what ≡ Refused seq why → ⊥
+no-refusal what of seq why is = subst IsOfCall is of
+
+numbered : (u : Under) (past : Behind) (what : Happening) → IsOfCall what → IsNumbered u past what
+numbered u past (Charged seq name left) of = tt
+numbered u past (Drawn seq name window ticket) of = tt
+numbered u past (Counted seq name) of = tt
+numbered u past (Sent seq bytes) of = tt
+numbered u past (Took call) of = absurd of
+numbered u past (Away method number addr) of = absurd of
+numbered u past _ of = tt
+
+other-malformed : (what : Happening) → IsOfCall what → IsNoMalformedRefusal what
+other-malformed (Refused seq why) of = absurd of
+other-malformed _ of = tt
+
+copy-malformed : (copy : TookCopy) (seq : ℕ) (what : Happening) → IsOfCall what → (HasNoCopy copy → ⊥) → IsRefusedAtOnce copy seq what
+copy-malformed (Malformed reason place value) seq what of none = absurd (none tt)
+copy-malformed (Copy tree) seq (Refused call why) of none = absurd of
+copy-malformed (Copy tree) seq _ of none = tt
+
+link-refusal : (past : Behind) (what : Happening) → IsOfCall what → IsLinkRefusal past what
+link-refusal past (Refused seq why) of = absurd of
+link-refusal past _ of = tt
+
+no-quiet : (what : Happening) → IsOfCall what → IsQuiet what → ⊥
+no-quiet (Op step) of quiet = of
+no-quiet (Moment ms) of quiet = of
+no-quiet _ of quiet = quiet
+
+not-standing : (calls : List Taken) (what : Happening) → IsOfCall what → IsLeft calls what → ⊥
+not-standing [] what of is = no-quiet what of is
+not-standing (call ∷ calls) what of is = no-refusal what of call.seq cause.Transport is
+
+-- ---- by what is behind
+
+behind-malformed : (past : Behind) (what : Happening) → IsOfCall what → (AwaitsMalformed past → ⊥) → RefusesMalformed past what
+behind-malformed [] what of none = other-malformed what of
+behind-malformed (Took call ∷ past) what of none = copy-malformed call.copy call.seq what of none
+behind-malformed (_ ∷ past) what of none = other-malformed what of
+
+behind-drawn : (past : Behind) (what : Happening) → (AwaitsQuota past → ⊥) → RefusesDrawn past what
+behind-drawn [] what none = tt
+behind-drawn (Drawn seq name window ticket ∷ past) what none = λ policy cap is_policy is_cap more.
+    absurd (none (record { policy = policy; cap = cap; is_policy = is_policy; is_cap = is_cap; over = λ less. omega (arith, more, less) }))
+behind-drawn (_ ∷ past) what none = tt
+
+pub free-left : (left : Left) → is_waiting left ≡ false → IsFree left
+free-left lefts.Nothing is = tt
+free-left (lefts.Waits seq) is = absurd cc
+free-left (lefts.Over seq at ticket cap) is = tt
+
+malformed : (past : Behind) (what : Happening) (left : Left) → IsOfCall what → LeavesOpen past left → is_waiting left ≡ false → RefusesMalformed past what
+malformed past what lefts.Nothing of opened free = behind-malformed past what of opened.0
+malformed past what (lefts.Waits seq) of opened free = absurd cc
+malformed past what (lefts.Over seq at ticket cap) of opened free = subst (λ (p : Behind). RefusesMalformed p what) (sym opened.3) (other-malformed what of)
+
+waits : (past : Behind) (what : Happening) (left : Left) → IsOfCall what → LeavesOpen past left → is_waiting left ≡ true → RefusesMalformed past what → ⊥
+waits past what lefts.Nothing of opened is = absurd cc
+waits past what (lefts.Waits seq) of opened is = λ refuses.
+    (let at : RefusesMalformed (Took opened.0 ∷ opened.1) what = subst (λ (p : Behind). RefusesMalformed p what) opened.2 refuses in
+    no-refusal what of opened.0.seq cause.Malformed (at-once opened.0.copy opened.0.seq what opened.3 at))
+waits past what (lefts.Over seq at ticket cap) of opened is = absurd cc
+
+drawn : (past : Behind) (what : Happening) (left : Left) → IsOfCall what → LeavesOpen past left → is_waiting left ≡ false → IsTrue (is_nothing left) ↔ RefusesDrawn past what
+drawn past what lefts.Nothing of opened free = (λ is. behind-drawn past what opened.1, λ refuses. refl)
+drawn past what (lefts.Waits seq) of opened free = absurd cc
+drawn past what (lefts.Over seq at ticket cap) of opened free = (
+  λ is. absurd cc,
+  λ refuses.
+      (let next : RefusesDrawn (Drawn seq opened.0.name opened.1 ticket ∷ opened.2) what = subst (λ (p : Behind). RefusesDrawn p what) opened.3 refuses in
+      absurd (no-refusal what of seq (cause.Quota opened.0.name ticket cap) (next opened.6.0 cap opened.6.1 opened.6.2 opened.4))),
+)
+
+-- a call whose ticket isn't below the cap is refused by the entry at the position that is kept
+pub over-refused : (T : Table) (past : Behind) (what : Happening) (c : Checker) (seq at ticket cap : ℕ) (result : Bool) → Knows T past c
+    → c.left ≡ lefts.Over seq at ticket cap
+    → IfSome (slice_get c.engines.items at) (λ e. IsTrue result ↔ (what ≡ Refused seq (cause.Quota e.entry.name ticket cap)))
+    → IsTrue result ↔ RefusesDrawn past what
+over-refused T past what c seq at ticket cap result knows is answers =
+    let opened : LeavesOpen past (lefts.Over seq at ticket cap) = subst (λ (l : Left). LeavesOpen past l) is knows.left in
+    let engine = unmap-at (λ (e : EngineParts). e.entry) c.engines.items at opened.0
+    (subst (λ (x : Chain). slice_get x.entries at ≡ Some opened.0) (sym knows.row.ties.same_chain) opened.5) in
+    let here : IsTrue result ↔ (what ≡ Refused seq (cause.Quota engine.0.entry.name ticket cap)) =
+    subst (λ (o : Option EngineParts). IfSome o (λ e. IsTrue result ↔ (what ≡ Refused seq (cause.Quota e.entry.name ticket cap)))) engine.1 answers in
+    let by : IsTrue result ↔ (what ≡ Refused seq (cause.Quota opened.0.name ticket cap)) =
+    subst (λ (e : Entry). IsTrue result ↔ (what ≡ Refused seq (cause.Quota e.name ticket cap))) engine.2 here in (
+      λ true. subst (λ (p : Behind). RefusesDrawn p what) (sym opened.3)
+          (λ policy other is_policy is_cap more.
+          (let same : policy ≡ opened.6.0 = one-some (policy_of opened.0.name opened.2) policy opened.6.0 is_policy opened.6.1 in
+          let equal : cap ≡ other = one-some (cap_of policy) cap other (ap cap_of same ∙ opened.6.2) is_cap in
+          subst (λ (k : ℕ). what ≡ Refused seq (cause.Quota opened.0.name ticket k)) equal (by.0 true))),
+      λ refuses. by.1 (subst (λ (p : Behind). RefusesDrawn p what) opened.3 refuses opened.6.0 cap opened.6.1 opened.6.2 opened.4),
+    )
+
+linked : (past : Behind) (what : Happening) (failed : Bool) → IsOfCall what → failed ≡ has_failed past → IsTrue (not failed) ↔ EndsWithLink past what
+linked past what false of is = (
+  λ same. (λ yes. absurd (let wrong : false ≡ true = is ∙ yes in cc), link-refusal past what of),
+  λ ends. refl,
+)
+linked past what true of is = (λ same. absurd cc, λ ends. absurd (not-standing (standing past) what of (ends.0 (sym is))))
+
+-- ---- what is answered
+
+module _ (T : Table) (past : Behind) (what : Happening) (c : Checker) (of : IsOfCall what) (knows : Knows T past c) where
+  abbrev pub u : Under
+  u = under T c
+
+  pub breaks-waiting : is_waiting c.left ≡ true → BreaksFirst u past what rules.B
+  breaks-waiting is = breaks-malformed u past what (numbered u past what of) (waits past what c.left of knows.left is)
+
+  module _ (own : Rule) (kept settled link : Bool) (result : Option Rule) (is_own : own ≡ own_rule what) (free : is_waiting c.left ≡ false)
+      (is_settled : settled ≡ is_nothing c.left) (is_linked : link ≡ not c.failed) (is : result ≡ first_of own kept settled link) where
+    answer : result ≡ first_of (own_rule what) kept (is_nothing c.left) (not c.failed)
+    answer =
+        is ∙ ap (λ (r : Rule). first_of r kept settled link) is_own ∙ ap (λ (b : Bool). first_of (own_rule what) kept b link) is_settled
+        ∙ ap (λ (b : Bool). first_of (own_rule what) kept (is_nothing c.left) b) is_linked
+
+    comes : OnTrue kept (Owns u past what (own_rule what)) → IfNone (first_of (own_rule what) kept (is_nothing c.left) (not c.failed)) (May u past what)
+    comes owns =
+        may-come u past what (numbered u past what of) (malformed past what c.left of knows.left free) kept (is_nothing c.left) (not c.failed)
+        owns (drawn past what c.left of knows.left free) (linked past what c.failed of knows.failed)
+
+    pub briefly-may : OnTrue kept (Owns u past what (own_rule what)) → IfNone result (May u past what)
+    briefly-may owns = subst (λ (r : Option Rule). IfNone r (May u past what)) (sym answer) (comes owns)
+
+    pub briefly-breaks : OnTrue kept (Owns u past what (own_rule what)) → OnFalse kept (Owns u past what (own_rule what) → ⊥) → IfSome result (λ rule. BreaksFirst u past what rule)
+    briefly-breaks owns fails =
+        subst (λ (r : Option Rule). IfSome r (λ rule. BreaksFirst u past what rule)) (sym answer)
+        (breaks-first u past what (numbered u past what of) (malformed past what c.left of knows.left free) kept (is_nothing c.left) (not c.failed)
+        owns fails (drawn past what c.left of knows.left free) (linked past what c.failed of knows.failed))
+
+    pub briefly-knows : (after : Checker) → OnTrue kept (Owns u past what (own_rule what)) → (May u past what → OnTrue kept (Knows T (what ∷ past) after))
+        → IfNone result (Knows T (what ∷ past) after)
+    briefly-knows after owns next =
+        subst (λ (r : Option Rule). IfNone r (Knows T (what ∷ past) after)) (sym answer)
+        (if-none-both (May u past what) (Knows T (what ∷ past) after) (own_rule what) kept (is_nothing c.left) (not c.failed) next (comes owns))
