@@ -14,6 +14,10 @@ use std::alloc::Global;
 use std::io::Eprint;
 use std::time::Clock;
 
+// How many bytes are copied at once, at the most. A longer copy is one string instruction in the C library, which goes
+// byte by byte where instructions are counted.
+const CHUNK: usize = 2_048;
+
 // How the line of a fault begins.
 const FAULT: &[u8] = b"fault ";
 
@@ -60,7 +64,9 @@ impl<S: Source + Drop> KeptSource<S> {
     fn keep(&mut self, bytes: &[u8])
         ensures { self.new.source ≡ self.old.source }
     {
-        self.is_whole = self.is_whole && self.bytes.append(bytes).is_ok();
+        for chunk in bytes.chunks(CHUNK) {
+            self.is_whole = self.is_whole && self.bytes.append(chunk).is_ok();
+        }
     }
 }
 

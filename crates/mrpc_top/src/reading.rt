@@ -1,6 +1,6 @@
 //! The whole input of a command.
 
-ghost use Rattle.std.specs.Prelude.{◌≡◌, ◌<◌, ◌≤◌, length, vec_len, IfOk};
+ghost use Rattle.std.specs.Prelude.{◌≡◌, ◌<◌, ◌≤◌, ◌++◌, length, vec_len, IfOk, OnOk};
 ghost use Rattle.mrpc_base.specs.Faults.{HasCause};
 ghost use Rattle.mrpc_top.specs.Reading.{OnWhole, IsAllOf, ReadsPast};
 
@@ -10,6 +10,10 @@ use text_commands::INPUT_LIMIT;
 
 // How many bytes are asked for in one read, at the most.
 const PIECE: usize = 65_536;
+
+// How many bytes are copied at once, at the most. A longer copy is one string instruction in the C library, which goes
+// byte by byte where instructions are counted.
+const CHUNK: usize = 2_048;
 
 /// How reading an input ended.
 #[derive(Drop)]
@@ -44,6 +48,16 @@ fn buffer(alloc: Global, size: usize) -> Result<Vec<u8>, AllocError>
     vec![in alloc; 0; size]
 }
 
+// Appends bytes to a text, by chunks.
+fn append(text: &mut Vec<u8>, bytes: &[u8]) -> Result<(), AllocError>
+    ensures { OnOk result (text.new.items ≡ text.old.items ++ bytes.now) }
+{
+    for chunk in bytes.chunks(CHUNK) {
+        text.extend_from_slice(chunk)?;
+    }
+    Ok(())
+}
+
 // The same, by pieces of at most the buffer's length.
 fn read_pieces<S: Source>(alloc: Global, input: &mut S, piece: &mut [u8]) -> Input
     requires { 0 < length piece.old }
@@ -56,7 +70,7 @@ fn read_pieces<S: Source>(alloc: Global, input: &mut S, piece: &mut [u8]) -> Inp
         let room = piece.len().min(INPUT_LIMIT + 1 - text.len());
         match input.read(&mut piece[..room]) {
             Got::Bytes(count) => {
-                if text.extend_from_slice(&piece[..count]).is_err() {
+                if append(&mut text, &piece[..count]).is_err() {
                     return Input::Memory;
                 }
             }

@@ -19,7 +19,7 @@ use crate::sending::{drain, send, turn};
 use crate::standing::tell_standing;
 use crate::stop::Stop;
 use crate::submitting::submit;
-use crate::telling::tell;
+use crate::telling::{LineRoom, tell};
 use mrpc_base::{PlainTickets, Sink, Tickets, WINDOWS};
 use script_text::{Line, Script};
 use std::alloc::Global;
@@ -27,11 +27,13 @@ use std::alloc::Global;
 // No script has as many lines, since its text has at most 16 MiB.
 const LINE_LIMIT: usize = 1 << 25;
 
-// What a run keeps between two lines: the connections, in the order in which they were opened, and the quotas of all.
+// What a run keeps between two lines: the connections, in the order in which they were opened, the quotas of all, and
+// room for lines of the audit.
 #[derive(Drop)]
 struct Run<'t> {
     connections: Vec<Connection<'t>>,
     tickets: PlainTickets,
+    room: LineRoom,
 }
 
 /// Runs a script: writes behind each of its lines those of the audit for what it made happen, the frames of the calls
@@ -69,9 +71,13 @@ pub fn run_script<K: Sink, W: Sink>(
     let Ok(tickets) = PlainTickets::new(alloc, tenants) else {
         return Err(Stop::Memory);
     };
+    let Ok(room) = LineRoom::new(alloc) else {
+        return Err(Stop::Memory);
+    };
     let mut run = Run {
         connections: Vec::new(alloc),
         tickets,
+        room,
     };
     match run_lines(alloc, script, &mut run, out, wire) {
         Ok(()) => finish(alloc, tenants, &mut run, out),
@@ -188,6 +194,7 @@ fn run_line<'t, K: Sink, W: Sink>(
         alloc,
         script,
         line,
+        &mut run.room,
         &mut run.connections[place],
         &mut run.tickets,
         out,
@@ -239,6 +246,7 @@ fn run_at<K: Sink, W: Sink>(
     alloc: Global,
     script: &Script,
     line: &Line,
+    room: &mut LineRoom,
     connection: &mut Connection<'_>,
     tickets: &mut PlainTickets,
     out: &mut K,
@@ -267,10 +275,10 @@ fn run_at<K: Sink, W: Sink>(
     match run_on(alloc, script, line, connection, tickets, wire) {
         Ok(()) => {
             connection.calls.is_connection();
-            tell(alloc, &script.table, connection, out)
+            tell(alloc, room, &script.table, connection, out)
         }
         Err(Stop::Wire) => {
-            tell(alloc, &script.table, connection, out)?;
+            tell(alloc, room, &script.table, connection, out)?;
             Err(Stop::Wire)
         }
         Err(stop) => Err(stop),
@@ -323,7 +331,7 @@ fn run_on<W: Sink>(
             turn(connection, *at, tickets);
             Ok(())
         }
-        Line::Send { .. } => send(alloc, connection, wire),
-        Line::Drain { .. } => drain(alloc, connection, tickets, wire),
+        Line::Send { .. } => send(connection, wire),
+        Line::Drain { .. } => drain(connection, tickets, wire),
     }
 }

@@ -11,7 +11,6 @@ use crate::stop::Stop;
 use conn_core::{Drained, Sending};
 use frame_transport::ByteLink;
 use mrpc_base::{PlainTickets, Sink};
-use std::alloc::Global;
 
 /// The engine at a position has a turn with the first call there, if there is one.
 pub(crate) fn turn(connection: &mut Connection<'_>, at: u32, tickets: &mut PlainTickets)
@@ -26,11 +25,7 @@ pub(crate) fn turn(connection: &mut Connection<'_>, at: u32, tickets: &mut Plain
 }
 
 /// The first call that is ready is sent, if there is one.
-pub(crate) fn send<W: Sink>(
-    alloc: Global,
-    connection: &mut Connection<'_>,
-    wire: &mut W,
-) -> Result<(), Stop>
+pub(crate) fn send<W: Sink>(connection: &mut Connection<'_>, wire: &mut W) -> Result<(), Stop>
     requires rests { IsResting connection.old.heap }
     ensures ran { (tickets : Counters) → OnRan result
         (DoneWhere Send connection.old connection.new tickets tickets (W.written wire.old) (W.written wire.new))
@@ -41,7 +36,7 @@ pub(crate) fn send<W: Sink>(
 {
     connection.calls.is_connection();
     let mut link = ByteLink::new(wire);
-    match connection.calls.send_ready(alloc, &mut link) {
+    match connection.calls.send_ready(&mut link) {
         Sending::Nothing | Sending::Sent { .. } => Ok(()),
         Sending::Failed => Err(Stop::Wire),
         Sending::Memory => Err(Stop::Memory),
@@ -50,7 +45,6 @@ pub(crate) fn send<W: Sink>(
 
 /// Calls go on and are sent, as far as they get.
 pub(crate) fn drain<W: Sink>(
-    alloc: Global,
     connection: &mut Connection<'_>,
     tickets: &mut PlainTickets,
     wire: &mut W,
@@ -68,7 +62,7 @@ pub(crate) fn drain<W: Sink>(
     ensures cause { HasCause (result ≡ Err Stop.Wire) (W.faults wire.old) (W.faults wire.new) }
 {
     let mut link = ByteLink::new(wire);
-    match connection.calls.drain(alloc, tickets, &mut link) {
+    match connection.calls.drain(tickets, &mut link) {
         Drained::Done => Ok(()),
         Drained::Failed => Err(Stop::Wire),
         Drained::Memory => Err(Stop::Memory),

@@ -1,6 +1,6 @@
 //! The audit lines of what has happened on a connection.
 
-ghost use Rattle.std.specs.Prelude.{◌≡◌, ◌≢◌, Err, IfErr, IfOk, OnErr, OnOk, drop, map};
+ghost use Rattle.std.specs.Prelude.{◌≡◌, ◌≢◌, Err, IfErr, OnErr, OnOk, drop, map};
 ghost use Rattle.std.specs.Io.KnownBytes.{Appends};
 ghost use Rattle.mrpc_base.specs.Faults.{HasCause};
 ghost use Rattle.mrpc_base.specs.Writing.{AppendsFront};
@@ -16,18 +16,31 @@ use connection_text::append_happened;
 use mrpc_base::{Sink, write_all};
 use mrpc_table::{Bytes, Memory, Table};
 use std::alloc::Global;
+use wire_encode::Output;
 
-// Lines that are written together have mostly at most so many bytes each.
-const SHORT_LINE: usize = 64;
+/// Room in which lines are made that are written together, and for the encoding of a copy among them.
+#[derive(Drop)]
+pub(crate) struct LineRoom {
+    lines: Bytes,
+    encoding: Output,
+}
 
-// A line that is written alone has mostly at most so many.
-const LONE_LINE: usize = 256;
+impl LineRoom {
+    /// Room that is still to grow.
+    pub(crate) fn new(alloc: Global) -> Result<LineRoom, Memory> {
+        Ok(LineRoom {
+            lines: Bytes::new(alloc),
+            encoding: Output::new(alloc)?,
+        })
+    }
+}
 
 /// Writes the lines of what has happened on a connection since its last lines were written, in one piece. Mostly there
 /// is nothing to write, behind a line that stores a word.
 #[inline(always)]
 pub(crate) fn tell<K: Sink>(
     alloc: Global,
+    room: &mut LineRoom,
     table: &Table,
     connection: &mut Connection<'_>,
     out: &mut K,
@@ -45,13 +58,14 @@ pub(crate) fn tell<K: Sink>(
         connection.told = count;
         return Ok(());
     }
-    tell_some(alloc, table, connection, out)
+    tell_some(alloc, room, table, connection, out)
 }
 
 // The same, where there is something.
 #[inline(never)]
 fn tell_some<K: Sink>(
     alloc: Global,
+    room: &mut LineRoom,
     table: &Table,
     connection: &mut Connection<'_>,
     out: &mut K,
@@ -65,26 +79,37 @@ fn tell_some<K: Sink>(
     ensures cause { HasCause (result ≡ Err Stop.Out) (K.faults out.old) (K.faults out.new) }
 {
     let count = connection.calls.history().len();
-    let lines = lines_from(alloc, table, &connection.calls, connection.told)?;
-    write_line(out, lines.as_slice())?;
+    make_lines(alloc, room, table, &connection.calls, connection.told)?;
+    write_line(out, room.lines.as_slice())?;
     connection.told = count;
     Ok(())
 }
 
-// The lines of what has happened from a place on.
-fn lines_from(alloc: Global, table: &Table, calls: &Conn<'_>, first: usize) -> Result<Bytes, Memory>
+// Makes the lines of what has happened from a place on.
+fn make_lines(
+    alloc: Global,
+    room: &mut LineRoom,
+    table: &Table,
+    calls: &Conn<'_>,
+    first: usize,
+) -> Result<(), Memory>
     requires valid { IsValid table.now }
     requires same { calls.now.table ≡ table.now }
-    ensures { IfOk result (λ lines. lines
+    ensures { OnOk result (room.new.lines
         ≡ audit table.now (map (on_connection calls.now.conn) (drop first calls.now.happenings))) }
 {
-    let count = calls.history().len();
-    let room = count.saturating_sub(first).saturating_mul(SHORT_LINE);
-    let mut lines = Bytes::with_room(alloc, room.max(LONE_LINE))?;
-    for place in first..count {
-        append_happened(alloc, &mut lines, calls, place, table)?;
+    room.lines.clear();
+    for place in first..calls.history().len() {
+        append_happened(
+            alloc,
+            &mut room.lines,
+            &mut room.encoding,
+            calls,
+            place,
+            table,
+        )?;
     }
-    Ok(lines)
+    Ok(())
 }
 
 /// Writes a line, or several.

@@ -1,12 +1,13 @@
 -- The words of lines with short numbers.
 use Rattle.std.proofs.Common.{◌≡◌, ℕ, suc, ◌+◌, ◌-◌, ◌*◌, ◌^◌, ◌==◌, ◌<◌, ◌≤◌, true, false, nat_le, All, List, []}
 use Rattle.std.proofs.Common.{◌∷◌, length, take, get_or, Some, ap, sym, subst, ◌∙◌, refl, arith, leb-true, le-ltb}
-use Rattle.std.proofs.Common.{◌++◌, lt-ltb, append-nil, append_assoc}
+use Rattle.std.proofs.Common.{◌++◌, zero, lt-ltb, append-nil, append_assoc, ⊎_elim}
 use Rattle.std.specs.Char.{digit_value, is_ascii_digit}
 use Rattle.std.specs.List.{list_all, AllByRecursion}
 use Rattle.std.specs.Str.Parse.{digits_value}
 use Rattle.std.proofs.Math.Nat.{pow-le-pow_right, pow-suc}
-use Rattle.std.proofs.lemmas.Bool.{and_parts, ne_eqb}
+use Rattle.std.proofs.lemmas.Bool.{and_parts, cases_eq, ne_eqb}
+use Rattle.std.proofs.lemmas.Bool.Decides.{nat_tests}
 use Rattle.std.proofs.lemmas.Int.Digits.{digits_value_more}
 use Rattle.std.proofs.lemmas.List.Elements.{All-from_recursion}
 use Rattle.std.proofs.lemmas.List.Folds.{list_all_more}
@@ -61,6 +62,20 @@ pub value_more : (word : List ℕ) (i n d : ℕ) → i < length word → is_asci
 value_more word i n d within here so_far digit =
     let value : digit_value (get_or word i 0) ≡ get_or word i 0 - 48 = (digit_is (get_or word i 0) here).2 in
     sym (digits_value_more 10 word i within ∙ rw (value, sym so_far, sym digit) refl)
+
+-- no digit stands behind a zero in front
+pub decimal_front : (text : List ℕ) (i : ℕ) → 1 ≤ i → i ≤ length text → list_all is_ascii_digit (take i text) ≡ true
+    → (get_or text 0 0 ≡ 48 → i ≡ 1) → is_decimal (take i text) ≡ true
+decimal_front [] i low within all alone = absurd (omega (arith, low, within))
+decimal_front (c ∷ cs) zero low within all alone = absurd (omega (arith, low))
+decimal_front (c ∷ cs) (suc j) low within all alone =
+    ⊎_elim
+    (λ same.
+    let none : j ≡ 0 = omega (arith, alone same) in
+    let is : (c == 48) ≡ true = grind (same, arith, nat_tests) in
+    rw (all, is, none) refl)
+    (λ apart. rw (all, ne_eqb c 48 apart) refl)
+    (cases_eq c 48)
 
 pub spells : (word : List ℕ) (n : ℕ) → is_decimal word ≡ true → n ≡ digits_value 10 word → number_of word ≡ Some n
 spells word n decimal value = rw decimal (ap Some (sym value))

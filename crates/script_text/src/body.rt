@@ -445,6 +445,8 @@ impl Body {
     }
 
     /// Adds a line that may stand behind these.
+    // Inlined for the lines that store a word, of which nothing is kept: nearly all lines of a long script.
+    #[inline(always)]
     pub(crate) fn add(
         &mut self,
         alloc: Global,
@@ -468,6 +470,7 @@ impl Body {
     }
 
     // Keeps what a line makes of the connections and of the number of calls.
+    #[inline(never)]
     fn keep(&mut self, alloc: Global, declared: &Declarations, line: &Line) -> Result<(), Memory>
         requires { CanAdd self.old line.now }
         ensures lines { self.new.lines ≡ self.old.lines }

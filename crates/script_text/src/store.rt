@@ -23,31 +23,30 @@ pub(crate) struct Store {
 
 /// The number that the first digits of a text spell, and what stands behind them; none where a text doesn't begin with
 /// a number. Of more digits than surely fit, the last ones are left.
+// Inlined, since a call costs as much as some digits, and a long script has three numbers in nearly every line.
+#[inline(always)]
 pub(crate) fn front_number(text: &[u8]) -> Option<(u64, &[u8])>
     ensures { IfSome result (λ r. IsNumberBefore text.now r.0 r.1.now) }
 {
-    let most = text.len().min(FEW_DIGITS);
-    let mut number: u64 = 0;
-    let mut count = 0;
-    while count < most && text[count].is_ascii_digit() {
-        number = number * 10 + u64::from(text[count] - b'0');
-        count += 1;
-    }
-    if !is_number(&text[..count]) {
+    let [first, ..] = text else {
+        return None;
+    };
+    if !first.is_ascii_digit() {
         return None;
     }
-    Some((number, &text[count..]))
-}
-
-// Whether digits are a number: there are some, and no zero stands in front of others.
-fn is_number(digits: &[u8]) -> bool
-    requires { list_all is_ascii_digit digits.now ≡ true }
-    ensures { result ≡ is_decimal digits.now }
-{
-    match digits {
-        [] => false,
-        [first, others @ ..] => *first != b'0' || others.is_empty(),
+    let mut number = u64::from(*first) - u64::from(b'0');
+    let mut count = 1;
+    // (Behind a zero there is no further digit.)
+    let most = if number == 0 {
+        1
+    } else {
+        text.len().min(FEW_DIGITS)
+    };
+    while count < most && text[count].is_ascii_digit() {
+        number = number * 10 + (u64::from(text[count]) - u64::from(b'0'));
+        count += 1;
     }
+    Some((number, &text[count..]))
 }
 
 /// What stands behind the space with which a text begins.

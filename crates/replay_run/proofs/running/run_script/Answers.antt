@@ -13,6 +13,10 @@ pub returns-in_default-clause-stopped : goal.returns-in_default-clause-stopped
 returns-in_default-clause-stopped g c = λ either.
     c.run_follows.ensures.at_once c.args.script.now (g.K.Sink.written c.args.out.now) (g.W.Sink.written c.args.wire.now)
 
+pub returns-in_default-new-clause-stopped : goal.returns-in_default-new-clause-stopped
+returns-in_default-new-clause-stopped g c = λ either.
+    c.run_follows.ensures.at_once c.args.script.now (g.K.Sink.written c.args.out.now) (g.W.Sink.written c.args.wire.now)
+
 pub returns-in-Ok-run_lines-clause-done : goal.returns-in-Ok-run_lines-clause-done
 returns-in-Ok-run_lines-clause-done g c =
     of-done c.finish.result _ _ _ c.finish.ensures.lines c.finish.ensures.counted

@@ -1,5 +1,5 @@
 -- The digits so far, and the number that they spell.
-use Rattle.std.proofs.Common.{◌≡◌, ◌-◌, ◌<◌, ◌≤◌, ◌^◌, true, length, take}
+use Rattle.std.proofs.Common.{◌≡◌, ◌-◌, ◌<◌, ◌≤◌, ◌^◌, true, get_or, length, take}
 use Rattle.std.specs.Char.{is_ascii_digit}
 use Rattle.std.specs.List.{list_all}
 use Rattle.std.specs.Str.Parse.{digits_value}
@@ -14,6 +14,9 @@ invariant-loop-count l = record {
   within : l.count ≤ length l.text;
   most_few : l.most ≤ 19;
   most_within : l.most ≤ length l.text;
+  some : 1 ≤ l.count;
+  alone : get_or l.text 0 0 ≡ 48 → l.most ≡ 1;
+  up_to : l.count ≤ l.most;
 }
 
 abbrev pub decreases-loop-count : goal.decreases-loop-count

@@ -1,0 +1,11 @@
+-- What was appended, and the chunks that are left.
+use Rattle.std.proofs.Common.{◌≡◌, ◌++◌}
+use Rattle.std.specs.Slice.Iter.{chunks_rest, chunks_size}
+use Rattle.mrpc_top.proofs.reading.append.Given as goal
+
+abbrev pub invariant-loop-chunk : goal.invariant-loop-chunk
+invariant-loop-chunk l =
+    goal.iterator-loop-chunk.can_next l.chunk-iterator
+    × goal.iterator-loop-chunk.is_finite l.chunk-iterator
+    × (chunks_size l.chunk-iterator ≡ 2048)
+    × (l.text.items ++ chunks_rest l.chunk-iterator ≡ l.fn.text.items ++ l.fn.bytes)
