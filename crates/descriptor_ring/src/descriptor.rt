@@ -1,3 +1,5 @@
+//! Descriptors: what goes through a ring.
+
 use crate::lesson::Lesson;
 use crate::line::Goods;
 use shared_heap::Note;

@@ -1,3 +1,5 @@
+//! What a full or an empty ring teaches.
+
 ghost use Rattle.std.specs.Prelude.{◌≡◌};
 
 use std::marker::Model;

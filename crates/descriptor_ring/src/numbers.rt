@@ -1,3 +1,5 @@
+//! A ring of numbers: its two ends, and how it is opened.
+
 ghost use Rattle.std.specs.Prelude.{◌≡◌, ◌<◌, ◌≤◌, ◌^◌, ◌↔◌, ◌++◌, ◌∷◌, [], true, false, length};
 ghost use Rattle.std.specs.Prelude.{IfOk, IfErr, OnOk, IsTrue};
 ghost use Rattle.descriptor_ring.specs.NumberAnswers.{OnItem, OnEmpty, OnNone};

@@ -1,3 +1,5 @@
+//! How far a ring had come, as its other end can be told.
+
 use crate::line::LinePass;
 use std::marker::Model;
 

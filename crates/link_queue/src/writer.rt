@@ -1,3 +1,5 @@
+//! The writer of a queue, which runs in a thread of its own.
+
 ghost use Rattle.std.specs.Prelude.{◌≡◌, ◌<◌, ◌≤◌, IfOk, length, take, true, false};
 ghost use Rattle.one_way_queue.specs.Ends.{put_of, taken_of};
 ghost use Rattle.link_queue.specs.Inners.{passed_on};

@@ -1,3 +1,5 @@
+//! What a writer leaves at its end.
+
 ghost use Rattle.std.specs.Prelude.{◌≡◌, true};
 ghost use Rattle.one_way_queue.specs.Ends.{put_of, taken_of};
 ghost use Rattle.link_queue.specs.Inners.{passed_on};

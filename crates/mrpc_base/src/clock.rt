@@ -1,3 +1,5 @@
+//! Clocks.
+
 ghost use Rattle.std.specs.Prelude.{◌≡◌, ◌≤◌, ℕ};
 
 /// A clock. It cannot fail.

@@ -1,3 +1,5 @@
+//! Fabrics, which open links in pairs.
+
 ghost use Rattle.std.specs.Prelude.{◌≡◌, ◌<◌, ◌+◌, ℕ, List, [], ◌∷◌, false, IfOk, OnErr, IsErrOf, IsPermutation};
 ghost use Rattle.mrpc_base.specs.Faults.{HasCause};
 ghost use Rattle.mrpc_base.specs.Linking.{TellsNone};

@@ -1,3 +1,5 @@
+//! Gates, which let workers through.
+
 ghost use Rattle.std.specs.Prelude.{IsTrue};
 
 /// Whether a worker may give a connection a round. No clause says which answer comes.

@@ -1,6 +1,6 @@
 //! The words of a heap in memory, with stores that race with its reader's loads.
 
-ghost use Rattle.std.specs.Prelude.{◌≡◌, ◌<◌, ◌≤◌, ◌+◌, ◌^◌, ℕ, [], ◌∷◌, ◌++◌, All, IfOk, IsTrue, length};
+ghost use Rattle.std.specs.Prelude.{◌≡◌, ◌<◌, ◌≤◌, ◌+◌, ◌^◌, ℕ, [], ◌∷◌, ◌++◌, All, IfOk, IfSome, IsTrue, length};
 ghost use Rattle.mrpc_base.specs.Heap.{word_after, stores_of, races_up_to, races_past, races_with, AfterRoom, AfterLoad};
 
 use crate::log::Log;
@@ -9,6 +9,9 @@ use crate::stored_words::StoredWords;
 use crate::{Room, Stores, Words};
 use std::alloc::{AllocError, Global};
 use std::marker::Model;
+
+// Room for so many stores is made at once, which takes no memory.
+const ROOM_AT_ONCE: u64 = 1 << 16;
 
 /// The words of a heap in memory, which one holder loads and stores, and in which stores of others are played
 /// as races. Contracts see it as a `Heap`: its size, every load and every store so far, the races that wait, and
@@ -55,6 +58,21 @@ fn can_count(made: u64, waiting: u64, stores: u64) -> bool
     match made.checked_add(waiting) {
         Some(so_far) => so_far.checked_add(stores).is_some(),
         None => false,
+    }
+}
+
+// Room for so many stores at least, and for some more where they can be counted, so that room is seldom made.
+fn room_for(made: u64, waiting: u64, stores: u64) -> Option<u64>
+    ensures enough { IfSome result (λ room. stores ≤ room) }
+    ensures counted { IfSome result (λ room. made + waiting + room < 2 ^ 64) }
+{
+    if stores < ROOM_AT_ONCE && can_count(made, waiting, ROOM_AT_ONCE) {
+        return Some(ROOM_AT_ONCE);
+    }
+    if can_count(made, waiting, stores) {
+        Some(stores)
+    } else {
+        None
     }
 }
 
@@ -282,11 +300,13 @@ impl Stores for PlainWords {
         if n <= self.store_room {
             return Room::Made;
         }
-        if !can_count(self.words.made(), self.races.len(), n) {
-            return Room::Memory;
+        match room_for(self.words.made(), self.races.len(), n) {
+            Some(room) => {
+                self.store_room = room;
+                Room::Made
+            }
+            None => Room::Memory,
         }
-        self.store_room = n;
-        Room::Made
     }
 
     fn store(&mut self, place: u64, value: u64)

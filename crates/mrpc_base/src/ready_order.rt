@@ -1,3 +1,5 @@
+//! In which order connections that are ready get their rounds.
+
 ghost use Rattle.std.specs.Prelude.{◌≡◌, ℕ};
 
 /// How many rounds in a row a worker gives a connection that is ready.

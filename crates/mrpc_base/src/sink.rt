@@ -1,3 +1,5 @@
+//! Sinks, which bytes are written to.
+
 ghost use Rattle.std.specs.Prelude.{◌≡◌, ◌<◌, ◌≤◌, List, ℕ, Option, length, take};
 ghost use Rattle.std.specs.Io.KnownBytes.{Appends, Keeps};
 ghost use Rattle.mrpc_base.specs.Faults.{HasCause};

@@ -1,3 +1,5 @@
+//! The words of a heap, as its writer has them.
+
 ghost use Rattle.std.specs.Prelude.{◌≡◌, ◌<◌, ◌≤◌, ◌+◌, ◌^◌, List, [], ◌∷◌, ◌++◌, ℕ, length};
 
 use crate::Room;

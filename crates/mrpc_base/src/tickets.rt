@@ -1,3 +1,5 @@
+//! Where tickets of quotas are drawn.
+
 ghost use Rattle.std.specs.Prelude.{◌≡◌, ◌≢◌, ◌<◌, ◌⊎◌, List, [], ◌∷◌, ◌++◌, ℕ, Option, IfSome, IsSomeAnd};
 
 /// How many windows a quota has: a draw at or past the last one is a draw in the last one.

@@ -1,3 +1,5 @@
+//! The words of a heap, as its reader has them.
+
 ghost use Rattle.std.specs.Prelude.{◌≡◌, ◌<◌, ◌≤◌, ◌+◌, List, [], ◌∷◌, ◌++◌, ℕ, Option, IfSome};
 ghost use Rattle.mrpc_base.specs.Heap.{Extends, word_after};
 

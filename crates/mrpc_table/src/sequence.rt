@@ -1,7 +1,7 @@
 //! A list that is kept in a vector. Clauses see the list, and neither room nor place.
 
 ghost use Rattle.std.specs.Prelude.{◌≡◌, ◌≤◌, ◌<◌, ◌+◌, ◌↔◌, ℕ, List, [], ◌∷◌, ◌++◌, ◌⊎◌, length, IsTrue, OnOk, OnErr, IfOk};
-ghost use Rattle.std.specs.Fmt.{decimal, signed_decimal};
+ghost use Rattle.std.specs.Fmt.{decimal};
 ghost use Rattle.hex.specs.Hex.{encode_lower};
 
 use crate::hexadecimal::{end_of_digits, write_digits};
@@ -92,6 +92,8 @@ impl<T> Sequence<T> {
     }
 
     /// Appends an item. Without memory the list stays, and the item is dropped.
+    // Inlined, since a call would move the item once more.
+    #[inline(always)]
     pub fn push(&mut self, item: T) -> Result<(), Memory>
     where
         T: Drop,
@@ -156,15 +158,6 @@ impl Sequence<u8> {
             return self.push(b'0' + number as u8);
         }
         self.append_decimal(number)
-    }
-
-    /// Appends the digits of a decimal number, behind `-` where it is negative. Without memory the list stays.
-    pub fn append_signed(&mut self, number: i32) -> Result<(), Memory>
-        ensures ok { OnOk result (self.new ≡ self.old ++ signed_decimal number) }
-        ensures err { OnErr result (self.new ≡ self.old) }
-    {
-        let mut buffer = Buffer::new();
-        self.append(buffer.format(number).as_bytes())
     }
 
     /// Appends bytes in lower-case hexadecimal digits, two for each byte. Without memory the list stays.

@@ -1,3 +1,5 @@
+//! Bytes that were given.
+
 ghost use Rattle.std.specs.Prelude.{◌≡◌, List, [], ◌++◌, ℕ};
 ghost use Rattle.std.specs.Borrow.{ftrue};
 

@@ -1,3 +1,5 @@
+//! What goes through a queue of bytes.
+
 use mrpc_table::Bytes;
 
 /// What goes through a queue of bytes.

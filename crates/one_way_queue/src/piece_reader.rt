@@ -1,3 +1,5 @@
+//! The end of a queue of bytes that reads.
+
 ghost use Rattle.std.specs.Prelude.{◌≡◌, ◌≤◌, ◌++◌, drop, length};
 ghost use Rattle.one_way_queue.specs.Ends.{taken_of};
 ghost use Rattle.one_way_queue.specs.Pieces.{bytes_of};

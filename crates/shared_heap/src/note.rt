@@ -1,3 +1,5 @@
+//! Notes of what a writer had stored.
+
 ghost use Rattle.std.specs.Prelude.{◌≡◌, length};
 
 use crate::view::View;

@@ -1,3 +1,5 @@
+//! The end of a heap that loads.
+
 ghost use Rattle.std.specs.Prelude.{◌≡◌, ◌<◌, ◌≤◌, ℕ, List, [], ◌∷◌, ◌++◌, length, take, drop, ◌||◌, IsTrue};
 ghost use Rattle.mrpc_base.specs.Heap.{word_after};
 ghost use Rattle.shared_heap.specs.Fresh.{BeginsWith, CallLoads, AreMade, Fresh, NoneTo, load_of, AfterLoad};

@@ -1,3 +1,5 @@
+//! The end of a heap that stores.
+
 ghost use Rattle.std.specs.Prelude.{◌≡◌, ◌<◌, ◌≤◌, ◌+◌, ◌^◌, true, false, [], ◌∷◌, ◌++◌, length};
 
 use crate::note::Note;

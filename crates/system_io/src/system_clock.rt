@@ -1,3 +1,5 @@
+//! The system's clock.
+
 use mrpc_base::Clock;
 use std::time;
 use std::time::Instant;

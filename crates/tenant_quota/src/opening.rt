@@ -1,3 +1,5 @@
+//! How a quota is opened.
+
 ghost use Rattle.std.specs.Prelude.{◌≡◌, ◌≤◌, [], IfOk};
 ghost use Rattle.mrpc_base.specs.declared.tickets.TheConstants.{WINDOWS};
 ghost use Rattle.tenant_quota.specs.Drawing.{all_shares};

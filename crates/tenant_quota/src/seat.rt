@@ -1,3 +1,5 @@
+//! A seat of a quota.
+
 ghost use Rattle.std.specs.Prelude.{◌≡◌, ◌<◌, ◌≤◌, ◌+◌, ◌/◌, [], ◌∷◌, ◌++◌, IfOk, OnErr, ◌^◌, length};
 ghost use Rattle.tenant_quota.specs.Drawing.{AllOnce, all_shares, allowed, tickets_in};
 

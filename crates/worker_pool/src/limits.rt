@@ -1,3 +1,5 @@
+//! How many items and workers there may be.
+
 /// At most so many items are in a run.
 pub const MOST_ITEMS: usize = 16;
 

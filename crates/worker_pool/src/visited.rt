@@ -1,3 +1,5 @@
+//! What a visit of an item came to.
+
 /// What a visit came to.
 #[derive(Clone, Copy, PartialEq, Eq)]
 pub enum Visit {
