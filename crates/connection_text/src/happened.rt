@@ -1,3 +1,5 @@
+//! The line of what happened on a connection.
+
 ghost use Rattle.std.specs.Prelude.{◌≡◌, ◌<◌, ◌++◌, OnOk, Some, length, slice_get};
 ghost use Rattle.mrpc_table.specs.Valid.{IsValid};
 ghost use Rattle.audit_text.specs.Lines.{audit_line};

@@ -1,3 +1,5 @@
+//! The line of a call that stands.
+
 ghost use Rattle.std.specs.Prelude.{◌≡◌, ◌<◌, ◌++◌, ℕ, OnOk, Some, length, slice_get};
 ghost use Rattle.conn_core.specs.Connections.{course};
 ghost use Rattle.connection_text.specs.Standing.{holding, told_call};

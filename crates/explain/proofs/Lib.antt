@@ -1,3 +1,1 @@
-pub mod Plain
-pub mod Saying
-mod Rows
+pub mod Pointing

@@ -1,23 +1,22 @@
 //! The faults of a proto file.
 
 ghost use Rattle.std.specs.Prelude.{List, ℕ, ◌≡◌, ◌<◌, ◌^◌, length, IfOk};
-ghost use Rattle.explain.specs.Findings.{PointsInto};
-ghost use Rattle.explain.specs.Said.{IsTextOf};
+ghost use Rattle.findings.specs.Findings.{PointsInto};
+ghost use Rattle.findings.specs.Said.{IsTextOf};
 ghost use Rattle.proto_schema.specs.Faults.{IsFaultOf, IsTextOf as IsTextOfFile};
-ghost use Rattle.proto_schema.specs.declared.fault.ProtoFault.TheVariants.{At};
+ghost use Rattle.proto_parts.specs.declared.fault.ProtoFault.TheVariants.{At};
 
 use crate::commands::only;
 use crate::expected::say_expected;
 use crate::fault_line::FaultLine;
-use crate::finding::Finding;
 use crate::offence::found_offence;
-use crate::part::Part;
-use crate::sentence::{Around, Sentence};
 use crate::set::explain_set;
 use file_bundle::is_bundle;
+use findings::{Around, Finding, Part, Sentence};
 use mrpc_table::Memory;
 use proto_file::{File, Span};
-use proto_schema::{ProtoFault, ProtoReason, alone_is_ordered, read_proto};
+use proto_parts::{ProtoFault, ProtoReason};
+use proto_schema::{alone_is_ordered, read_proto};
 use schema_resolve::{ResolveFault, resolve};
 use std::alloc::Global;
 

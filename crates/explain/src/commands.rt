@@ -1,16 +1,15 @@
 //! The fault of a command.
 
 ghost use Rattle.std.specs.Prelude.{List, ℕ, IfOk};
-ghost use Rattle.explain.specs.Said.{Explains, IsPlain};
-ghost use Rattle.explain.specs.Findings.{PointsInto};
+ghost use Rattle.findings.specs.Said.{Explains, IsPlain};
+ghost use Rattle.findings.specs.Findings.{PointsInto};
 
 use crate::check::explain_check;
 use crate::fault_line::{FAULT, FaultLine};
-use crate::finding::Finding;
 use crate::frames::explain_decode;
 use crate::lines::{Format, explain_line};
 use crate::run::explain_run;
-use crate::sentence::Sentence;
+use findings::{Finding, Sentence};
 use mrpc_table::{Bytes, Memory, is_word};
 use std::alloc::Global;
 

@@ -2,10 +2,10 @@
 
 ghost use Rattle.std.specs.Prelude.{◌≡◌, ◌<◌, ◌^◌, ◌∷◌, ◌++◌, [], length, OnOk};
 
-use crate::sentence::Sentence;
-use crate::word_table::{Row, text_for};
+use findings::{Row, Sentence, text_for};
 use mrpc_table::{Bytes, Memory};
-use proto_schema::{ProtoFault, read_proto};
+use proto_parts::ProtoFault;
+use proto_schema::read_proto;
 use std::alloc::Global;
 
 // How long the text in front of a token is, at the most, where it is tried what could stand there. It is read again

@@ -3,7 +3,7 @@
 ghost use Rattle.std.specs.Prelude.{◌≤◌, length, IfSome};
 ghost use Rattle.mrpc_table.specs.Valid.{IsValid};
 
-use crate::sentence::Sentence;
+use findings::Sentence;
 use frame_transport::{FrameRef, HEADER_LEN};
 use mrpc_table::{Kind, MAX_DEPTH, Memory, Table};
 use wire_base::{read_delimited, read_record, read_tag};

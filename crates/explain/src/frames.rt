@@ -2,14 +2,12 @@
 
 ghost use Rattle.std.specs.Prelude.{◌≤◌, ℕ, List, length, IfOk};
 ghost use Rattle.mrpc_table.specs.Valid.{IsValid};
-ghost use Rattle.explain.specs.Findings.{PointsInto};
+ghost use Rattle.findings.specs.Findings.{PointsInto};
 
 use crate::fault_line::FaultLine;
-use crate::finding::Finding;
 use crate::frame_path::say_path;
 use crate::lines::{Format, explain_line};
-use crate::sentence::Sentence;
-use crate::word_table::{Row, text_for};
+use findings::{Finding, Row, Sentence, text_or};
 use frame_transport::{HEADER_LEN, frame_at};
 use mrpc_table::{Memory, Table, is_word};
 use std::alloc::Global;
@@ -113,7 +111,7 @@ fn say_frames(
     };
     say_where(table, stream, at, byte_within(at, fault.reason), sentence)?;
     sentence.say(b": ")?;
-    sentence.say(frame_sentence(fault.reason).as_bytes())?;
+    sentence.say(text_or(&SENTENCES, fault.reason, "the frame is at fault").as_bytes())?;
     sentence.end_line()?;
     say_around(stream, at, sentence)
 }
@@ -182,11 +180,6 @@ fn frame_end(stream: &[u8], from: usize) -> Option<usize> {
         ),
         _ => None,
     }
-}
-
-// What a reason says.
-fn frame_sentence(reason: &[u8]) -> &'static str {
-    text_for(&SENTENCES, reason).unwrap_or("the frame is at fault")
 }
 
 // Shows the bytes around a place in hexadecimal digits, with a mark under its own.

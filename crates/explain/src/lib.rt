@@ -3,16 +3,15 @@
 //!
 //! [`explained`] takes the input of a command and the line `fault ..` that the command wrote. It asks the readers of
 //! the input for the place, and for what could stand there or what stands against it. It stands on these readers, on
-//! `scenario_explain`, which does so for scenarios, and on `line_mark`, whose contract says what is shown of a place. The
+//! `scenario_explain`, which does so for scenarios, and on `findings`, whose contract says what is shown of a finding. The
 //! program uses one contract: what is said is a plain sentence, or points at a place of the input with it
-//! (`specs/Said.antt`). The sentences are tested.
+//! (`specs/Said.antt` of `findings`). The sentences are tested.
 #![tactic(auto)]
 
 mod check;
 mod commands;
 mod expected;
 mod fault_line;
-mod finding;
 mod frame_path;
 mod frames;
 mod limits;
@@ -21,12 +20,8 @@ mod line_reasons;
 mod lines;
 mod named;
 mod offence;
-mod part;
 mod run;
 mod script_words_at_fault;
-mod sentence;
 mod set;
-mod text_lines;
-mod word_table;
 
 pub use commands::{explained, no_command};

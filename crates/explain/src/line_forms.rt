@@ -1,7 +1,7 @@
 //! The forms of lines, by their first words.
 
 use crate::lines::Format;
-use crate::word_table::{Row, text_for};
+use findings::{Row, text_for};
 
 // The lines of a table, and those around it.
 const TABLE: [Row; 7] = [
@@ -21,7 +21,7 @@ const FRONT: [Row; 6] = [
     ("policy", "policy NAME access|redact|rate|quota|count .."),
     (
         "rule",
-        "rule NAME allow|deny [method INDEX [reply]] [where PATH OP [VALUE]]",
+        "rule NAME allow|deny [method INDEX [reply] [where PATH OP [VALUE]]]",
     ),
     ("default", "default allow|deny"),
     ("clear", "clear method INDEX [reply] PATH"),

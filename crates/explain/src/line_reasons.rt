@@ -1,7 +1,7 @@
 //! What stands against a line, by the word of the reason.
 
 use crate::limits::LIMITS;
-use crate::word_table::{Row, text_for};
+use findings::{Row, text_for};
 use mrpc_table::is_word;
 
 // What a reason says of a line whose words have the right form.

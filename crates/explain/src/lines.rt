@@ -1,16 +1,13 @@
 //! The faults of texts of lines: scripts, what stands in front of frames, and audits.
 
 ghost use Rattle.std.specs.Prelude.{IfOk};
-ghost use Rattle.explain.specs.Findings.{PointsInto};
+ghost use Rattle.findings.specs.Findings.{PointsInto};
 
 use crate::fault_line::{FAULT, FaultLine};
-use crate::finding::Finding;
 use crate::line_forms::line_form;
 use crate::line_reasons::reason_sentence;
 use crate::script_words_at_fault::{WordAtFault, word_at_fault};
-use crate::sentence::Sentence;
-use crate::text_lines::TextLine;
-use crate::word_table::{Row, text_for};
+use findings::{Finding, Row, Sentence, TextLine, text_or};
 use mrpc_table::{Memory, cut, is_word};
 use std::alloc::Global;
 
@@ -125,7 +122,7 @@ fn missing_line(text: &[u8], reason: &[u8], format: Format) -> &'static str {
     if is_word(reason, b"Close") {
         return format.last_line();
     }
-    text_for(&MISSING, reason).unwrap_or("the end of the table or of a policy")
+    text_or(&MISSING, reason, "the end of the table or of a policy")
 }
 
 // Whether the table begins in the line where it may.

@@ -1,6 +1,6 @@
 //! What of a file has a name or a number already.
 
-use crate::sentence::{Around, Sentence};
+use findings::{Around, Sentence};
 use mrpc_table::{Decimal, Memory};
 use proto_file::{EnumDecl, FieldDecl, File, MessageDecl, ServiceDecl, Span, Word};
 

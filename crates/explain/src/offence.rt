@@ -1,17 +1,15 @@
 //! What stands against a name or a number of a proto file.
 
 ghost use Rattle.std.specs.Prelude.{List, ℕ, IfOk};
-ghost use Rattle.explain.specs.Findings.{PointsInto};
-ghost use Rattle.explain.specs.Said.{IsTextOf};
+ghost use Rattle.findings.specs.Findings.{PointsInto};
+ghost use Rattle.findings.specs.Said.{IsTextOf};
 ghost use Rattle.proto_schema.specs.Faults.{IsTextOf as IsTextOfFile};
 ghost use Rattle.schema_resolve.specs.Resolving.{IsFaultOf};
 ghost use Rattle.schema_resolve.specs.declared.fault.ResolveFault.TheVariants.{At};
 
-use crate::finding::Finding;
 use crate::limits::limit_words;
 use crate::named::{say_earlier_name, say_earlier_number};
-use crate::part::Part;
-use crate::sentence::{Around, Sentence};
+use findings::{Around, Finding, Part, Sentence};
 use mrpc_table::Memory;
 use proto_file::{File, Span};
 use schema_offences::ResolveReason;

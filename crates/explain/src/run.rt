@@ -1,12 +1,10 @@
 //! The faults of scenarios.
 
 ghost use Rattle.std.specs.Prelude.{IfOk};
-ghost use Rattle.explain.specs.Findings.{PointsInto};
+ghost use Rattle.findings.specs.Findings.{PointsInto};
 
 use crate::commands::only;
-use crate::finding::Finding;
-use crate::part::Part;
-use crate::sentence::Sentence;
+use findings::{Finding, Part, Sentence};
 use mrpc_table::Memory;
 use scenario_explain::{Told, tell_fault};
 use std::alloc::Global;

@@ -2,8 +2,7 @@
 
 use crate::line_reasons::reason_sentence;
 use crate::lines::Format;
-use crate::sentence::Sentence;
-use crate::text_lines::TextLine;
+use findings::{Sentence, TextLine};
 use mrpc_table::{Memory, cut, is_word};
 use script_words::{Form, Sort, form_of, judge};
 

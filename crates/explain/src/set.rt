@@ -1,23 +1,20 @@
 //! The faults of a set of files.
 
 ghost use Rattle.std.specs.Prelude.{List, ℕ, ◌≡◌, ◌<◌, ◌≤◌, ◌^◌, length, Contains, IfOk, IfSome};
-ghost use Rattle.explain.specs.Findings.{PointsInto};
-ghost use Rattle.explain.specs.Said.{IsTextOf};
+ghost use Rattle.findings.specs.Findings.{PointsInto};
+ghost use Rattle.findings.specs.Said.{IsTextOf};
 ghost use Rattle.file_bundle.specs.Bundle.{IsBundle};
 
 use crate::check::{TOO_LONG, found_token};
 use crate::commands::only;
 use crate::fault_line::FaultLine;
-use crate::finding::Finding;
 use crate::limits::LIMITS;
-use crate::part::Part;
-use crate::sentence::Sentence;
-use crate::text_lines::TextLine;
-use crate::word_table::{Row, text_for};
 use file_bundle::{BundleFault, Packed, read_bundle};
+use findings::{Finding, Part, Row, Sentence, TextLine, text_for, text_or};
 use mrpc_table::Memory;
 use proto_file::{File, Import};
-use proto_schema::{ProtoFault, read_proto};
+use proto_parts::ProtoFault;
+use proto_schema::read_proto;
 use std::alloc::Global;
 
 // What a reason says in front of the path of an import.
@@ -188,7 +185,7 @@ fn found_line<'a>(
     ensures { (input : List ℕ) → IsTextOf input text.now → IfOk result (λ f. PointsInto input f.part) }
 {
     let mut sentence = Sentence::new(alloc);
-    sentence.say(line_sentence(fault.reason).as_bytes())?;
+    sentence.say(text_or(&LINES, fault.reason, "the file is at fault here").as_bytes())?;
     Ok(Finding::in_line(sentence, TextLine::of(text, fault.place).whole()))
 }
 
@@ -204,9 +201,4 @@ fn import_at(imports: &[Import], line: u64) -> Option<&Import> {
         }
     }
     found
-}
-
-// What stands against something in a line, by the word of the reason.
-fn line_sentence(reason: &[u8]) -> &'static str {
-    text_for(&LINES, reason).unwrap_or("the file is at fault here")
 }

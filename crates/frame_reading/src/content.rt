@@ -11,8 +11,9 @@ ghost use Rattle.frame_reading.specs.Faults.{OnFault, IsFaultIn};
 use crate::fault::ReadFault;
 use frame_transport::{FrameRef, HEADER_LEN, HELLO, METHOD_PLACE};
 use mrpc_table::{Sort, Table, Tree};
+use spare_trees::Spare;
 use std::alloc::Global;
-use wire_decode::{DecodeFault, Spare, decode_with};
+use wire_decode::{DecodeFault, decode_with};
 
 /// What a frame has.
 #[derive(Drop)]

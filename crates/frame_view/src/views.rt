@@ -16,8 +16,8 @@ use frame_transport::{FrameRef, HEADER_LEN};
 use message_text::append_message;
 use mrpc_base::{Sink, write_all};
 use mrpc_table::{Bytes, Memory, Table};
+use spare_trees::Spare;
 use std::alloc::Global;
-use wire_decode::Spare;
 
 // How many bytes of text are gathered at the least before they are written.
 const PIECE: usize = 65_536;

@@ -6,19 +6,13 @@
 //! It measures `app_stub` and what that stands on. A count that is missing or out of range, from 0 to 500000, or running
 //! out of memory ends it with status 1.
 
-mod calling;
-mod plain_service;
-mod taking;
-mod wiring;
-
 use crate::given::{count_of, table_of};
 use crate::lines::line_of;
-use calling::{MAX_CALLS, call};
+use bench_apps::{Found, MAX_CALLS, call};
 use mrpc_table::Bytes;
 use std::alloc::Global;
 use std::sync::Wait;
 use std::thread::Threads;
-use taking::Found;
 
 // The table of the messages.
 const TABLE: &[u8] = b"message M\nfield 1 plain uint64 n\nmethod 0 S Get M M\n";

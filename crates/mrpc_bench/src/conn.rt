@@ -20,7 +20,7 @@ use mrpc_table::{Bytes, Table};
 use std::alloc::Global;
 use work::{TABLE, Work};
 
-/// What a round does.
+// What a round does.
 #[derive(Clone, Copy)]
 enum Round {
     Steps,
@@ -28,7 +28,7 @@ enum Round {
     Again,
 }
 
-/// What the words of the command line ask for.
+// What the words of the command line ask for.
 #[derive(Clone, Copy)]
 struct Task {
     round: Round,
@@ -36,7 +36,7 @@ struct Task {
     rounds: u32,
 }
 
-/// What there was in the end.
+// What there was in the end.
 #[derive(Clone, Copy)]
 struct Done {
     happenings: usize,

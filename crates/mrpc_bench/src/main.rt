@@ -58,7 +58,7 @@ fn print<W: Write>(out: &mut W, told: Option<Bytes>) -> io::Result<ExitCode> {
     Ok(ExitCode::SUCCESS)
 }
 
-/// The parts.
+// The parts.
 #[derive(Clone, Copy)]
 enum Part {
     Apps,

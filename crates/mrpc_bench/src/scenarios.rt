@@ -17,7 +17,7 @@ use std::alloc::Global;
 use std::io::Read;
 use toml::{Table, table_from_slice};
 
-/// What a text is read as.
+// What a text is read as.
 #[derive(Clone, Copy)]
 enum Form {
     Plan,

@@ -3,7 +3,7 @@
 use Rattle.std.proofs.Common.{◌≡◌, inl, inr, ℕ, zero, suc, ◌<◌, List, [], ◌∷◌, ◌++◌, refl, ap, subst, sym, ◌∙◌, arith}
 use Rattle.std.specs.Prelude.{Option, Some, slice_get, Contains}
 use Rattle.std.proofs.lemmas.Option.{slice_get-get_or}
-use Rattle.proto_schema.specs.Lexemes.{Lexeme}
+use Rattle.proto_parts.specs.Lexemes.{Lexeme}
 use Rattle.proto_schema.specs.Files
 use Rattle.proto_schema.specs.Files.{Draft, Statement, Says, Forms, ClosesTo, nothing_said, edit_at, edit_last, first_of}
 use Rattle.proto_schema.specs.Faults.{IsTextOf}

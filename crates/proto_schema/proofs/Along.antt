@@ -16,7 +16,7 @@ use Rattle.proto_tokens.specs.Tokens
 use Rattle.proto_tokens.specs.declared.token.Kind.{Kind}
 use Rattle.proto_tokens.specs.declared.token.Token.{Token}
 use Rattle.proto_file.specs.Dot.{dot}
-use Rattle.proto_schema.specs.Lexemes.{identifier, integer, number, string, mark, the_end, none, Lexeme, lexeme, lexemes, meaning, IsWord}
+use Rattle.proto_parts.specs.Lexemes.{identifier, integer, number, string, mark, the_end, none, Lexeme, lexeme, lexemes, meaning, IsWord}
 
 -- ---- names in a list of tokens
 

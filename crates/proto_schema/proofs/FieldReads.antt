@@ -5,14 +5,14 @@ use Rattle.std.proofs.lemmas.Bool.{lt-leb}
 use Rattle.std.proofs.lemmas.List.{append_assoc}
 use Rattle.mrpc_table.specs.declared.words.Decimal.{Decimal}
 use Rattle.proto_file.specs.Dot.{dot}
-use Rattle.proto_schema.specs.Lexemes.{integer, Lexeme, comma, equals, less, greater, span_to, word_at, number_at, rooted, IsWord, IsMark, says}
-use Rattle.proto_schema.specs.Grammar.{FullName, one, more, TypeName, relative, absolute, begins_with, group_word}
-use Rattle.proto_schema.specs.Grammar.{MapKey, map_key, NestedMaps, innermost, around, FieldTypeOf, named, a_map}
-use Rattle.proto_schema.specs.Grammar.{map_of_maps, whole, negative}
+use Rattle.proto_parts.specs.Lexemes.{integer, Lexeme, comma, equals, less, greater, span_to, word_at, number_at, rooted, IsWord, IsMark, says}
+use Rattle.proto_parts.specs.Grammar.{FullName, one, more, TypeName, relative, absolute, begins_with, group_word}
+use Rattle.proto_parts.specs.Grammar.{MapKey, map_key, NestedMaps, innermost, around, FieldTypeOf, named, a_map}
+use Rattle.proto_parts.specs.Grammar.{map_of_maps, whole, negative}
 use Rattle.proto_schema.specs.Files.{field, FieldEnd, field_end}
-use Rattle.proto_schema.specs.Reading.{is_mark, by_number, part, full_step, typed_step, behind_key, map_step, of_key}
-use Rattle.proto_schema.specs.Reading.{of_inner_key, of_value, of_inner_value, field_step, head, of_type, of_map}
-use Rattle.proto_schema.specs.Reading.{of_tail, field_of, tail_step}
+use Rattle.proto_parts.specs.Reading.{is_mark, by_number, part, full_step, typed_step, behind_key, map_step, of_key}
+use Rattle.proto_parts.specs.Reading.{of_inner_key, of_value, of_inner_value, field_step, head, of_type, of_map}
+use Rattle.proto_parts.specs.Reading.{of_tail, field_of, tail_step}
 use Rattle.proto_schema.proofs.NameLemmas.{Walks, stay, go, walks_on, walks_in, word_no_mark, is_name}
 use Rattle.proto_schema.proofs.NameRest.{behind_dot}
 use Rattle.proto_schema.proofs.OptionReads.{TailGoes, tail_reads}
@@ -24,21 +24,21 @@ use Rattle.proto_file.specs.declared.file.FieldLabel.{FieldLabel}
 use Rattle.proto_file.specs.declared.file.FieldType.{FieldType}
 use Rattle.proto_file.specs.declared.file.FieldType.TheVariants as types
 use Rattle.proto_file.specs.declared.file.FieldDecl.{FieldDecl}
-use Rattle.proto_schema.specs.declared.fault.ProtoFault.{ProtoFault}
-use Rattle.proto_schema.specs.declared.name.NameState.{NameState}
-use Rattle.proto_schema.specs.declared.name.NameState.TheVariants as names
-use Rattle.proto_schema.specs.declared.name.NameStep.{NameStep}
-use Rattle.proto_schema.specs.declared.name.NameStep.TheVariants as name_steps
-use Rattle.proto_schema.specs.declared.field.Head.{Head}
-use Rattle.proto_schema.specs.declared.field.MapState.{MapState}
-use Rattle.proto_schema.specs.declared.field.MapState.TheVariants as maps
-use Rattle.proto_schema.specs.declared.field.MapStep.TheVariants as map_steps
-use Rattle.proto_schema.specs.declared.field.FieldState.{FieldState}
-use Rattle.proto_schema.specs.declared.field.FieldState.TheVariants as fields
-use Rattle.proto_schema.specs.declared.field.FieldStep.TheVariants as steps
-use Rattle.proto_schema.specs.declared.tail.TailState.{TailState}
-use Rattle.proto_schema.specs.declared.tail.TailState.TheVariants as tails
-use Rattle.proto_schema.specs.declared.tail.TailStep.TheVariants as tail_steps
+use Rattle.proto_parts.specs.declared.fault.ProtoFault.{ProtoFault}
+use Rattle.proto_parts.specs.declared.name.NameState.{NameState}
+use Rattle.proto_parts.specs.declared.name.NameState.TheVariants as names
+use Rattle.proto_parts.specs.declared.name.NameStep.{NameStep}
+use Rattle.proto_parts.specs.declared.name.NameStep.TheVariants as name_steps
+use Rattle.proto_parts.specs.declared.field.Head.{Head}
+use Rattle.proto_parts.specs.declared.field.MapState.{MapState}
+use Rattle.proto_parts.specs.declared.field.MapState.TheVariants as maps
+use Rattle.proto_parts.specs.declared.field.MapStep.TheVariants as map_steps
+use Rattle.proto_parts.specs.declared.field.FieldState.{FieldState}
+use Rattle.proto_parts.specs.declared.field.FieldState.TheVariants as fields
+use Rattle.proto_parts.specs.declared.field.FieldStep.TheVariants as steps
+use Rattle.proto_parts.specs.declared.tail.TailState.{TailState}
+use Rattle.proto_parts.specs.declared.tail.TailState.TheVariants as tails
+use Rattle.proto_parts.specs.declared.tail.TailStep.TheVariants as tail_steps
 
 -- ---- a type's name
 

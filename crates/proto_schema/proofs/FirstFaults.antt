@@ -12,14 +12,15 @@ use Rattle.proto_tokens.specs.Tokens.{AreTokens, IsHere, Stands, is_last, litera
 use Rattle.proto_tokens.specs.declared.token.Kind.{Kind}
 use Rattle.proto_tokens.specs.declared.token.Kind.TheVariants as kinds
 use Rattle.proto_tokens.specs.declared.token.Token.{Token}
-use Rattle.proto_schema.specs.Lexemes.{Meaning, identifier, integer, number, string, mark, the_end, none, Lexeme}
-use Rattle.proto_schema.specs.Lexemes.{span_of, meaning, lexeme, lexemes, semicolon, equals, IsWord, says}
-use Rattle.proto_schema.specs.Lexemes.{says_one_of}
+use Rattle.proto_parts.specs.Lexemes.{Meaning, identifier, integer, number, string, mark, the_end, none, Lexeme}
+use Rattle.proto_parts.specs.Lexemes.{span_of, meaning, lexeme, lexemes, semicolon, equals, IsWord, says}
+use Rattle.proto_parts.specs.Lexemes.{says_one_of}
 use Rattle.proto_schema.specs.Files
 use Rattle.proto_schema.specs.Files.{Draft, Forms, nothing_said}
 use Rattle.proto_schema.specs.Faults
-use Rattle.proto_schema.specs.Faults.{is_no_token, CanGoOn, BreaksAt, IsNamed, IsFault, IsTextOf, HasFault}
-use Rattle.proto_schema.specs.Reading.{fault_at, unexpected, is_mark}
+use Rattle.proto_parts.specs.Lexemes.{is_no_token}
+use Rattle.proto_schema.specs.Faults.{CanGoOn, BreaksAt, IsNamed, IsFault, IsTextOf, HasFault}
+use Rattle.proto_parts.specs.Reading.{fault_at, unexpected, is_mark}
 use Rattle.std.specs.Str.{bytes_eq}
 use Rattle.proto_schema.specs.Running.{place_of, added, statement_step, Outcome, cut_off, read, failed, is_over}
 use Rattle.proto_schema.specs.Running.{is_too_deep, behind, run, behind_word, behind_equals, behind_value}
@@ -33,9 +34,9 @@ use Rattle.proto_schema.proofs.Reports.{Told, told, Means, has_name, breaks_off,
 use Rattle.proto_schema.proofs.Named.{Reports, here, earlier, named_reports, take_at_most, extend_word}
 use Rattle.proto_file.specs.declared.file.Span.{Span}
 use Rattle.proto_file.specs.declared.file.File.{File}
-use Rattle.proto_schema.specs.declared.fault.ProtoReason.{ProtoReason}
-use Rattle.proto_schema.specs.declared.fault.ProtoReason.TheVariants as reasons
-use Rattle.proto_schema.specs.declared.fault.ProtoFault.{ProtoFault}
+use Rattle.proto_parts.specs.declared.fault.ProtoReason.{ProtoReason}
+use Rattle.proto_parts.specs.declared.fault.ProtoReason.TheVariants as reasons
+use Rattle.proto_parts.specs.declared.fault.ProtoFault.{ProtoFault}
 use Rattle.proto_schema.specs.declared.statement.State.{State}
 use Rattle.proto_schema.specs.declared.statement.State.TheVariants as states
 use Rattle.proto_schema.specs.declared.statement.Said.{Said}

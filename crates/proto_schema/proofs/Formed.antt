@@ -4,7 +4,7 @@ use Rattle.std.proofs.Common.{◌≡◌, ◌⊎◌, inl, inr, ℕ, zero, suc, �
 use Rattle.std.proofs.Common.{length, length-append, refl, ap, subst, sym, ◌∙◌, arith}
 use Rattle.std.specs.Prelude.{Option, Some, None, slice_get, IfSome, Contains}
 use Rattle.std.proofs.lemmas.Bool.{cases_lt}
-use Rattle.proto_schema.specs.Lexemes.{Lexeme, word_at}
+use Rattle.proto_parts.specs.Lexemes.{Lexeme, word_at}
 use Rattle.proto_schema.specs.Files
 use Rattle.proto_schema.specs.Files.{Draft, Block, no_block, a_oneof, an_enum, a_service, an_rpc, Statement, Says}
 use Rattle.proto_schema.specs.Files.{Forms, ClosesTo, nothing_said, edit_at, edit_last, first_of, with_file}

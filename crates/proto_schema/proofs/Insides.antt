@@ -24,9 +24,9 @@ use Rattle.proto_file.specs.declared.file.EnumDecl.{EnumDecl}
 use Rattle.proto_file.specs.declared.file.RpcDecl.{RpcDecl}
 use Rattle.proto_file.specs.declared.file.ServiceDecl.{ServiceDecl}
 use Rattle.proto_file.specs.declared.file.File.{File}
-use Rattle.proto_schema.specs.Lexemes.{Lexeme, lexeme, lexemes, span_to, word_at}
-use Rattle.proto_schema.specs.Grammar
-use Rattle.proto_schema.specs.Grammar.{FullName, TypeName, MapKey, FieldTypeOf, RpcType, NumberOf, RangeOf, RangesOf, NamesOf}
+use Rattle.proto_parts.specs.Lexemes.{Lexeme, lexeme, lexemes, span_to, word_at}
+use Rattle.proto_parts.specs.Grammar
+use Rattle.proto_parts.specs.Grammar.{FullName, TypeName, MapKey, FieldTypeOf, RpcType, NumberOf, RangeOf, RangesOf, NamesOf}
 use Rattle.proto_schema.specs.Files
 use Rattle.proto_schema.specs.Files.{Draft, Statement, Says, Forms, ClosesTo, FieldEnd, field_end, RpcHead, rpc_head, nothing_said, edit, edit_at, edit_last, first_of, add_field, field}
 use Rattle.proto_schema.specs.Faults.{IsTextOf}

@@ -4,14 +4,14 @@ use Rattle.std.specs.Prelude.{Ok}
 use Rattle.std.proofs.lemmas.Bool.{eqb-true, eq-eqb}
 use Rattle.std.proofs.lemmas.List.{append_assoc}
 use Rattle.proto_file.specs.Dot.{dot}
-use Rattle.proto_schema.specs.Lexemes.{Meaning, identifier, integer, number, string, mark, the_end, none, Lexeme, span_to, word_at, IsWord, IsMark}
-use Rattle.proto_schema.specs.Grammar.{FullName, one, more}
-use Rattle.proto_schema.specs.Reading.{is_mark, by_name, if_name, part, full_step}
+use Rattle.proto_parts.specs.Lexemes.{Meaning, identifier, integer, number, string, mark, the_end, none, Lexeme, span_to, word_at, IsWord, IsMark}
+use Rattle.proto_parts.specs.Grammar.{FullName, one, more}
+use Rattle.proto_parts.specs.Reading.{is_mark, by_name, if_name, part, full_step}
 use Rattle.proto_file.specs.declared.file.Span.{Span}
 use Rattle.proto_file.specs.declared.file.Word.{Word}
-use Rattle.proto_schema.specs.declared.name.NameState.{NameState}
-use Rattle.proto_schema.specs.declared.name.NameState.TheVariants as names
-use Rattle.proto_schema.specs.declared.name.NameStep.TheVariants as name_steps
+use Rattle.proto_parts.specs.declared.name.NameState.{NameState}
+use Rattle.proto_parts.specs.declared.name.NameState.TheVariants as names
+use Rattle.proto_parts.specs.declared.name.NameStep.TheVariants as name_steps
 
 -- ---- meanings
 

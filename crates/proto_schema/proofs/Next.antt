@@ -6,14 +6,14 @@ use Rattle.proto_tokens.specs.Tokens.{literal_of, is_last, AreTokens, IsNext, Is
 use Rattle.proto_tokens.specs.declared.token.Kind.{Kind}
 use Rattle.proto_tokens.specs.declared.token.Kind.TheVariants as kinds
 use Rattle.proto_tokens.specs.declared.token.Token.{Token}
-use Rattle.proto_schema.specs.Lexemes.{Lexeme, lexeme, lexemes, meaning, says, equals}
+use Rattle.proto_parts.specs.Lexemes.{Lexeme, lexeme, lexemes, meaning, says, equals}
 use Rattle.proto_schema.specs.Files.{Draft, nothing_said}
-use Rattle.proto_schema.specs.Reading.{Lies, Fails, is_mark, unexpected}
+use Rattle.proto_parts.specs.Reading.{Lies, Fails, is_mark, unexpected}
 use Rattle.proto_schema.specs.Running.{Begins, alone, with_others, Outcome, read, failed, Failed, run, behind}
 use Rattle.proto_schema.specs.Running.{behind_step, is_over, statement_step, place_of, depth, behind_word}
 use Rattle.proto_schema.specs.Running.{behind_equals, added, is_too_deep, is_begin, is_end, is_file}
-use Rattle.proto_schema.specs.declared.fault.ProtoFault.{ProtoFault}
-use Rattle.proto_schema.specs.declared.fault.ProtoFault.TheVariants as fault
+use Rattle.proto_parts.specs.declared.fault.ProtoFault.{ProtoFault}
+use Rattle.proto_parts.specs.declared.fault.ProtoFault.TheVariants as fault
 use Rattle.proto_schema.proofs.Depths.{Within, statement_within}
 use Rattle.proto_schema.specs.declared.statement.Place.{Place}
 use Rattle.proto_schema.specs.declared.statement.Step.TheVariants as steps

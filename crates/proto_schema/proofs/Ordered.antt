@@ -10,8 +10,8 @@ use Rattle.proto_file.specs.declared.file.Word.{Word}
 use Rattle.proto_file.specs.declared.file.Number.{Number}
 use Rattle.proto_file.specs.declared.file.FieldType.{FieldType}
 use Rattle.std.proofs.lemmas.List.{append_assoc}
-use Rattle.proto_schema.specs.Lexemes.{Lexeme, word_at}
-use Rattle.proto_schema.specs.Grammar.{FieldTypeOf}
+use Rattle.proto_parts.specs.Lexemes.{Lexeme, word_at}
+use Rattle.proto_parts.specs.Grammar.{FieldTypeOf}
 use Rattle.proto_schema.specs.Files
 use Rattle.proto_schema.specs.Files.{Draft, Statement, Says, Forms, ClosesTo, FieldEnd, nothing_said, first_of, add_field, add_rpc, field}
 use Rattle.proto_schema.specs.Faults.{IsTextOf}

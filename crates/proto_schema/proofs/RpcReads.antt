@@ -5,11 +5,11 @@ use Rattle.std.specs.Str.{bytes_eq}
 use Rattle.std.proofs.lemmas.Bool.{or_parts, false_from_ne_true}
 use Rattle.std.proofs.lemmas.List.{append_assoc}
 use Rattle.proto_file.specs.Dot.{dot}
-use Rattle.proto_schema.specs.Lexemes.{Lexeme, semicolon, opening_brace, opening_paren, closing_paren, span_to, word_at, rooted, IsWord, IsMark, says}
-use Rattle.proto_schema.specs.Grammar.{FullName, one, more, relative, absolute, begins_with, group_word, RpcType, stream_type, other_type}
+use Rattle.proto_parts.specs.Lexemes.{Lexeme, semicolon, opening_brace, opening_paren, closing_paren, span_to, word_at, rooted, IsWord, IsMark, says}
+use Rattle.proto_parts.specs.Grammar.{FullName, one, more, relative, absolute, begins_with, group_word, RpcType, stream_type, other_type}
 use Rattle.proto_schema.specs.Files.{RpcHead, rpc_head}
-use Rattle.proto_schema.specs.Faults.{is_type_part}
-use Rattle.proto_schema.specs.Reading.{rpc_type_step, behind_type, is_streaming, rpc_step, of_input, of_output}
+use Rattle.proto_parts.specs.Lexemes.{is_type_part}
+use Rattle.proto_parts.specs.Reading.{rpc_type_step, behind_type, is_streaming, rpc_step, of_input, of_output}
 use Rattle.proto_schema.proofs.Choices.{dotted_differs}
 use Rattle.proto_schema.proofs.NameLemmas.{Walks, stay, go, walks_on, walks_in, is_name}
 use Rattle.proto_schema.proofs.NameRest.{behind_dot}
@@ -17,12 +17,12 @@ use Rattle.proto_schema.proofs.FieldReads.{TypedGoes, typed_whole, first_goes, r
 use Rattle.proto_file.specs.declared.file.Span.{Span}
 use Rattle.proto_file.specs.declared.file.Word.{Word}
 use Rattle.proto_file.specs.declared.file.RpcDecl.{RpcDecl}
-use Rattle.proto_schema.specs.declared.name.NameState.{NameState}
-use Rattle.proto_schema.specs.declared.name.NameState.TheVariants as names
-use Rattle.proto_schema.specs.declared.name.NameStep.TheVariants as name_steps
-use Rattle.proto_schema.specs.declared.rpc.RpcState.{RpcState}
-use Rattle.proto_schema.specs.declared.rpc.RpcState.TheVariants as rpcs
-use Rattle.proto_schema.specs.declared.rpc.RpcStep.TheVariants as steps
+use Rattle.proto_parts.specs.declared.name.NameState.{NameState}
+use Rattle.proto_parts.specs.declared.name.NameState.TheVariants as names
+use Rattle.proto_parts.specs.declared.name.NameStep.TheVariants as name_steps
+use Rattle.proto_parts.specs.declared.rpc.RpcState.{RpcState}
+use Rattle.proto_parts.specs.declared.rpc.RpcState.TheVariants as rpcs
+use Rattle.proto_parts.specs.declared.rpc.RpcStep.TheVariants as steps
 
 -- ---- the type
 

@@ -2,8 +2,8 @@
 use Rattle.std.proofs.Common.{ℕ, ◌<◌, false, List, [], ◌∷◌, ◌++◌, codes, refl, arith}
 use Rattle.std.specs.Prelude.{Option, Some, None}
 use Rattle.mrpc_table.specs.declared.words.Decimal.TheVariants.{Small}
-use Rattle.proto_schema.specs.Lexemes.{Meaning, Lexeme, identifier, integer, string, mark, the_end, word_at, number_at}
-use Rattle.proto_schema.specs.Grammar
+use Rattle.proto_parts.specs.Lexemes.{Meaning, Lexeme, identifier, integer, string, mark, the_end, word_at, number_at}
+use Rattle.proto_parts.specs.Grammar
 use Rattle.proto_schema.specs.Files
 use Rattle.proto_schema.specs.Files.{nothing_said}
 use Rattle.proto_schema.specs.Faults
@@ -12,7 +12,7 @@ use Rattle.proto_file.specs.Joined.{Joined, alone}
 use Rattle.proto_file.specs.Order
 use Rattle.proto_file.specs.Order.{IsFormed, IsOrdered, StandsAt, message_decl, field_decl, its_type, its_name, its_number}
 use Rattle.proto_file.specs.Together
-use Rattle.proto_schema.specs.declared.fault.ProtoReason.TheVariants as reasons
+use Rattle.proto_parts.specs.declared.fault.ProtoReason.TheVariants as reasons
 use Rattle.proto_file.specs.declared.file.Span.{Span}
 use Rattle.proto_file.specs.declared.file.FieldLabel.TheVariants.{Plain}
 use Rattle.proto_file.specs.declared.file.FieldType.TheVariants.{Named}

@@ -1,24 +1,23 @@
 -- Which token of a text that is no proto file is at fault first, and why (this project's own).
-use Rattle.std.specs.Prelude.{◌≡◌, ◌≢◌, ℕ, ◌+◌, ◌<◌, ◌≤◌, ◌==◌, ◌||◌, Bool, true, false, List, [], ◌∷◌, ◌++◌, codes}
+use Rattle.std.specs.Prelude.{◌≡◌, ◌≢◌, ℕ, ◌+◌, ◌<◌, ◌≤◌, Bool, true, false, List, [], ◌∷◌, ◌++◌, codes}
 use Rattle.std.specs.Prelude.{length, take, Some, slice_get}
 use Rattle.proto_tokens.specs.Tokens.{AreTokens}
 use Rattle.proto_tokens.specs.declared.token.Token.{Token}
-use Rattle.proto_schema.specs.Lexemes.{Lexeme, Meaning, identifier, string, mark, the_end, none, lexemes, IsWord}
-use Rattle.proto_file.specs.Dot.{dot}
-use Rattle.proto_schema.specs.Lexemes.{IsMark, less, equals, opening_brace, opening_paren, closing_paren, says}
-use Rattle.proto_schema.specs.Lexemes.{says_one_of}
-use Rattle.proto_schema.specs.Grammar.{MapKey, RpcType}
+use Rattle.proto_parts.specs.Lexemes.{Lexeme, Meaning, string, the_end, lexemes, IsWord, is_no_token, is_type_part}
+use Rattle.proto_parts.specs.Lexemes.{IsMark, less, equals, opening_brace, opening_paren, closing_paren, says}
+use Rattle.proto_parts.specs.Lexemes.{says_one_of}
+use Rattle.proto_parts.specs.Grammar.{MapKey, RpcType}
 use Rattle.proto_schema.specs.Files.{Draft, InFile, InMessage, InBody, a_oneof, a_service, LabelOf, Says, Forms}
 use Rattle.proto_schema.specs.declared.limits.TheConstants.{MAX_OPEN}
 use Rattle.proto_file.specs.declared.file.FieldLabel.{FieldLabel}
 use Rattle.proto_file.specs.declared.file.Word.{Word}
 use Rattle.proto_file.specs.declared.file.File.{File}
 use Rattle.proto_file.specs.declared.file.Span.{Span}
-use Rattle.proto_schema.specs.declared.fault.ProtoReason.{ProtoReason}
-use Rattle.proto_schema.specs.declared.fault.ProtoReason.TheVariants.{Token as NoToken, Expected, Import, Stream, Group}
-use Rattle.proto_schema.specs.declared.fault.ProtoReason.TheVariants.{Extend, Syntax2, Nesting}
-use Rattle.proto_schema.specs.declared.fault.ProtoFault.{ProtoFault}
-use Rattle.proto_schema.specs.declared.fault.ProtoFault.TheVariants as fault
+use Rattle.proto_parts.specs.declared.fault.ProtoReason.{ProtoReason}
+use Rattle.proto_parts.specs.declared.fault.ProtoReason.TheVariants.{Token as NoToken, Expected, Import, Stream, Group}
+use Rattle.proto_parts.specs.declared.fault.ProtoReason.TheVariants.{Extend, Syntax2, Nesting}
+use Rattle.proto_parts.specs.declared.fault.ProtoFault.{ProtoFault}
+use Rattle.proto_parts.specs.declared.fault.ProtoFault.TheVariants as fault
 
 -- ---- where a text breaks off
 
@@ -38,23 +37,11 @@ Begins ts k d = Says (take k ts) d
 
 -- ---- what a break means
 
--- no token stands there: `:` and `/` are none outside of braces
-abbrev pub is_no_token : Meaning → Bool
-is_no_token none = true
-is_no_token (mark c) = c == 58 || c == 47
-is_no_token _ = false
-
 -- it may stand behind `import`, as far as the reason is asked
 abbrev pub is_path : Meaning → Bool
 is_path (string path) = true
 is_path the_end = true
 is_path m = says m (codes "public")
-
--- a type's name or a part of one
-abbrev pub is_type_part : Meaning → Bool
-is_type_part (identifier name) = true
-is_type_part (mark c) = c == dot
-is_type_part _ = false
 
 -- from the beginning of a statement up to an rpc's type
 pub data BeforeRpcType (d : Draft) (all : List Lexeme) : Type 0 where

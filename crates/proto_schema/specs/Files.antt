@@ -3,10 +3,10 @@
 -- innermost open one.
 use Rattle.std.specs.Prelude.{◌≡◌, ◌≢◌, ℕ, zero, suc, ◌-◌, Bool, true, false, List, [], ◌∷◌, ◌++◌, codes, length}
 use Rattle.std.specs.Prelude.{Option, Some, None, slice_get}
-use Rattle.proto_schema.specs.Lexemes.{Lexeme, string, the_end, IsWord, IsMark, semicolon, equals, opening_brace}
-use Rattle.proto_schema.specs.Lexemes.{closing_brace, opening_paren, closing_paren, word_at}
-use Rattle.proto_schema.specs.Grammar.{FullName, begins_with, member_words, statement_words, group_word, FieldTypeOf}
-use Rattle.proto_schema.specs.Grammar.{RpcType, NumberOf, OptionOf, FieldOptions, RangesOf, NamesOf}
+use Rattle.proto_parts.specs.Lexemes.{Lexeme, string, the_end, IsWord, IsMark, semicolon, equals, opening_brace}
+use Rattle.proto_parts.specs.Lexemes.{closing_brace, opening_paren, closing_paren, word_at}
+use Rattle.proto_parts.specs.Grammar.{FullName, begins_with, member_words, statement_words, group_word, FieldTypeOf}
+use Rattle.proto_parts.specs.Grammar.{RpcType, NumberOf, OptionOf, FieldOptions, RangesOf, NamesOf}
 use Rattle.proto_file.specs.declared.file.Word.{Word}
 use Rattle.proto_file.specs.declared.file.Number.{Number}
 use Rattle.proto_file.specs.declared.file.Range.{Range}

@@ -8,7 +8,7 @@ ghost use Rattle.proto_file.specs.Within.{IsWithin};
 ghost use Rattle.proto_file.specs.Together as Together;
 ghost use Rattle.proto_file.specs.declared.file.File.{File};
 ghost use Rattle.proto_file.specs.declared.file.Span.{Span};
-ghost use Rattle.proto_schema.specs.declared.fault.ProtoReason.{ProtoReason};
+ghost use Rattle.proto_parts.specs.declared.fault.ProtoReason.{ProtoReason};
 
 use proto_tokens::one_list;
 

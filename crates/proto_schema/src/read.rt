@@ -7,27 +7,29 @@ ghost use Rattle.proto_tokens.specs.Strings.{string_value as value_of};
 ghost use Rattle.proto_tokens.specs.Tokens.{IsNext, AreTokens, line_at, is_last, literal_of};
 ghost use Rattle.proto_tokens.specs.declared.token.Token.{Token};
 ghost use Rattle.proto_tokens.specs.declared.token.Kind.TheVariants as kinds;
-ghost use Rattle.proto_schema.specs.Lexemes.{lexeme, lexemes};
+ghost use Rattle.proto_parts.specs.Lexemes.{lexeme, lexemes};
 ghost use Rattle.proto_schema.specs.Files.{nothing_said};
-ghost use Rattle.proto_schema.specs.Faults.{IsTextOf, IsFaultOf, is_no_token};
+ghost use Rattle.proto_parts.specs.Lexemes.{is_no_token};
+ghost use Rattle.proto_schema.specs.Faults.{IsTextOf, IsFaultOf};
 ghost use Rattle.proto_file.specs.declared.file.File.{File};
 ghost use Rattle.proto_file.specs.declared.file.Word.{Word};
-ghost use Rattle.proto_schema.specs.declared.fault.ProtoFault.TheVariants as faults;
-ghost use Rattle.proto_schema.specs.Reading.{Lies};
+ghost use Rattle.proto_parts.specs.declared.fault.ProtoFault.TheVariants as faults;
+ghost use Rattle.proto_parts.specs.Reading.{Lies};
 ghost use Rattle.proto_schema.specs.Running.{Comes, Failed, Follows, Begins, run, reading, behind_word, behind_step, draft_of};
 ghost use Rattle.proto_schema.specs.Running.{place_of, is_over, is_too_deep as too_deep, depth};
 ghost use Rattle.proto_schema.specs.Running.{statement_step as statement_reading};
-ghost use Rattle.proto_schema.specs.Lexemes.{Lexeme};
+ghost use Rattle.proto_parts.specs.Lexemes.{Lexeme};
 ghost use Rattle.proto_schema.specs.declared.statement.State.TheVariants as states;
 ghost use Rattle.proto_schema.specs.declared.statement.Step.TheVariants as steps;
 ghost use Rattle.proto_schema.specs.declared.statement.Said.TheVariants as said;
 
 use crate::draft::Draft;
-use crate::fault::{ProtoFault, ProtoReason};
-use crate::lexeme::{bytes_of, fault_at, is_mark, is_word, span_of, unexpected};
 use crate::statement::{Opening, Place, Said, State, Step, statement_step};
 use mrpc_table::Memory;
 use proto_file::{File, Span, Word};
+use proto_parts::{
+    ProtoFault, ProtoReason, bytes_of, fault_at, is_mark, is_word, span_of, unexpected,
+};
 use proto_tokens::{Kind, Token, next_token, one_list, one_token, string_value};
 use std::alloc::Global;
 

@@ -4,28 +4,24 @@ ghost use Rattle.std.specs.Prelude.{◌≡◌, ◌<◌, ◌^◌, ℕ, List, Ok, 
 ghost use Rattle.std.specs.Str.{bytes_eq};
 ghost use Rattle.proto_tokens.specs.Tokens.{literal_of};
 ghost use Rattle.proto_tokens.specs.declared.token.Kind.TheVariants as kinds;
-ghost use Rattle.proto_schema.specs.Lexemes.{lexeme, word_at, opening_brace, semicolon};
-ghost use Rattle.proto_schema.specs.Reading.{Lies, Gives, wrong, if_name, is_mark as is_the_mark};
-ghost use Rattle.proto_schema.specs.Reading.{full_step as full_reading, option_step as option_reading, option_depth};
-ghost use Rattle.proto_schema.specs.Reading.{field_step as field_reading, field_depth, value_step as value_reading};
-ghost use Rattle.proto_schema.specs.Reading.{value_depth, reserved_step as reserved_reading, rpc_step as rpc_reading};
+ghost use Rattle.proto_parts.specs.Lexemes.{lexeme, word_at, opening_brace, semicolon};
+ghost use Rattle.proto_parts.specs.Reading.{Lies, Gives, wrong, if_name, is_mark as is_the_mark};
+ghost use Rattle.proto_parts.specs.Reading.{full_step as full_reading, option_step as option_reading, option_depth};
+ghost use Rattle.proto_parts.specs.Reading.{field_step as field_reading, field_depth, value_step as value_reading};
+ghost use Rattle.proto_parts.specs.Reading.{value_depth, reserved_step as reserved_reading, rpc_step as rpc_reading};
 ghost use Rattle.proto_schema.specs.Running;
 ghost use Rattle.proto_schema.specs.declared.statement.Place.TheVariants as places;
 ghost use Rattle.proto_schema.specs.declared.statement.State.TheVariants as states;
 ghost use Rattle.proto_schema.specs.declared.statement.Said.TheVariants as said;
 ghost use Rattle.proto_schema.specs.declared.statement.Step.TheVariants as steps;
 
-use crate::fault::{ProtoFault, ProtoReason};
-use crate::field::{FieldState, FieldStep, field_step};
-use crate::lexeme::{
-    bytes_of, fault_at, identifier_of, is_mark, is_word, span_of, unexpected, word_of,
-};
-use crate::name::{NameState, NameStep, full_step};
-use crate::option::{OptionState, OptionStep, option_step};
-use crate::reserved::{ReservedPart, ReservedState, ReservedStep, reserved_step};
-use crate::rpc::{RpcState, RpcStep, rpc_step};
-use crate::value::{ValueState, ValueStep, value_step};
 use proto_file::{FieldDecl, FieldLabel, Import, Ranges, RpcDecl, ValueDecl, Word, Words};
+use proto_parts::{
+    FieldState, FieldStep, NameState, NameStep, OptionState, OptionStep, ProtoFault, ProtoReason,
+    ReservedPart, ReservedState, ReservedStep, RpcState, RpcStep, ValueState, ValueStep, bytes_of,
+    fault_at, field_step, full_step, identifier_of, is_mark, is_word, option_step, reserved_step,
+    rpc_step, span_of, unexpected, value_step, word_of,
+};
 use proto_tokens::{Kind, Token, string_value};
 use std::alloc::Global;
 

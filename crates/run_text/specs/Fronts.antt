@@ -1,4 +1,5 @@
--- The front of what is told of a connection, which is made beside those of the others: its history, and what arrived.
+-- The code's own: the front of what is told of a connection, which is made beside those of the others: its history, and
+-- what arrived.
 use Rattle.std.specs.Prelude.{◌≡◌, List, [], ℕ, ◌++◌, All, IfOk, Option, Some, None, Result}
 use Rattle.std.specs.List.{AllZip}
 use Rattle.mrpc_table.specs.Valid.{IsValid}

@@ -1,7 +1,8 @@
 //! What a reason says of any entry.
 
-use crate::words::{Row, words_for};
+use findings::Row;
 use scenario::ScenarioReason;
+use scenario_words::words_for;
 
 const WORDS: [Row; 17] = [
     ("Toml", " is no TOML"),

@@ -3,8 +3,8 @@
 use crate::forms::{Choice, Key, Takes, choice_of, keys_of};
 use crate::site::{Said, Site, Spot, say_at};
 use crate::values::{fits, say_type};
-use crate::words::{Part, say};
 use mrpc_table::{Bytes, is_word};
+use scenario_words::{Part, say};
 use toml::{Table, Value};
 
 /// Says which key of an entry is at fault.

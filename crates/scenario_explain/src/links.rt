@@ -1,10 +1,10 @@
 //! Connections that don't stand in pairs.
 
 use crate::site::{Said, Site, say_at};
-use crate::words::Part;
 use mrpc_table::Bytes;
 use scenario::Entry;
 use scenario::keys::{conn, end_a, end_b};
+use scenario_words::Part;
 use toml::{Table, Value};
 
 /// Says why a connection doesn't stand in a pair.

@@ -2,11 +2,11 @@
 
 use crate::forms::{Takes, keys_of};
 use crate::site::{Said, Site, say_at};
-use crate::words::Part;
 use mrpc_table::Bytes;
 use policy_blocks::MAX_TENANTS;
 use scenario::Entry;
 use scenario_values::Range;
+use scenario_words::Part;
 use toml::Table;
 
 /// Says which number of an entry is out of its range, apart from those in lines.

@@ -4,13 +4,14 @@ ghost use Rattle.mrpc_table.specs.Valid.{IsValid};
 
 use crate::declared::marks_of;
 use crate::site::{Said, Site, Spot, items_at, say_in, text_of};
-use crate::words::{Part, Row, say, words_for};
+use findings::Row;
 use mrpc_table::{Bytes, Lines, Memory, RuleFault, Table as Schema};
 use policy_access::read_access;
 use policy_redact::read_redact;
 use scenario::keys::kind_of;
 use scenario::{Kind, ScenarioReason, of_rule, table_in};
 use scenario_values::word_at;
+use scenario_words::{Part, say, words_for};
 use std::alloc::Global;
 use toml::{Table, Value};
 
@@ -203,7 +204,7 @@ fn line_of(lines: &Lines, number: u64) -> Part<'_> {
 }
 
 const RULE: &str =
-    "expected \"rule NAME allow|deny [method INDEX [reply]] [where PATH OP [VALUE]]\", 64 times at the most, or \
+    "expected \"rule NAME allow|deny [method INDEX [reply] [where PATH OP [VALUE]]]\", 64 times at the most, or \
      \"default allow|deny\"";
 
 const CLEAR: &str = "expected \"clear method INDEX [reply] PATH\", 1 to 64 times";

@@ -1,10 +1,11 @@
 //! Schemas that have no table.
 
 use crate::site::{Said, say_at};
-use crate::words::Part;
 use mrpc_table::{Bytes, Memory};
-use proto_schema::{ProtoFault, alone_is_ordered, read_proto};
+use proto_parts::ProtoFault;
+use proto_schema::{alone_is_ordered, read_proto};
 use scenario_values::word_at;
+use scenario_words::Part;
 use schema_resolve::{ResolveFault, resolve};
 use std::alloc::Global;
 use toml::Table;

@@ -10,9 +10,9 @@ use crate::rules::{say_own_rules, say_rules};
 use crate::schema::say_schema;
 use crate::site::{Said, Site, Spot};
 use crate::steps::{say_chain, say_refused, say_step, say_step_rules, say_unknown_step};
-use crate::words::{Part, say};
 use mrpc_table::{Bytes, Memory};
 use scenario::{Entry, ScenarioReason};
+use scenario_words::{Part, say};
 use std::alloc::Global;
 
 /// Says what a reason says of an entry, and gives the part of the entry that it is of.

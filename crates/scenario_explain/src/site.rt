@@ -1,11 +1,10 @@
 //! Where a fault stands in the table of a scenario, and what is said of it there.
 
-use crate::entry::list_of;
-use crate::words::{Part, say};
 use mrpc_table::{Bytes, Memory};
 use scenario::Entry;
 use scenario::keys::conn;
 use scenario_values::text_at;
+use scenario_words::{Part, list_of, say};
 use toml::{Table, Value};
 
 /// An entry at fault.

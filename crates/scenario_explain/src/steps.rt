@@ -4,13 +4,13 @@ use crate::declared::declared_in;
 use crate::rules::say_own_rules;
 use crate::site::{Said, Site, first_on, items_at, say_at, say_in, text_of};
 use crate::walk::{Refused, refused_on};
-use crate::words::Part;
 use mrpc_table::Bytes;
 use policy_blocks::Declarations;
 use scenario::keys::conn;
 use scenario::{ScenarioReason, of_line};
 use scenario_lines::{StepText, read_step};
 use scenario_values::word_at;
+use scenario_words::Part;
 use std::alloc::Global;
 use toml::{Table, Value};
 

@@ -3,16 +3,15 @@
 ghost use Rattle.std.specs.Prelude.{◌≡◌, IfOk, IfNone, IfSome};
 ghost use Rattle.run_plan.specs.declared.plan.Plan.{Plan};
 ghost use Rattle.scenario.specs.Scenarios.{HasFault, IsTextOf};
-ghost use Rattle.scenario_explain.specs.Told.{entry_words};
+ghost use Rattle.scenario_words.specs.Told.{entry_words};
 
-use crate::entry::{entry_words, list_of};
 use crate::general::general_words;
 use crate::sentence::say_reason;
 use crate::site::Site;
-use crate::words::{Part, say};
 use mrpc_table::{Bytes, Memory};
 use scenario::{Entry, ScenarioFault, ScenarioReason};
 use scenario_reader::read_scenario;
+use scenario_words::{Part, entry_words, list_of, say};
 use std::alloc::Global;
 use toml::de::Error;
 use toml::{Table, table_from_slice};

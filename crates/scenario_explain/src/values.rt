@@ -2,8 +2,8 @@
 
 use crate::forms::Takes;
 use crate::site::{Said, say_at};
-use crate::words::Part;
 use mrpc_table::Bytes;
+use scenario_words::Part;
 use toml::Value;
 
 /// Whether a value is of a type.

@@ -15,7 +15,7 @@ use crate::reach::Reached;
 use frame_transport::VERSION;
 use mrpc_table::{Name, Table};
 use std::alloc::Global;
-use table_text::table_text;
+use table_lines::table_text;
 
 /// What two tables agree on.
 #[derive(Clone, Copy)]

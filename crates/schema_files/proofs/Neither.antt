@@ -14,7 +14,7 @@ use Rattle.proto_file.specs.Together.{IsFormed, IsOrdered}
 use Rattle.proto_file.specs.declared.file.File.{File}
 use Rattle.proto_file.specs.declared.file.Span.{Span}
 use Rattle.proto_schema.specs.Faults.{IsTextOf, HasFault as HasTextFault}
-use Rattle.proto_schema.specs.declared.fault.ProtoReason.{ProtoReason}
+use Rattle.proto_parts.specs.declared.fault.ProtoReason.{ProtoReason}
 use Rattle.proto_imports.specs.Faults.{HasFault as HasImportFault}
 use Rattle.proto_imports.specs.Reaching.{HaveOwnPaths, IsReach, AreSeen}
 use Rattle.proto_imports.specs.declared.fault.ImportReason.{ImportReason}

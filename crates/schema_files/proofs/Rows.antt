@@ -9,7 +9,7 @@ use Rattle.std.proofs.lemmas.List.Elements.{All-nil, All-cons}
 use Rattle.file_bundle.specs.Paths.{IsPath, HaveRightPaths, IsFirstRefused, second}
 use Rattle.file_bundle.specs.Bundle.{File as PackedFile}
 use Rattle.proto_schema.specs.Faults.{IsTextOf, HasFault as HasTextFault}
-use Rattle.proto_schema.specs.declared.fault.ProtoReason.{ProtoReason}
+use Rattle.proto_parts.specs.declared.fault.ProtoReason.{ProtoReason}
 use Rattle.proto_imports.specs.Leading.{HasImport, HasPath, Leads, Reaches, here, onward, Sees, itself, imported, publicly}
 use Rattle.proto_imports.specs.Faults.{IsFault, missing, twice, cycle, ComesFirst, by_reason, by_statement}
 use Rattle.proto_imports.specs.Reaching.{IsReach}

@@ -9,7 +9,7 @@ use Rattle.file_bundle.specs.declared.packed.Packed.{Packed}
 use Rattle.file_bundle.specs.Bundle.{File as PackedFile}
 use Rattle.proto_file.specs.declared.file.Span.{Span}
 use Rattle.proto_schema.specs.Faults.{HasFault as HasTextFault}
-use Rattle.proto_schema.specs.declared.fault.ProtoReason.{ProtoReason}
+use Rattle.proto_parts.specs.declared.fault.ProtoReason.{ProtoReason}
 use Rattle.schema_files.specs.declared.fault.FilesReason.TheVariants.{Proto}
 use Rattle.proto_imports.specs.declared.set.Member.{Member}
 use Rattle.schema_files.specs.Joined.{ReadsAs, ReadAs}

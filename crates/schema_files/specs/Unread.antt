@@ -3,7 +3,7 @@ use Rattle.std.specs.Prelude.{◌≡◌, ℕ, List}
 use Rattle.file_bundle.specs.Bundle.{File as PackedFile}
 use Rattle.proto_file.specs.declared.file.Span.{Span}
 use Rattle.proto_schema.specs.Faults.{HasFault as HasTextFault}
-use Rattle.proto_schema.specs.declared.fault.ProtoReason.{ProtoReason}
+use Rattle.proto_parts.specs.declared.fault.ProtoReason.{ProtoReason}
 use Rattle.schema_files.specs.Resolving.{HasFilesFault}
 use Rattle.schema_files.specs.declared.fault.FilesReason.{FilesReason}
 use Rattle.schema_files.specs.declared.fault.FilesReason.TheVariants.{Proto}

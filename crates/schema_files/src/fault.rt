@@ -6,7 +6,7 @@ ghost use Rattle.schema_files.specs.declared.fault.FilesFault.TheVariants.{Memor
 
 use mrpc_table::Memory;
 use proto_imports::ImportReason;
-use proto_schema::ProtoReason;
+use proto_parts::ProtoReason;
 use schema_offences::ResolveReason;
 use std::alloc::{AllocError, AllocFailed};
 use std::fmt;

@@ -9,7 +9,8 @@ use crate::fault::{FilesFault, FilesReason};
 use file_bundle::Packed;
 use mrpc_table::Name;
 use proto_imports::Member;
-use proto_schema::{ProtoFault, read_proto};
+use proto_parts::ProtoFault;
+use proto_schema::read_proto;
 use std::alloc::Global;
 
 // How many bytes a text has at least, of which no memory holds the tokens.

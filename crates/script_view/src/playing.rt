@@ -20,8 +20,8 @@ use frame_transport::{FrameRef, HEADER_LEN, REQUEST};
 use graph_form::Placed;
 use graph_place::{layout, place_words};
 use mrpc_table::{Bytes, MAX_LOADS, Memory, Table, Tree};
+use spare_trees::Spare;
 use std::alloc::Global;
-use wire_decode::Spare;
 
 // Where the sender's connection, and where the number, stands in a header.
 const CONN_PLACE: u64 = 8;

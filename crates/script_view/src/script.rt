@@ -13,9 +13,9 @@ use crate::lines::{put_line, put_parts};
 use crate::playing::put_stream;
 use frame_reading::{ReadFault, frames_follow, read_head};
 use mrpc_table::{Bytes, Memory, Table};
+use spare_trees::Spare;
 use std::alloc::Global;
-use table_text::table_text;
-use wire_decode::Spare;
+use table_lines::table_text;
 
 /// The script whose replay sends the frames of an input, each with the encoding of its message.
 pub fn script_of(alloc: Global, text: &[u8]) -> Result<Bytes, ReadFault>

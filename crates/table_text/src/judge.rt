@@ -8,10 +8,10 @@ ghost use Rattle.table_text.specs.Drafts.{before, method_names, enum_names, mess
 ghost use Rattle.table_text.specs.Places.{Holds};
 
 use crate::draft::Draft;
-use crate::line::{KindWord, LabelWord, Line, Whole};
 use mrpc_table::{
     Kind, MAX_FIELDS, MAX_METHODS, MAX_TEXT, MAX_VALUES, is_field_number, is_short, is_short_full,
 };
+use table_lines::{KindWord, LabelWord, Line, Whole};
 
 fn clashes(label: &LabelWord, kind: &KindWord) -> bool
     ensures { result ≡ clashes label.now kind.now }

@@ -1,23 +1,22 @@
 //! A draft with the names that were met.
 
 ghost use Rattle.std.specs.Prelude.{◌≡◌, ◌++◌, ◌∷◌, ℕ, List, [], length, IfOk, IfErr, OnOk, Some, None};
-ghost use Rattle.table_text.specs.declared.line.Line.TheVariants.{Enum, Value, Message as MessageLine, Field as FieldOf, Method as MethodOf};
+ghost use Rattle.table_lines.specs.declared.line.Line.TheVariants.{Enum, Value, Message as MessageLine, Field as FieldOf, Method as MethodOf};
 ghost use Rattle.table_text.specs.Judged.{Types, none_before, is_type_before, is_value_before, is_field_before, method_key, is_unknown_kind, is_unknown_label, is_unknown, is_duplicate, line_fault, end_fault};
-ghost use Rattle.table_text.specs.Lines.{line_of};
-ghost use Rattle.table_text.specs.Drafts.{Blames, added_line, table_of, before, open_part, empty_draft, resolved, labeled, joined_with, new_oneof, oneofs_of, field_of, added, added_enum, added_message, added_value, added_field, added_method};
+ghost use Rattle.table_lines.specs.Lines.{line_of};
+ghost use Rattle.table_text.specs.Drafts.{Blames, added_line, table_of, before, open_part, empty_draft, resolved, labeled, joined_with, new_oneof, oneofs_of, field_of, method_of, added, added_enum, added_message, added_value, added_field, added_method};
 ghost use Rattle.table_text.specs.Places.{place, Holds};
 ghost use Rattle.table_text.specs.Readers.{IsKept};
 
 use crate::draft::{Draft, Open};
 use crate::fault::{TableFault, TableReason};
-use crate::forms::line_of;
 use crate::judge::{is_limit, is_map_key, is_number, is_syntax};
-use crate::line::{FieldLine, KindWord, LabelWord, Line, MethodLine, Whole};
 use crate::places::Places;
 use mrpc_table::{
-    Bytes, Choices, Field, Kind, Label, Memory, Message, Name, Names, Sequence, Table,
+    Bytes, Choices, Field, Kind, Label, Memory, Message, Method, Name, Names, Sequence, Table,
 };
 use std::alloc::Global;
+use table_lines::{FieldLine, KindWord, LabelWord, Line, MethodLine, Whole, line_of};
 
 /// A table while its text is read, with the types that the text names, and the names so far: of enums,
 /// of messages, of methods with their services, of the values or fields of the open part, and of its
@@ -219,8 +218,23 @@ impl Reader {
                 reason,
             });
         }
-        line.add_to(alloc, self)?;
+        self.add(alloc, line)?;
         Ok(())
+    }
+
+    // Adds what the line says. Of a line that no fault stands against nothing is lost.
+    fn add(&mut self, alloc: Global, line: Line) -> Result<(), Memory>
+        ensures draft { (t : Types) → IsKept t self.old
+            → OnOk result (self.new.draft ≡ added t self.old.draft line) }
+        ensures kept { (t : Types) → IsKept t self.old → OnOk result (IsKept t self.new) }
+    {
+        match line {
+            Line::Enum(name) => self.add_enum(alloc, name),
+            Line::Value(number, name) => self.add_value(alloc, number, name),
+            Line::Message(name) => self.add_message(alloc, name),
+            Line::Field(field) => self.add_field(alloc, field),
+            Line::Method(method) => self.add_method(alloc, method),
+        }
     }
 
     // What stands against the end of the text.
@@ -268,8 +282,8 @@ impl Reader {
         draft
     }
 
-    /// Begins an enum.
-    pub fn add_enum(&mut self, alloc: Global, name: Name) -> Result<(), Memory>
+    // Begins an enum.
+    fn add_enum(&mut self, alloc: Global, name: Name) -> Result<(), Memory>
         ensures draft { OnOk result (self.new.draft ≡ added_enum self.old.draft name) }
         ensures kept { (t : Types) → IsKept t self.old → OnOk result (IsKept t self.new) }
     {
@@ -284,8 +298,8 @@ impl Reader {
         Ok(())
     }
 
-    /// Begins a message.
-    pub fn add_message(&mut self, alloc: Global, name: Name) -> Result<(), Memory>
+    // Begins a message.
+    fn add_message(&mut self, alloc: Global, name: Name) -> Result<(), Memory>
         ensures draft { OnOk result (self.new.draft ≡ added_message self.old.draft name) }
         ensures kept { (t : Types) → IsKept t self.old → OnOk result (IsKept t self.new) }
     {
@@ -301,8 +315,8 @@ impl Reader {
         Ok(())
     }
 
-    /// Adds a value to the enum that is open.
-    pub fn add_value(&mut self, alloc: Global, number: Whole, name: Name) -> Result<(), Memory>
+    // Adds a value to the enum that is open.
+    fn add_value(&mut self, alloc: Global, number: Whole, name: Name) -> Result<(), Memory>
         ensures draft { OnOk result (self.new.draft ≡ added_value self.old.draft number name) }
         ensures kept { (t : Types) → IsKept t self.old → OnOk result (IsKept t self.new) }
     {
@@ -316,8 +330,8 @@ impl Reader {
         self.draft.open_part.add_value(number, name)
     }
 
-    /// Adds a method.
-    pub fn add_method(&mut self, alloc: Global, method: MethodLine) -> Result<(), Memory>
+    // Adds a method.
+    fn add_method(&mut self, alloc: Global, method: MethodLine) -> Result<(), Memory>
         ensures draft { (t : Types) → IsKept t self.old
             → OnOk result (self.new.draft ≡ added_method t self.old.draft method) }
         ensures kept { (t : Types) → IsKept t self.old → OnOk result (IsKept t self.new) }
@@ -326,7 +340,7 @@ impl Reader {
         self.inner_names = Places::new(alloc);
         self.oneofs = Places::new(alloc);
         self.draft.close()?;
-        let method = method.into_method(&self.known_messages);
+        let method = method_of(&self.known_messages, method);
         self.draft.methods.push(method)
     }
 
@@ -391,8 +405,8 @@ impl Reader {
         }
     }
 
-    /// Adds a field to the message that is open.
-    pub fn add_field(&mut self, alloc: Global, line: FieldLine) -> Result<(), Memory>
+    // Adds a field to the message that is open.
+    fn add_field(&mut self, alloc: Global, line: FieldLine) -> Result<(), Memory>
         ensures draft { (t : Types) → IsKept t self.old
             → OnOk result (self.new.draft ≡ added_field t self.old.draft line) }
         ensures kept { (t : Types) → IsKept t self.old → OnOk result (IsKept t self.new) }
@@ -409,6 +423,15 @@ impl Reader {
         add_oneof(alloc, &mut self.oneofs, &oneof)?;
         self.draft.open_part.add_field(field, oneof)
     }
+}
+
+// A method, with the places of its messages among these.
+fn method_of(messages: &Places, line: MethodLine) -> Method
+    ensures { (t : Types) → Holds messages.now t.messages → result ≡ method_of t line }
+{
+    let input = messages.place_or_next(line.input.as_slice());
+    let output = messages.place_or_next(line.output.as_slice());
+    line.into_method(input, output)
 }
 
 // Adds the key of a method.

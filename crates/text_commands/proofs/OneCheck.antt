@@ -4,7 +4,7 @@ use Rattle.mrpc_table.specs.declared.table.Table.{Table}
 use Rattle.file_bundle.specs.Bundle.{File as PackedFile, Spells}
 use Rattle.proto_file.specs.declared.file.File.{File}
 use Rattle.proto_file.specs.declared.file.Span.{Span}
-use Rattle.proto_schema.specs.Reason.{proto_word}
+use Rattle.proto_parts.specs.Reason.{proto_word}
 use Rattle.schema_offences.specs.Offences.{HasOffence}
 use Rattle.schema_offences.specs.Reason.{resolve_word}
 use Rattle.schema_resolve.specs.Resolving.{Resolves}

@@ -9,8 +9,8 @@ use Rattle.file_bundle.specs.Faults.{IsBundleFault}
 use Rattle.proto_file.specs.declared.file.File.{File}
 use Rattle.proto_file.specs.declared.file.Span.{Span}
 use Rattle.proto_schema.specs.Faults.{IsTextOf, HasFault}
-use Rattle.proto_schema.specs.Reason.{proto_word}
-use Rattle.proto_schema.specs.declared.fault.ProtoReason.{ProtoReason}
+use Rattle.proto_parts.specs.Reason.{proto_word}
+use Rattle.proto_parts.specs.declared.fault.ProtoReason.{ProtoReason}
 use Rattle.schema_offences.specs.Offences.{HasOffence}
 use Rattle.schema_offences.specs.Reason.{resolve_word}
 use Rattle.schema_offences.specs.declared.reason.ResolveReason.{ResolveReason}

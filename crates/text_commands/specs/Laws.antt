@@ -20,7 +20,7 @@ use Rattle.frame_transport.specs.declared.fault.FeedFault.{FeedFault}
 use Rattle.proto_file.specs.declared.file.File.{File}
 use Rattle.proto_file.specs.declared.file.Span.{Span}
 use Rattle.proto_schema.specs.Faults.{IsTextOf, HasFault}
-use Rattle.proto_schema.specs.declared.fault.ProtoReason.{ProtoReason}
+use Rattle.proto_parts.specs.declared.fault.ProtoReason.{ProtoReason}
 use Rattle.proto_file.specs.Joined.{alone}
 use Rattle.schema_offences.specs.Offences.{HasOffence}
 use Rattle.schema_offences.specs.declared.reason.ResolveReason.{ResolveReason}

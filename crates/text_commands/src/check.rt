@@ -18,11 +18,12 @@ use crate::status::{
 use file_bundle::{BundleFault, is_bundle, read_bundle};
 use mrpc_base::{Sink, write_all};
 use mrpc_table::{Bytes, Memory, Table};
-use proto_schema::{ProtoFault, alone_is_ordered, read_proto};
+use proto_parts::ProtoFault;
+use proto_schema::{alone_is_ordered, read_proto};
 use schema_files::{FilesFault, fault_in_set, resolve_files};
 use schema_resolve::{ResolveFault, resolve};
 use std::alloc::Global;
-use table_text::table_text;
+use table_lines::table_text;
 
 /// Where a fault stands, as it is printed.
 #[derive(Drop, Clone, Copy)]

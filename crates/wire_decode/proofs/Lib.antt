@@ -34,6 +34,5 @@ mod Taken
 mod Unique
 mod UsableTables
 mod Views
-mod Weights
 mod WireLaws
 mod WordForms

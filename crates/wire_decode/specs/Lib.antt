@@ -3,7 +3,6 @@ pub mod FaultWalk
 pub mod Faults
 pub mod Gathered
 pub mod Joined
-pub mod Kept
 pub mod Meaning
 pub mod Means
 pub mod Merged

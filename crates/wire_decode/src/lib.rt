@@ -2,12 +2,12 @@
 //!
 //! The format is that of the Protocol Buffers encoding guide. Where the records come in the order of
 //! the fields, as encoders write them, they are read straight into the tree, in vectors of earlier trees where some
-//! were taken back ([`Spare`]). Others are read in one pass into the contents of their records, in order; then each
-//! field has its value from its own records, and the tree comes with its fields by ascending number. All takes time in
-//! proportion to the bytes, but for sorting records and the entries of maps. `specs/Meaning.antt` says what bytes mean,
-//! rule by rule, and `specs/Faults.antt` which fault is the first one. It stands on `mrpc_table` and
-//! `wire_base`. The layers above use one contract: the answer is the meaning, or the first fault exactly where there is
-//! no meaning.
+//! were taken back (`Spare` of `spare_trees`). Others are read in one pass into the contents of their records, in
+//! order; then each field has its value from its own records, and the tree comes with its fields by ascending number.
+//! All takes time in proportion to the bytes, but for sorting records and the entries of maps. `specs/Meaning.antt` says
+//! what bytes mean, rule by rule, and `specs/Faults.antt` which fault is the first one. It stands on `mrpc_table`,
+//! `wire_base` and `spare_trees`. The layers above use one contract: the answer is the meaning, or the first fault
+//! exactly where there is no meaning.
 #![tactic(auto)]
 
 ghost use Rattle.std.specs.Prelude.{◌≡◌, ◌-◌, ◌<◌, ◌≤◌, length, IfOk, IfErr, MatchResult};
@@ -30,7 +30,6 @@ mod number;
 mod oneof;
 mod ordered;
 mod read;
-mod reuse;
 
 use crate::laws::one_merging;
 use crate::merge::merged;
@@ -42,7 +41,7 @@ pub use laws::{
     one_meaning, rules_and_reader_agree,
 };
 use mrpc_table::{MAX_DEPTH, Table, Tree};
-pub use reuse::Spare;
+use spare_trees::Spare;
 use std::alloc::Global;
 
 /// The message at the place `msg` of the table that the bytes mean, as a tree in normal form.

@@ -19,11 +19,11 @@ ghost use Rattle.wire_decode.specs.Ordered.{IsWhole, IsValue, IsFieldRead, AreVa
 use crate::merge::{many, pairs, present, present_if_set, push_content};
 use crate::number::word_of;
 use crate::read::{element, elements, is_text};
-use crate::reuse::Spare;
 use mrpc_table::{
     Entries, Field, FieldValue, Kind, Label, Numbered, Table, Tree, Value, Values, find_field,
     last_of_each,
 };
+use spare_trees::Spare;
 use std::alloc::Global;
 use wire_base::{read_delimited, read_tag};
 

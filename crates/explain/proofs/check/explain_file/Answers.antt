@@ -1,7 +1,7 @@
 use Rattle.std.proofs.Common.{refl, subst}
-use Rattle.explain.specs.Said.{whole}
+use Rattle.findings.specs.Said.{whole}
 use Rattle.proto_schema.specs.Faults.{IsFaultOf}
-use Rattle.proto_schema.specs.declared.fault.ProtoFault.{ProtoFault}
+use Rattle.proto_parts.specs.declared.fault.ProtoFault.{ProtoFault}
 use Rattle.explain.proofs.check.explain_file.Goals as goal
 
 pub returns-in-Err-At : goal.returns-in-Err-At

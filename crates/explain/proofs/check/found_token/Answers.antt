@@ -1,4 +1,4 @@
-use Rattle.explain.proofs.Saying.{token_there}
+use Rattle.explain.proofs.Pointing.{token_there}
 use Rattle.explain.proofs.check.found_token.Goals as goal
 
 pub returns : goal.returns

@@ -1,4 +1,4 @@
-use Rattle.explain.proofs.Saying.{offence_there}
+use Rattle.explain.proofs.Pointing.{offence_there}
 use Rattle.explain.proofs.offence.found_offence.Goals as goal
 
 pub returns : goal.returns

@@ -1,6 +1,6 @@
 use Rattle.std.proofs.Common.{subst}
 use Rattle.proto_schema.specs.Faults.{IsFaultOf}
-use Rattle.proto_schema.specs.declared.fault.ProtoFault.{ProtoFault}
+use Rattle.proto_parts.specs.declared.fault.ProtoFault.{ProtoFault}
 use Rattle.explain.proofs.set.explain_member.Goals as goal
 
 pub returns-in-Err-At : goal.returns-in-Err-At

@@ -1,5 +1,5 @@
 use Rattle.std.proofs.Common.{List, subst, sym}
-use Rattle.explain.proofs.Saying.{of_set}
+use Rattle.explain.proofs.Pointing.{of_set}
 use Rattle.file_bundle.specs.Bundle.{Spells}
 use Rattle.file_bundle.specs.Packed.{files_of}
 use Rattle.file_bundle.specs.declared.packed.Packed.{Packed}

@@ -1,4 +1,4 @@
-use Rattle.explain.proofs.Saying.{also_of}
+use Rattle.explain.proofs.Pointing.{also_of}
 use Rattle.explain.proofs.set.found_import.Goals as goal
 
 pub returns : goal.returns

@@ -1,5 +1,5 @@
 use Rattle.std.proofs.Common.{◌∙◌}
-use Rattle.explain.proofs.Saying.{also_of}
+use Rattle.explain.proofs.Pointing.{also_of}
 use Rattle.explain.proofs.set.found_line.Goals as goal
 
 pub returns : goal.returns

@@ -7,9 +7,9 @@ use Rattle.table_text.proofs.reader.Reader.add_method.Goals as goal
 
 pub returns-clause-kept : goal.returns-clause-kept
 returns-clause-kept c t h =
-    let is : c.into_method-method.result ≡ method_of t c.args.method = c.into_method-method.ensures t h.messages in
+    let is : c.method_of-method.result ≡ method_of t c.args.method = c.method_of-method.ensures t h.messages in
     let added = c.in_ok-add_key.ensures (method_names c.args.self.now.draft) h.method_names in
-    on_ok_weaker c.push.result (λ (more : c.push.new.self ≡ c.close.new.self.methods ++ c.into_method-method.result
+    on_ok_weaker c.push.result (λ (more : c.push.new.self ≡ c.close.new.self.methods ++ c.method_of-method.result
     ∷ []). kept_method t c.args.self.now c.close.new.self c.push.new.self
     (method_of t c.args.method) c.add_key.new.names c.new.result c.new-2.result c.in_ok-close.ensures
     (more ∙ ap (λ (m : Method). c.close.new.self.methods ++ m ∷ []) is) h added c.new.ensures c.new-2.ensures)

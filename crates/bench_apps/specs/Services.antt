@@ -1,0 +1,45 @@
+-- The code's own: heaps and rings at which nothing has happened yet, and a service that has done nothing.
+use Rattle.std.specs.Prelude.{◌≡◌, []}
+use Rattle.shared_heap.specs.Fresh.{HeapId}
+use Rattle.bench_apps.specs.declared.plain_service.Service.{Service}
+use Rattle.bench_apps.specs.declared.plain_service.Side.{Side}
+use Rattle.bench_apps.specs.declared.wiring.Heap.{Heap}
+use Rattle.bench_apps.specs.declared.wiring.Ring.{Ring}
+use Rattle.bench_apps.specs.declared.wiring.Rings.{Rings}
+use Rattle.bench_apps.specs.declared.wiring.TheConstants.{CAPACITY, WORDS}
+
+-- both ends are of one heap
+pub record IsNewHeap (heap : Heap) : Type 0 where
+  pub words : heap.writer.heap.words ≡ WORDS
+  pub reader_heap : heap.reader.heap ≡ heap.writer.heap
+  pub stored : heap.writer.stores ≡ []
+  pub loaded : heap.reader.loads ≡ []
+
+-- both ends are for notes of one heap
+pub record IsNewRing (ring : Ring) : Type 0 where
+  pub heap : ring.receiver.heap ≡ ring.sender.heap
+  pub capacity : ring.sender.capacity ≡ CAPACITY
+  pub sent : ring.sender.sent ≡ []
+  pub taken : ring.receiver.taken ≡ []
+
+-- nothing has happened at the rings of an application
+pub record AreNewRings (rings : Rings) : Type 0 where
+  pub calls : IsNewRing rings.calls
+  pub notices : IsNewRing rings.notices
+  pub blocks : rings.numbers.blocks.taken ≡ []
+  pub reclaims : rings.numbers.reclaims.sent ≡ []
+
+-- its side of an application, whose calls and notices are of these heaps
+pub record IsUnusedSide (called told : HeapId) (side : Side) : Type 0 where
+  pub calls_heap : side.taking.calls.heap ≡ called
+  pub notices_heap : side.notices.heap ≡ told
+  pub taken : side.taking.calls.taken ≡ []
+  pub noticed : side.notices.sent ≡ []
+
+-- the echo's notices are of the heap of the client's calls, and the client's of the service's own heap
+pub record IsUnused (service : Service) : Type 0 where
+  pub calls_heap : service.client.taking.calls.heap ≡ service.echo.notices.heap
+  pub told_heap : service.client.notices.heap ≡ service.writer.heap
+  pub taken : service.client.taking.calls.taken ≡ []
+  pub noticed : service.echo.notices.sent ≡ []
+  pub told : service.client.notices.sent ≡ []

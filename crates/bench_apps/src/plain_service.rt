@@ -1,0 +1,193 @@
+//! A plain service between a client and an echo: it copies the descriptors of calls to notices.
+ghost use Rattle.std.specs.Prelude.{◌≡◌, ◌≤◌, ◌<◌, ◌+◌, [], OnSome, length};
+ghost use Rattle.descriptor_ring.specs.Rings.{IsOf};
+ghost use Rattle.bench_apps.specs.Services.{IsUnused};
+
+use crate::taking::{Found, Taking};
+use descriptor_ring::{Descriptor, Full, Receiver, Sender, Taken};
+use shared_heap::Writer;
+use std::sync::Wait;
+use stop_flag::{RunFlag, StopFlag};
+
+// The service's side of an application.
+pub(crate) struct Side {
+    pub(crate) taking: Taking,
+    pub(crate) notices: Sender,
+}
+
+// By hand, so that a drop is one call where it is needed, and not a drop of each part.
+impl Drop for Side {
+    fn drop(self) {
+        let Side {
+            taking: _taking,
+            notices: _notices,
+        } = self;
+    }
+}
+
+impl Side {
+    // Closes the ring of notices of the application, and takes what it sends to the closing of its own.
+    fn finish<R: Wait>(self, rt: &R, stop: &RunFlag) -> Option<Found> {
+        let Side {
+            mut taking,
+            notices,
+        } = self;
+        close_notices(rt, stop, &mut taking, notices)?;
+        take_rest(rt, stop, &mut taking)
+    }
+}
+
+// What the service has of both. Nothing is stored by its writer, to whose heap the client's notices belong.
+pub(crate) struct Service {
+    pub(crate) client: Side,
+    pub(crate) echo: Side,
+    pub(crate) writer: Writer,
+}
+
+impl Drop for Service {
+    fn drop(self) {
+        let Service {
+            client: _client,
+            echo: _echo,
+            writer: _writer,
+        } = self;
+    }
+}
+
+impl Service {
+    // Passes the client's calls on to the echo, and takes the replies. A client takes its notices once its calls are
+    // done, so it is told of the replies then, of at most so many. Gives what came of the echo; none once the flag is
+    // set, here and below.
+    pub(crate) fn serve<R: Wait>(self, rt: &R, stop: &RunFlag, count: u32) -> Option<Found>
+        requires few { count < 4294967294 }
+        requires unused { IsUnused self }
+    {
+        let Service {
+            mut client,
+            echo,
+            mut writer,
+        } = self;
+        let replies = serve_echo(rt, stop, &mut client.taking.calls, echo)?;
+        let told = if replies.calls < u64::from(count) {
+            replies.calls
+        } else {
+            u64::from(count)
+        };
+        tell(rt, stop, &mut client, &mut writer, told)?;
+        client.finish(rt, stop)?;
+        Some(replies)
+    }
+}
+
+// Has the calls of a ring echoed, up to its closing, and gives what came of the echo.
+fn serve_echo<R: Wait>(rt: &R, stop: &RunFlag, calls: &mut Receiver, echo: Side) -> Option<Found>
+    requires heap { calls.old.heap ≡ echo.notices.heap }
+    requires new { (calls.old.taken ≡ []) × (echo.notices.sent ≡ []) }
+{
+    let mut echo = echo;
+    pass_calls(rt, stop, calls, &mut echo)?;
+    echo.finish(rt, stop)
+}
+
+// Makes a notice of each call, up to the closing of their ring.
+fn pass_calls<R: Wait>(rt: &R, stop: &RunFlag, calls: &mut Receiver, echo: &mut Side) -> Option<()>
+    requires heap { calls.old.heap ≡ echo.old.notices.heap }
+    requires new { (calls.old.taken ≡ []) × (echo.old.notices.sent ≡ []) }
+{
+    let mut number = 0u32;
+    for _ in rt.forever() {
+        match calls.take(rt) {
+            Taken::Item(mut call) => {
+                number += 1;
+                call.number = number;
+                give(rt, stop, echo, call)?;
+            }
+            Taken::Closed => return Some(()),
+            Taken::Empty(_) => {
+                echo.taking.turn(rt, stop)?;
+            }
+        }
+    }
+    unreachable!()
+}
+
+// Tells an application of so many replies.
+fn tell<R: Wait>(
+    rt: &R,
+    stop: &RunFlag,
+    client: &mut Side,
+    writer: &mut Writer,
+    count: u64,
+) -> Option<()>
+    requires few { count < 4294967294 }
+    requires heap { client.old.notices.heap ≡ writer.old.heap }
+    requires new { client.old.notices.sent ≡ [] }
+{
+    for _ in 0..count {
+        let notice = reply(writer);
+        give(rt, stop, client, notice)?;
+    }
+    Some(())
+}
+
+fn reply(writer: &mut Writer) -> Descriptor
+    ensures of_heap { IsOf writer.old.heap result }
+    ensures same { writer.new ≡ writer.old }
+{
+    Descriptor {
+        kind: 2,
+        method: 0,
+        number: 1,
+        addr: 1,
+        stores: writer.stores(),
+        note: writer.note(),
+    }
+}
+
+// Sends a notice.
+fn give<R: Wait>(rt: &R, stop: &RunFlag, side: &mut Side, mut notice: Descriptor) -> Option<()>
+    requires of_heap { IsOf side.old.notices.heap notice }
+    requires few { length side.old.notices.sent < 4294967294 }
+    ensures sent { OnSome result (length side.new.notices.sent ≡ length side.old.notices.sent + 1) }
+    ensures heap { side.new.notices.heap ≡ side.old.notices.heap }
+{
+    for _ in rt.forever() {
+        match side.notices.send(rt, notice) {
+            Ok(()) => return Some(()),
+            Err(full) => {
+                let Full {
+                    descriptor,
+                    lesson: _,
+                } = full;
+                notice = descriptor;
+            }
+        }
+        side.taking.turn(rt, stop)?;
+    }
+    unreachable!()
+}
+
+fn take_rest<R: Wait>(rt: &R, stop: &RunFlag, taking: &mut Taking) -> Option<Found> {
+    for _ in rt.forever() {
+        if taking.turn(rt, stop)? {
+            return Some(taking.found);
+        }
+    }
+    unreachable!()
+}
+
+fn close_notices<R: Wait>(
+    rt: &R,
+    stop: &RunFlag,
+    taking: &mut Taking,
+    mut notices: Sender,
+) -> Option<()> {
+    for _ in rt.forever() {
+        match notices.close(rt) {
+            Ok(_) => return Some(()),
+            Err((back, _)) => notices = back,
+        }
+        taking.turn(rt, stop)?;
+    }
+    unreachable!()
+}

@@ -1,0 +1,77 @@
+//! What a plain service takes of an application.
+ghost use Rattle.std.specs.Prelude.{◌≡◌};
+
+use crate::discard;
+use descriptor_ring::{Receiver, Taken};
+use std::sync::Wait;
+use std::thread;
+use stop_flag::{RunFlag, StopFlag};
+
+/// What was taken of an application.
+#[derive(Clone, Copy)]
+pub struct Found {
+    /// How many calls came.
+    pub calls: u64,
+    /// The sum of their numbers, modulo 2^64.
+    pub numbers: u64,
+}
+
+// What came of a ring.
+#[derive(Clone, Copy)]
+enum Came {
+    Item,
+    Nothing,
+    Closing,
+}
+
+#[derive(Drop)]
+pub(crate) struct Taking {
+    pub(crate) calls: Receiver,
+    pub(crate) found: Found,
+}
+
+impl Taking {
+    pub(crate) fn new(calls: Receiver) -> Taking
+        ensures calls { result.calls ≡ calls }
+    {
+        let found = Found {
+            calls: 0,
+            numbers: 0,
+        };
+        Taking { calls, found }
+    }
+
+    // Takes a call, where one waits; where none does, it gives the processor away. True once the ring is closed; none
+    // once the flag is set.
+    pub(crate) fn turn<R: Wait>(&mut self, rt: &R, stop: &RunFlag) -> Option<bool> {
+        let came = self.take_call(rt);
+        if stop.is_set() {
+            return None;
+        }
+        match came {
+            Came::Closing => return Some(true),
+            Came::Item => {}
+            Came::Nothing => thread::yield_now(),
+        }
+        Some(false)
+    }
+
+    fn take_call<R: Wait>(&mut self, rt: &R) -> Came {
+        let taken = self.calls.take(rt);
+        let came = self.count(&taken);
+        discard(taken);
+        came
+    }
+
+    fn count(&mut self, taken: &Taken) -> Came {
+        match taken {
+            Taken::Item(call) => {
+                self.found.calls = self.found.calls.wrapping_add(1);
+                self.found.numbers = self.found.numbers.wrapping_add(u64::from(call.number));
+                Came::Item
+            }
+            Taken::Closed => Came::Closing,
+            Taken::Empty(_) => Came::Nothing,
+        }
+    }
+}

@@ -1,0 +1,294 @@
+//! The ports of a client and an echo, with a plain service between them.
+ghost use Rattle.std.specs.Prelude.{◌≡◌, [], IfOk};
+ghost use Rattle.app_stub.specs.Ports.{IsNew};
+ghost use Rattle.bench_apps.specs.Services.{AreNewRings, IsNewHeap, IsNewRing, IsUnused, IsUnusedSide};
+
+use crate::discard;
+use crate::plain_service::{Service, Side};
+use crate::taking::Taking;
+use app_stub::AppPort;
+use descriptor_ring::{NumberReceiver, NumberSender, Receiver, Sender};
+use shared_heap::{Reader, Writer};
+use std::alloc::{AllocError, Global};
+use std::sync::Wait;
+use stop_flag::RunFlag;
+
+// How many items each ring holds.
+pub(crate) const CAPACITY: u64 = 64;
+
+// How many words each heap has. The echo's slices have room for a message of one field.
+pub(crate) const WORDS: u64 = 1024;
+
+// A heap, by both its ends.
+pub(crate) struct Heap {
+    pub(crate) writer: Writer,
+    pub(crate) reader: Reader,
+}
+
+// By hand, as of the others below, so that a drop is one call where it is needed, and not a drop of each part.
+impl Drop for Heap {
+    fn drop(self) {
+        let Heap {
+            writer: _writer,
+            reader: _reader,
+        } = self;
+    }
+}
+
+impl Heap {
+    fn into_ends(self) -> (Writer, Reader)
+        ensures { (result.0 ≡ self.writer) × (result.1 ≡ self.reader) }
+    {
+        let Heap { writer, reader } = self;
+        (writer, reader)
+    }
+}
+
+// A ring of descriptors, by both its ends.
+pub(crate) struct Ring {
+    pub(crate) sender: Sender,
+    pub(crate) receiver: Receiver,
+}
+
+impl Drop for Ring {
+    fn drop(self) {
+        let Ring {
+            sender: _sender,
+            receiver: _receiver,
+        } = self;
+    }
+}
+
+impl Ring {
+    fn into_ends(self) -> (Sender, Receiver)
+        ensures { (result.0 ≡ self.sender) × (result.1 ≡ self.receiver) }
+    {
+        let Ring { sender, receiver } = self;
+        (sender, receiver)
+    }
+}
+
+// The rings of numbers of an application: that of its blocks, which is closed, since no message lies in one, and that of
+// the blocks that it gives back, from which nothing is taken.
+pub(crate) struct Numbers {
+    pub(crate) blocks: NumberReceiver,
+    pub(crate) reclaims: NumberSender,
+}
+
+impl Drop for Numbers {
+    fn drop(self) {
+        let Numbers {
+            blocks: _blocks,
+            reclaims: _reclaims,
+        } = self;
+    }
+}
+
+impl Numbers {
+    fn into_ends(self) -> (NumberReceiver, NumberSender)
+        ensures { (result.0 ≡ self.blocks) × (result.1 ≡ self.reclaims) }
+    {
+        let Numbers { blocks, reclaims } = self;
+        (blocks, reclaims)
+    }
+}
+
+// The rings of an application, and its stop flag.
+pub(crate) struct Rings {
+    pub(crate) calls: Ring,
+    pub(crate) notices: Ring,
+    pub(crate) numbers: Numbers,
+    pub(crate) stop: RunFlag,
+}
+
+impl Drop for Rings {
+    fn drop(self) {
+        let Rings {
+            calls: _calls,
+            notices: _notices,
+            numbers: _numbers,
+            stop: _stop,
+        } = self;
+    }
+}
+
+impl Rings {
+    // The port of the application, and the service's side of it.
+    fn into_sides(self, writer: Writer, reader: Reader) -> (AppPort<RunFlag>, Side)
+        requires rings { AreNewRings self }
+        requires heaps { (self.calls.sender.heap ≡ writer.heap) × (self.notices.sender.heap ≡ reader.heap) }
+        requires unused { (writer.stores ≡ []) × (reader.loads ≡ []) }
+        ensures new { IsNew result.0 }
+        ensures heaps { (result.0.writer.heap ≡ writer.heap) × (result.0.reader.heap ≡ reader.heap) }
+        ensures capacity { result.0.capacity ≡ CAPACITY }
+        ensures side { IsUnusedSide writer.heap reader.heap result.1 }
+    {
+        let Rings {
+            calls,
+            notices,
+            numbers,
+            stop,
+        } = self;
+        let (sender, called) = calls.into_ends();
+        let (telling, notices) = notices.into_ends();
+        let (blocks, reclaims) = numbers.into_ends();
+        let port = AppPort {
+            writer,
+            sender,
+            capacity: CAPACITY,
+            notices,
+            blocks,
+            reader,
+            reclaims,
+            stop,
+        };
+        let side = Side {
+            taking: Taking::new(called),
+            notices: telling,
+        };
+        (port, side)
+    }
+}
+
+pub(crate) struct Wired {
+    pub(crate) client: AppPort<RunFlag>,
+    pub(crate) echo: AppPort<RunFlag>,
+    pub(crate) service: Service,
+}
+
+// Opens three heaps and the rings of both. The echo copies what the client stored from the client's own heap, so the
+// service copies descriptors alone.
+pub(crate) fn open_ports<R: Wait>(
+    rt: &R,
+    alloc: Global,
+    stop: &RunFlag,
+) -> Result<Wired, AllocError>
+    ensures new { IfOk result (λ wired. IsNew wired.client × IsNew wired.echo) }
+    ensures words { IfOk result (λ wired. (wired.client.writer.heap.words ≡ WORDS)
+        × (wired.echo.writer.heap.words ≡ WORDS) × (wired.echo.reader.heap.words ≡ WORDS)) }
+    ensures capacity { IfOk result (λ wired. wired.echo.capacity ≡ CAPACITY) }
+    ensures service { IfOk result (λ wired. IsUnused wired.service) }
+{
+    let client = open_heap(alloc)?;
+    let echo = open_heap(alloc)?;
+    let service = open_heap(alloc)?;
+    let rings = open_both(
+        rt,
+        alloc,
+        stop,
+        &client.reader,
+        &echo.reader,
+        &service.reader,
+    )?;
+    Ok(wire(client, echo, service, rings))
+}
+
+fn open_heap(alloc: Global) -> Result<Heap, AllocError>
+    ensures { IfOk result IsNewHeap }
+{
+    let (writer, reader) = shared_heap::open(alloc, WORDS)?;
+    Ok(Heap { writer, reader })
+}
+
+// The rings of the client and of the echo, for notes of the heaps of these readers.
+fn open_both<R: Wait>(
+    rt: &R,
+    alloc: Global,
+    stop: &RunFlag,
+    client: &Reader,
+    echo: &Reader,
+    service: &Reader,
+) -> Result<(Rings, Rings), AllocError>
+    ensures new { IfOk result (λ both. AreNewRings both.0 × AreNewRings both.1) }
+    ensures client { IfOk result (λ both. (both.0.calls.sender.heap ≡ client.now.heap)
+        × (both.0.notices.sender.heap ≡ service.now.heap)) }
+    ensures echo { IfOk result (λ both. (both.1.calls.sender.heap ≡ echo.now.heap)
+        × (both.1.notices.sender.heap ≡ client.now.heap)) }
+{
+    let client_rings = open_rings(rt, alloc, stop, client, service)?;
+    let echo_rings = open_rings(rt, alloc, stop, echo, client)?;
+    Ok((client_rings, echo_rings))
+}
+
+// Opens the rings of an application that stores to the heap of one reader, and is delivered its messages in the other's.
+fn open_rings<R: Wait>(
+    rt: &R,
+    alloc: Global,
+    stop: &RunFlag,
+    stored: &Reader,
+    delivered: &Reader,
+) -> Result<Rings, AllocError>
+    ensures new { IfOk result AreNewRings }
+    ensures heaps { IfOk result (λ rings. (rings.calls.sender.heap ≡ stored.now.heap)
+        × (rings.notices.sender.heap ≡ delivered.now.heap)) }
+{
+    let stop = stop.try_clone()?;
+    let numbers = open_numbers(rt, alloc)?;
+    let calls = open_ring(alloc, stored)?;
+    let notices = open_ring(alloc, delivered)?;
+    Ok(Rings {
+        calls,
+        notices,
+        numbers,
+        stop,
+    })
+}
+
+fn open_ring(alloc: Global, reader: &Reader) -> Result<Ring, AllocError>
+    ensures new { IfOk result IsNewRing }
+    ensures heap { IfOk result (λ ring. ring.sender.heap ≡ reader.now.heap) }
+{
+    let (sender, receiver) = descriptor_ring::open(alloc, CAPACITY, reader)?;
+    Ok(Ring { sender, receiver })
+}
+
+fn open_numbers<R: Wait>(rt: &R, alloc: Global) -> Result<Numbers, AllocError>
+    ensures { IfOk result (λ numbers. (numbers.blocks.taken ≡ []) × (numbers.reclaims.sent ≡ [])) }
+{
+    let blocks = closed_numbers(rt, alloc)?;
+    let (reclaims, taken) = descriptor_ring::open_numbers(alloc, CAPACITY)?;
+    discard(taken);
+    Ok(Numbers { blocks, reclaims })
+}
+
+// The receiver of a ring of numbers that is closed, and that holds none.
+fn closed_numbers<R: Wait>(rt: &R, alloc: Global) -> Result<NumberReceiver, AllocError>
+    ensures { IfOk result (λ numbers. numbers.taken ≡ []) }
+{
+    let (sender, receiver) = descriptor_ring::open_numbers(alloc, CAPACITY)?;
+    // A new ring has room for the closing.
+    discard(sender.close(rt));
+    Ok(receiver)
+}
+
+// What is made of three heaps, and of the rings of the client and the echo.
+fn wire(client: Heap, echo: Heap, service: Heap, rings: (Rings, Rings)) -> Wired
+    requires heaps { IsNewHeap client × IsNewHeap echo × IsNewHeap service }
+    requires rings { AreNewRings rings.0 × AreNewRings rings.1 }
+    requires client_heaps { (rings.0.calls.sender.heap ≡ client.reader.heap)
+        × (rings.0.notices.sender.heap ≡ service.reader.heap) }
+    requires echo_heaps { (rings.1.calls.sender.heap ≡ echo.reader.heap)
+        × (rings.1.notices.sender.heap ≡ client.reader.heap) }
+    ensures new { IsNew result.client × IsNew result.echo }
+    ensures words { (result.client.writer.heap.words ≡ WORDS)
+        × (result.echo.writer.heap.words ≡ WORDS) × (result.echo.reader.heap.words ≡ WORDS) }
+    ensures capacity { result.echo.capacity ≡ CAPACITY }
+    ensures service { IsUnused result.service }
+{
+    let (client_rings, echo_rings) = rings;
+    let (writer, delivered) = service.into_ends();
+    let (client_writer, stored) = client.into_ends();
+    let (echo_writer, placed) = echo.into_ends();
+    discard(placed);
+    let (client, client_side) = client_rings.into_sides(client_writer, delivered);
+    let (echo, echo_side) = echo_rings.into_sides(echo_writer, stored);
+    Wired {
+        client,
+        echo,
+        service: Service {
+            client: client_side,
+            echo: echo_side,
+            writer,
+        },
+    }
+}

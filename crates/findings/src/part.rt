@@ -1,0 +1,49 @@
+//! Parts of texts.
+
+ghost use Rattle.std.specs.Prelude.{◌≡◌, ◌<◌, ◌≤◌, ◌^◌, ◌++◌, List, ℕ, length, min, OnOk};
+ghost use Rattle.line_mark.specs.Pointing.{IsPointed};
+
+use line_mark::point;
+use mrpc_table::{Bytes, Memory};
+use std::alloc::Global;
+
+/// A part of a text.
+#[derive(Clone, Copy)]
+pub struct Part<'a> {
+    pub text: &'a [u8],
+    /// The place of its first byte, from 0.
+    pub start: usize,
+    /// The place behind its last byte.
+    pub end: usize,
+    ghost within: { start ≤ length text.now },
+    ghost countable: { length text.now < 2 ^ 63 },
+}
+
+impl<'a> Part<'a> {
+    /// The part of a text from one place up to another. It starts at the text's end at the latest.
+    pub fn of(text: &'a [u8], start: usize, end: usize) -> Part<'a>
+        ensures text { result.text.now ≡ text.now }
+        ensures start { result.start ≡ min start (length text.now) }
+        ensures end { result.end ≡ end }
+    {
+        Part {
+            text,
+            start: start.min(text.len()),
+            end,
+        }
+    }
+
+    /// Appends a sentence with the place, and below it the line of the place with a mark.
+    pub fn put(
+        &self,
+        alloc: Global,
+        sentence: &[u8],
+        width: usize,
+        out: &mut Bytes,
+    ) -> Result<(), Memory>
+        ensures { OnOk result ((shown : List ℕ) × IsPointed self.now.text.now self.now.start self.now.end width
+            sentence.now shown × (out.new ≡ out.old ++ shown)) }
+    {
+        point(alloc, self.text, self.start, self.end, sentence, width, out)
+    }
+}

@@ -1,7 +1,0 @@
-use Rattle.std.proofs.Common.{◌≡◌, ◌≤◌, ◌*◌, All, length}
-use Rattle.app_program.specs.Programs.{IsClientLine, stores_of}
-use Rattle.mrpc_bench.proofs.apps.calling.client_program.Given as goal
-
-abbrev pub invariant-loop-number : goal.invariant-loop-number
-invariant-loop-number l =
-    All (IsClientLine 1024) l.program × (length l.program ≡ 2 * l.number) × (length (stores_of l.program) ≤ 2 * l.number)

@@ -1,0 +1,4 @@
+pub mod Lexemes
+pub mod Grammar
+pub mod Reading
+pub mod Reason

@@ -1,0 +1,115 @@
+//! Full names and types' names, token by token.
+
+ghost use Rattle.std.specs.Prelude.{◌≡◌, ◌∷◌, ◌++◌, IfOk};
+ghost use Rattle.proto_file.specs.Dot.{dot as dot_mark};
+ghost use Rattle.proto_parts.specs.Lexemes.{lexeme, span_to as joined_span};
+ghost use Rattle.proto_parts.specs.Reading.{Lies, Gives, if_name, part, full_step as full_reading};
+ghost use Rattle.proto_parts.specs.Reading.{type_step as type_reading};
+
+use crate::fault::ProtoFault;
+use crate::lexeme::{bytes_of, identifier_of, is_mark, span_of, span_to, unexpected};
+use mrpc_table::Name;
+use proto_file::{Span, Word};
+use proto_tokens::{Kind, Token};
+use std::alloc::Global;
+
+/// How far a name is read.
+#[derive(Drop)]
+pub enum NameState {
+    /// Nothing is read.
+    Start,
+    /// The dot at the front is read.
+    Rooted(Span),
+    /// A whole name is read, which a dot may go on with.
+    Part(Word),
+    /// A name and a dot are read.
+    Dot(Word),
+}
+
+/// What a token does to a name.
+#[derive(Drop)]
+pub enum NameStep {
+    /// It belongs to the name.
+    More(NameState),
+    /// It stands behind the name.
+    Whole(Word),
+}
+
+// The first name.
+fn first_part(alloc: Global, text: &[u8], token: &Token) -> Result<NameStep, ProtoFault>
+    requires { Lies text.now token.now }
+    ensures { let x = lexeme text.now token.now in Gives result (if_name x (λ n. part n x.span)) }
+{
+    let word = identifier_of(alloc, text, token)?;
+    Ok(NameStep::More(NameState::Part(word)))
+}
+
+// A name behind a dot at the front.
+fn rooted_part(alloc: Global, text: &[u8], dot: Span, token: &Token) -> Result<NameStep, ProtoFault>
+    requires { Lies text.now token.now }
+    ensures { let x = lexeme text.now token.now in
+        Gives result (if_name x (λ n. part (dot_mark ∷ n) (joined_span dot x.span))) }
+{
+    if token.kind != Kind::Identifier {
+        return Err(unexpected(token));
+    }
+    let mut name = Name::from_slice(alloc, b".")?;
+    name.append(bytes_of(text, token))?;
+    let span = span_to(dot, token);
+    Ok(NameStep::More(NameState::Part(Word { name, span })))
+}
+
+// A name behind another and a dot.
+fn further_part(text: &[u8], word: Word, token: &Token) -> Result<NameStep, ProtoFault>
+    requires { Lies text.now token.now }
+    ensures { let x = lexeme text.now token.now in
+        Gives result (if_name x (λ n. part (word.name ++ dot_mark ∷ n) (joined_span word.span x.span))) }
+{
+    if token.kind != Kind::Identifier {
+        return Err(unexpected(token));
+    }
+    let Word { mut name, span } = word;
+    name.append(b".")?;
+    name.append(bytes_of(text, token))?;
+    let span = span_to(span, token);
+    Ok(NameStep::More(NameState::Part(Word { name, span })))
+}
+
+/// A token of a full name, or behind it: no dot stands at its front.
+#[tactic(auto, unfolding(crate::specs::Reading::full_step))]
+pub fn full_step(
+    alloc: Global,
+    text: &[u8],
+    state: NameState,
+    token: &Token,
+) -> Result<NameStep, ProtoFault>
+    requires { Lies text.now token.now }
+    ensures { Gives result (full_reading state (lexeme text.now token.now)) }
+{
+    match state {
+        NameState::Start => first_part(alloc, text, token),
+        NameState::Rooted(dot) => rooted_part(alloc, text, dot, token),
+        NameState::Part(word) if is_mark(token, b'.') => Ok(NameStep::More(NameState::Dot(word))),
+        NameState::Part(word) => Ok(NameStep::Whole(word)),
+        NameState::Dot(word) => further_part(text, word, token),
+    }
+}
+
+/// A token of a type's name, or behind it.
+#[tactic(auto, unfolding(crate::specs::Reading::full_step))]
+pub fn type_step(
+    alloc: Global,
+    text: &[u8],
+    state: NameState,
+    token: &Token,
+) -> Result<NameStep, ProtoFault>
+    requires { Lies text.now token.now }
+    ensures { Gives result (type_reading state (lexeme text.now token.now)) }
+{
+    match state {
+        NameState::Start if is_mark(token, b'.') => {
+            Ok(NameStep::More(NameState::Rooted(span_of(token))))
+        }
+        other => full_step(alloc, text, other, token),
+    }
+}

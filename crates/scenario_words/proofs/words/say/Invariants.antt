@@ -1,0 +1,6 @@
+-- What was said before stays.
+use Rattle.scenario_words.specs.Told.{SaysOn}
+use Rattle.scenario_words.proofs.words.say.Given as goal
+
+abbrev pub invariant-loop-part : goal.invariant-loop-part
+invariant-loop-part l = SaysOn l.fn.out l.out
