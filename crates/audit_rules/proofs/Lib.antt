@@ -20,3 +20,4 @@ mod Taking
 mod Telling
 mod Turned
 mod Worked
+mod WorkedLegal

@@ -20,7 +20,8 @@ use engine_core::{Engine, MAX_ENGINES, Op, Policy, change_is_changed};
 use mrpc_table::Name;
 
 impl Checker {
-    // An operator's step, where the chain doesn't refuse it.
+    // An operator's step, where the chain doesn't refuse it. (Seldom: a call of it keeps its values out of the others.)
+    #[inline(never)]
     pub(crate) fn operate(&mut self, step: Op) -> bool
         requires knowing { (T : TheTable) × IsKnowing T self.old }
         requires ranges { IsStep step }

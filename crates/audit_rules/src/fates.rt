@@ -232,7 +232,8 @@ impl Checker {
         true
     }
 
-    // Fields are cleared from a call.
+    // Fields are cleared from a call. (Seldom: a call of it keeps its values out of the others.)
+    #[inline(never)]
     pub(crate) fn clear(&mut self, table: &Table, seq: u32, name: &Name, version: u32) -> bool
         requires knowing { IsKnowing table.now self.old }
         requires free { IsFree self.old.left }
@@ -300,7 +301,8 @@ impl Checker {
         true
     }
 
-    // A call is refused.
+    // A call is refused. (Seldom, too.)
+    #[inline(never)]
     pub(crate) fn refuse(&mut self, table: &Table, seq: u32, cause: Cause) -> bool
         requires knowing { IsKnowing table.now self.old }
         requires free { IsFreeFor cause self.old.left }
@@ -434,7 +436,7 @@ impl Checker {
     {
         ties_go_on();
         standing_goes_on();
-        let _ = self.calls.take(place);
+        self.calls.drop_at(place);
         let _ = self.reached.remove(place);
         self.left = Left::Nothing;
     }

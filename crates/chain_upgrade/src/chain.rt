@@ -419,7 +419,7 @@ impl Chain {
             Outcome::Held { .. } => {}
             Outcome::Refused(..) => {
                 self.cuts.take_out(place);
-                let _ = self.row.take(place as usize);
+                self.row.drop_at(place as usize);
             }
             Outcome::Redacted => self.cuts.lower_to(place),
         }

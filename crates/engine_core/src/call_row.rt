@@ -97,6 +97,18 @@ impl CallRow {
         self.calls.remove(place).unwrap()
     }
 
+    /// Drops the call at a place, as `take` does without handing it over. That of the first moves no other.
+    pub fn drop_at(&mut self, place: usize)
+        requires { place < length self.old }
+        ensures { self.new ≡ remove self.old place }
+    {
+        if place == 0 {
+            let _ = self.calls.pop_front();
+        } else {
+            let _ = self.calls.remove(place);
+        }
+    }
+
     /// Drops all calls.
     pub fn clear(&mut self)
         ensures { self.new ≡ [] }

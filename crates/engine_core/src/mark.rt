@@ -1,6 +1,6 @@
 //! Marks: what a standing call keeps of the engines that it met.
 
-ghost use Rattle.std.specs.Prelude.{◌≡◌, ◌≤◌, ◌==◌, All, IfSome, IsTrue, true, not, filter, length};
+ghost use Rattle.std.specs.Prelude.{◌≡◌, ◌≤◌, ◌==◌, All, IfSome, IsTrue, true, false, not, filter, length};
 ghost use Rattle.std.specs.List.{list_any};
 ghost use Rattle.engine_core.specs.Marks.{is_allowing, other_marks};
 ghost use Rattle.engine_core.specs.Steps.{marked};
@@ -56,7 +56,21 @@ impl Default for Mark {
 fn forget(marks: &mut Marks, attach: u32)
     ensures { marks.new.items ≡ other_marks attach marks.old.items }
 {
-    marks.retain(|mark| mark.attach != attach);
+    if is_marked(marks.as_slice(), attach) {
+        marks.retain(|mark| mark.attach != attach);
+    }
+}
+
+// Whether one of the marks is of an attachment.
+fn is_marked(marks: &[Mark], attach: u32) -> bool
+    ensures { result ≡ false → All (λ m. not (m.attach == attach) ≡ true) marks.now }
+{
+    for mark in marks {
+        if mark.attach == attach {
+            return true;
+        }
+    }
+    false
 }
 
 // Sets the mark of an attachment, in place of the one that it had.

@@ -13,8 +13,8 @@ returns-clause-sent c = λ T past seq bytes knows free there may.
     subst (λ r. OnSome r (c.remove.new.self.items ≡ remove c.args.self.now.reached.items c.args.place))
     (c.remove.ensures.succeeds 0 inside) c.remove.ensures.items in
     knows-left T past (Sent seq bytes) c.args.self.now _ seq c.args.place knows free may (sent-fate c.ties_go_on.ensures.sends c.standing_goes_on.ensures.sent past seq bytes) there
-    c.ties_go_on.ensures.leaves (ap (λ (failed : Bool). record c.args.self.now { calls = c.take.new.self; reached = c.remove.new.self; left = Nothing; failed = failed }) knows.failed)
-    c.take.ensures.rest gone c.remove.ensures.capacity)
+    c.ties_go_on.ensures.leaves (ap (λ (failed : Bool). record c.args.self.now { calls = c.drop_at.new.self; reached = c.remove.new.self; left = Nothing; failed = failed }) knows.failed)
+    c.drop_at.ensures gone c.remove.ensures.capacity)
 
 pub returns-clause-refused : goal.returns-clause-refused
 returns-clause-refused c = λ T past seq why knows free there may.
@@ -23,4 +23,4 @@ returns-clause-refused c = λ T past seq why knows free there may.
     subst (λ r. OnSome r (c.remove.new.self.items ≡ remove c.args.self.now.reached.items c.args.place))
     (c.remove.ensures.succeeds 0 inside) c.remove.ensures.items in
     knows-left T past (Refused seq why) c.args.self.now _ seq c.args.place knows free may (refused-fate c.ties_go_on.ensures.refuses c.standing_goes_on.ensures.refused past seq why) there
-    c.ties_go_on.ensures.leaves refl c.take.ensures.rest gone c.remove.ensures.capacity)
+    c.ties_go_on.ensures.leaves refl c.drop_at.ensures gone c.remove.ensures.capacity)

@@ -18,12 +18,12 @@ invariant_of-self c =
     (passed-kept c.self.inside.engines.items (vec_capacity c.self.inside.engines) c.self.inside.attached c.args.at c.args.place
     c.self.inside.row c.self.inside.cuts.behind c.args.self.now c.self.view_is c.self.invariant c.requires.place c.requires.below at)
 
-pub take-requires : goal.take-requires
-take-requires c = inside c.self.inside.engines.items (vec_capacity c.self.inside.engines) c.self.inside.attached c.args.at c.args.place
+pub drop_at-requires : goal.drop_at-requires
+drop_at-requires c = inside c.self.inside.engines.items (vec_capacity c.self.inside.engines) c.self.inside.attached c.args.at c.args.place
     c.self.inside.row c.self.inside.cuts.behind c.args.self.now c.self.view_is c.self.invariant c.requires.place c.requires.below
 
 pub invariant_of-self-in-Refused : goal.invariant_of-self-in-Refused
-invariant_of-self-in-Refused c = kept-as _ _ _ _ _ _ _ _ _ refl refl c.take.ensures.rest c.take_out.ensures
+invariant_of-self-in-Refused c = kept-as _ _ _ _ _ _ _ _ _ refl refl c.drop_at.ensures c.take_out.ensures
     (refused-kept c.self.inside.engines.items (vec_capacity c.self.inside.engines) c.self.inside.attached c.args.at c.args.place
     c.self.inside.row c.self.inside.cuts.behind c.args.self.now c.self.view_is c.self.invariant c.requires.place c.requires.below)
 
@@ -43,8 +43,8 @@ returns-in-Passed-clause-row c s is =
 pub returns-in-Refused-clause-row : goal.returns-in-Refused-clause-row
 returns-in-Refused-clause-row c s is =
     let there : slice_get c.self.inside.row c.args.place ≡ Some s = ap (λ (v : ChainParts). slice_get v.calls c.args.place) c.self.view_is ∙ is in
-    ap (λ (cuts : List ℕ). row_from 0 cuts (numbers_of c.take.new.self)) c.take_out.ensures
-    ∙ (ap (λ (calls : List StandingCall). row_from 0 (taken_out c.args.place c.self.inside.cuts.behind) (numbers_of calls)) c.take.ensures.rest
+    ap (λ (cuts : List ℕ). row_from 0 cuts (numbers_of c.drop_at.new.self)) c.take_out.ensures
+    ∙ (ap (λ (calls : List StandingCall). row_from 0 (taken_out c.args.place c.self.inside.cuts.behind) (numbers_of calls)) c.drop_at.ensures
     ∙ (refused-row c.self.inside.engines.items (vec_capacity c.self.inside.engines) c.self.inside.attached c.args.at c.args.place
     c.self.inside.row c.self.inside.cuts.behind c.args.self.now c.self.view_is c.self.invariant c.requires.place c.requires.below s there
     ∙ ap (λ (outcome : Outcome). row_after s.call.seq outcome c.args.self.now.row) (sym c.in-Refused.is)))

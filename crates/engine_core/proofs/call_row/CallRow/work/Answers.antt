@@ -1,9 +1,9 @@
-use Rattle.std.proofs.Common.{◌≡◌, ◌<◌, List, Some, length, set, slice_get, slice_index_or, refl, ap, sym, ◌∙◌, subst}
+use Rattle.std.proofs.Common.{◌≡◌, ◌<◌, List, Some, length, set, slice_get, slice_index_or, refl, ap, sym, subst}
 use Rattle.std.proofs.lemmas.Option.{slice_get-get_or, slice_get_read}
 use Rattle.mrpc_table.specs.Calls.{IsCallOf}
 use Rattle.mrpc_table.specs.declared.call.Call.{Call}
 use Rattle.engine_core.specs.Turns.{noted_in}
-use Rattle.engine_core.specs.Working.{LeavesCall, LeavesTickets, Works}
+use Rattle.engine_core.specs.Working.{LeavesCall, LeavesTickets}
 use Rattle.engine_core.specs.Engines.{EngineParts}
 use Rattle.engine_core.specs.Marks.{StandingCall}
 use Rattle.engine_core.proofs.call_row.CallRow.work.Goals as goal
