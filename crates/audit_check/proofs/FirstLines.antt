@@ -1,13 +1,17 @@
 -- The first line of a text, whose line feed a search found.
 use Rattle.std.proofs.Common.{◌≡◌, ◌≢◌, ℕ, zero, suc, ◌+◌, ◌<◌, ◌==◌, true, false, List, [], ◌∷◌, ◌++◌, length}
 use Rattle.std.proofs.Common.{get_or, take, drop, Some, None, refl, ap, sym, subst, ◌∙◌, inl, inr, append_assoc}
-use Rattle.std.proofs.Common.{arith, length-take}
+use Rattle.std.proofs.Common.{arith, length-append, length-take}
 use Rattle.std.proofs.lemmas.Bool.{eq-eqb}
 use Rattle.std.proofs.lemmas.Bool.Decides.{eqb_tells}
 use Rattle.memchr.specs.Find.{IsFirstByte, is_byte}
 use Rattle.std.proofs.lemmas.List.Elements.{All-from_recursion}
 use Rattle.std.proofs.Math.Seq.{take-append-add}
 use Rattle.std.proofs.lemmas.List.{append-nil}
+use Rattle.mrpc_table.specs.Text.{spaced}
+use Rattle.mrpc_table.specs.declared.table.Table.{Table}
+use Rattle.call_history.specs.declared.happening.Happened.{Happened}
+use Rattle.audit_text.specs.Lines.{IsCutInto, audit_line, happening_words}
 use Rattle.audit_check.proofs.Cuts.{IsCut, Lacks}
 use Rattle.audit_check.specs.States.{IsFirstLine}
 
@@ -57,3 +61,18 @@ found text i h =
 
 pub nowhere : (text : List ℕ) → IsFirstByte (is_byte 10) text None → IsFirstLine text text []
 nowhere text h = without_line_feed text (lacks_all text (λ k less. h k (omega arith) less))
+
+-- ---- a line that is read before its end is looked for
+
+pub told_first : (T : Table) (x : Happened) (text rest : List ℕ) → IsCutInto (happening_words T x.conn x.what) → text ≡ audit_line T x ++ rest
+    → IsFirstLine text (audit_line T x) rest
+told_first T x text rest cut e = record { joined = e; ends = inl (spaced (happening_words T x.conn x.what), refl, cut.one_line) }
+
+-- ---- what is left
+
+-- what stands behind the first line is shorter
+pub line_shorter : (text line rest : List ℕ) → IsFirstLine text line rest → 0 < length text → length rest < length text
+line_shorter text line rest is some = elim is.ends [
+  | inl e ↦ omega (arith, ap length is.joined, length-append line rest, ap length e.1, length-append e.0 (10 ∷ []))
+  | inr e ↦ omega (arith, some, ap length e.1)
+]

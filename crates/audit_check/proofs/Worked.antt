@@ -1,5 +1,6 @@
 -- The audit of a small run, checked by hand: a policy denies a call with 150.
-use Rattle.std.proofs.Common.{◌≡◌, ◌≢◌, ℕ, ◌<◌, false, true, List, [], ◌∷◌, Contains, codes, arith, refl, ap, sym, subst, ◌∙◌, inl, inr, Some}
+use Rattle.std.proofs.Common.{◌≡◌, ◌≢◌, ℕ, ◌<◌, ◌≤◌, false, true, List, [], ◌∷◌, Contains, codes, arith, refl, ap, sym, subst, ◌∙◌, inl, inr, Some, None}
+use Rattle.std.specs.Prelude.{map, slice_get, ◌↔◌}
 use Rattle.std.specs.Fmt.{digits}
 use Rattle.std.proofs.lemmas.Bool.Decides.{eqb_tells}
 use Rattle.std.proofs.lemmas.List.Elements.{All-head, All-nil}
@@ -17,13 +18,13 @@ use Rattle.policy_access.specs.declared.rule.Condition.TheVariants.{Compares}
 use Rattle.policy_access.specs.declared.rule.Operand.TheVariants.{Number}
 use Rattle.graph_form.specs.declared.reason.Reason.TheVariants.{NoMethod}
 use Rattle.engine_core.specs.Answers.{Answers, Past, nothing, pass, allows, denies, was_charged, charges, holds, refuses, is_within, is_over, draws, was_counted, counts, is_clear, redacts}
-use Rattle.engine_core.specs.Chains.{Changes, IsAgainst, Refusal, attaches, changed, detaches_none, new_entry, upgrades_none, is_taken, is_past, is_full, is_other}
+use Rattle.engine_core.specs.Chains.{Changes, Entry, IsAgainst, Refusal, attaches, changed, detaches_none, new_entry, upgrades_none, is_taken, is_past, is_full, is_other}
 use Rattle.engine_core.specs.declared.op.Op.{Op as Step}
 use Rattle.engine_core.specs.declared.op.Op.TheVariants.{Attach}
 use Rattle.engine_core.specs.declared.policy.Policy.{Policy}
 use Rattle.engine_core.specs.declared.policy.Policy.TheVariants.{Access}
-use Rattle.call_history.specs.Behind.{Behind}
-use Rattle.call_history.specs.Legal.{History, IsLegalBehind, IsPrefix, behind}
+use Rattle.call_history.specs.Behind.{Behind, standing}
+use Rattle.call_history.specs.Legal.{History, IsLegal, IsLegalBehind, IsPrefix, behind}
 use Rattle.call_history.specs.Rules.{IsDenied, Lets, May, Under}
 use Rattle.call_history.specs.declared.happening.Cause.TheVariants as cause
 use Rattle.call_history.specs.declared.happening.Happened.{Happened}
@@ -31,12 +32,15 @@ use Rattle.call_history.specs.declared.happening.Happening.{Happening}
 use Rattle.call_history.specs.declared.happening.Happening.TheVariants.{Took, Op, Sent, Refused}
 use Rattle.call_history.specs.declared.happening.Taken.{Taken}
 use Rattle.call_history.specs.declared.happening.TookCopy.TheVariants.{Copy, Malformed}
-use Rattle.audit_text.specs.Lines.{audit}
-use Rattle.audit_rules.specs.First.{Keeps, order_of}
+use Rattle.audit_text.specs.Lines.{audit, transport}
+use Rattle.audit_rules.specs.First.{Awaits, Keeps, order_of}
+use Rattle.audit_rules.specs.Telling.{TellsNext}
 use Rattle.audit_rules.specs.declared.rule.Rule.{Rule}
 use Rattle.audit_rules.specs.declared.rule.Rule.TheVariants.{A, B, C, D, E, F, G, Stands}
-use Rattle.audit_check.specs.Checking.{ArePrefixes, IsJudged, broken, legal, on_connection}
+use Rattle.audit_check.specs.Checking.{AreAllStanding, ArePrefixes, AreWhole, CallName, IsJudged, MayBegin, StandsLine}
+use Rattle.audit_check.specs.Checking.{TellCalls, broken, legal, lines_of, lines_on, misplaced, on_connection, open_end}
 use Rattle.audit_check.specs.declared.checked.Checked.TheVariants.{Illegal, Legal}
+use Rattle.audit_check.proofs.Calls.{in_first, in_one}
 use Rattle.audit_check.proofs.Known.{behind-other}
 use Rattle.audit_check.proofs.Opens.{nothing_settled}
 
@@ -285,3 +289,153 @@ judged-third =
       broken = λ takes. let wrong : 3 ≡ 1 = takes.number in absurd (omega (arith, wrong));
       earlier = λ other less. absurd (omega (arith, less));
     }) refl
+
+-- ---- lines of calls that stand
+
+-- the call alone, which stands at the end of a chain without an entry
+abbrev single : History
+single = on_one (Took call) ∷ []
+
+other-single : (conn : ℕ) → 1 ≢ conn → behind conn single ≡ []
+other-single conn other = behind-other conn [] (on_one (Took call)) other
+
+may-take-alone : May under [] (Took call)
+may-take-alone = record {
+  numbered = record { number = refl; few = omega arith; loads = omega arith; copy = (omega arith, normal-150) };
+  malformed = tt;
+  chain_kept = tt;
+  notes_due = tt;
+  drawn_refused = tt;
+  in_order = tt;
+  answered = tt;
+  link_end = (λ e. link_stands [] (Took call) e, tt);
+}
+
+legal-single : IsLegal table 1024 single
+legal-single =
+    on-each IsLegalOn single (record {
+      prefix = (tt, may-take-alone);
+      closed = record { malformed = λ z. z; quota = λ z. z; link = λ link. absurd (let wrong : false ≡ true = link.failed in cc) };
+    }) nothing-legal other-single
+
+-- the line of the call with this number, at the end of the chain
+abbrev standing_call : ℕ → StandsLine
+standing_call seq = record { conn = 1; seq = seq; position = 0; name = transport; holding = None }
+
+lines-single : lines_of (standing_call 1 ∷ []) ≡ codes "stands 1 1 0 -\n"
+unfolding digits
+lines-single = refl
+
+abbrev the_call : CallName
+the_call = (1, 1)
+
+abbrev Names : ℕ → ℕ → Type 0
+Names conn seq = let named : CallName = (conn, seq) in Contains (the_call ∷ []) named
+
+stands-single : (conn seq : ℕ) → Names conn seq ↔ Contains (map (λ call. call.seq) (standing (behind conn single))) seq
+stands-single conn seq = elim (eqb_tells 1 conn) [
+  | inl same ↦
+      let Q : ℕ → Type 0 = λ conn. Names conn seq ↔ Contains (map (λ call. call.seq) (standing (behind conn single))) seq in
+      subst Q same.1 (on-first seq)
+  | inr other ↦
+      let Q : Behind → Type 0 = λ past. Names conn seq ↔ Contains (map (λ call. call.seq) (standing past)) seq in
+      subst Q (sym (other-single conn other.1)) (λ has. absurd (other.1 (first-of (in_one the_call (conn, seq) has))), λ has. absurd (none-in seq has))
+]
+  where
+    first-of : {a b : CallName} → a ≡ b → a.0 ≡ b.0
+    first-of e = ap (λ (c : CallName). c.0) e
+
+    second-of : {a b : CallName} → a ≡ b → a.1 ≡ b.1
+    second-of e = ap (λ (c : CallName). c.1) e
+
+    on-first : (seq : ℕ) → Names 1 seq ↔ Contains (1 ∷ []) seq
+    on-first seq = (
+      λ has. let P : ℕ → Type 0 = λ n. Contains (1 ∷ []) n in subst P (second-of (in_one the_call (1, seq) has)) (in_first 1 []),
+      λ has. let P : ℕ → Type 0 = λ n. Names 1 n in subst P (in_one 1 seq has) (in_first the_call []),
+    )
+
+all-single : AreAllStanding single (the_call ∷ [])
+all-single = record { ascend = (All-nil _, tt); each = stands-single }
+
+no-entry : (e : Entry) → slice_get [] 0 ≡ Some e → ⊥
+no-entry e is = cc
+
+tells-single : TellsNext under (Took call ∷ []) [] 1 0 transport None
+tells-single = record {
+  call = call;
+  is_call = refl;
+  number = refl;
+  may_stand = record { within = omega arith; let_pass = All-nil (Lets under (Took call ∷ []) 1) };
+  falls = All-nil (λ p. 0 ≤ p);
+  named = refl;
+  tells = λ level cost first held. no-entry held.entry held.at;
+}
+
+told-single : (conn : ℕ) → TellCalls (on_connection table 1024 conn) (behind conn single) [] (lines_on conn (standing_call 1 ∷ []))
+told-single conn = elim (eqb_tells 1 conn) [
+  | inl same ↦
+      let Q : ℕ → Type 0 = λ conn. TellCalls (on_connection table 1024 conn) (behind conn single) [] (lines_on conn (standing_call 1 ∷ [])) in
+      subst Q same.1 (tells-single, tt)
+  | inr other ↦
+      let none : lines_on conn (standing_call 1 ∷ []) ≡ [] = rw other.0 refl in
+      let Q : List StandsLine → Type 0 = λ lines. TellCalls (on_connection table 1024 conn) (behind conn single) [] lines in
+      subst Q (sym none) tt
+]
+
+whole-single : AreWhole table 1024 single (standing_call 1 ∷ [])
+whole-single = record { begin = record { calls = the_call ∷ []; all = all-single; front = ([], refl); tell = told-single }; all = all-single }
+
+-- its line tells that it stands
+judged-stands : IsJudged table 1024 single (standing_call 1 ∷ []) (Legal 1 1)
+judged-stands = legal legal-single (inr whole-single) refl
+
+begins-with_nothing : MayBegin table 1024 single []
+begins-with_nothing = record { calls = the_call ∷ []; all = all-single; front = (the_call ∷ [], refl); tell = λ conn. tt }
+
+tells-no-second : TellsNext under (Took call ∷ []) [] 2 0 transport None → ⊥
+tells-no-second told =
+    let same : call ≡ told.call = some-same call told.call told.is_call in
+    let wrong : 1 ≡ 2 = ap (λ (c : Taken). c.seq) same ∙ told.number in omega (arith, wrong)
+  where
+    some-same : (x y : Taken) → Some x ≡ Some y → x ≡ y
+    some-same x y e = cc
+
+-- a line of call 2 in its place tells no call that stands
+judged-second : IsJudged table 1024 single (standing_call 2 ∷ []) (Illegal 2 Stands)
+judged-second = misplaced [] [] (standing_call 2) legal-single refl begins-with_nothing (λ begin. tells-no-second (begin.tell 1).0) refl
+
+-- ---- a malformed call alone
+
+abbrev faulty : Taken
+faulty = record { seq = 1; method = 9; number = 0; addr = 2; after = 1; count = 0; copy = Malformed NoMethod 0 9 }
+
+abbrev unrefused : History
+unrefused = on_one (Took faulty) ∷ []
+
+may-take-faulty : May under [] (Took faulty)
+may-take-faulty = record {
+  numbered = record { number = refl; few = omega arith; loads = omega arith; copy = (λ e. omega arith, λ less. refl) };
+  malformed = tt;
+  chain_kept = tt;
+  notes_due = tt;
+  drawn_refused = tt;
+  in_order = tt;
+  answered = tt;
+  link_end = (λ e. link_stands [] (Took faulty) e, tt);
+}
+
+none-earlier : (other : Rule) (conn : ℕ) → order_of other < 1 → Awaits (behind conn unrefused) other → ⊥
+none-earlier A conn less awaited = awaited
+none-earlier B conn less awaited = omega (arith, less)
+none-earlier C conn less awaited = omega (arith, less)
+none-earlier D conn less awaited = omega (arith, less)
+none-earlier E conn less awaited = omega (arith, less)
+none-earlier F conn less awaited = omega (arith, less)
+none-earlier G conn less awaited = omega (arith, less)
+none-earlier Stands conn less awaited = omega (arith, less)
+
+-- it waits for its refusal
+judged-faulty : IsJudged table 1024 unrefused [] (Illegal 2 B)
+judged-faulty =
+    open_end B (on-each IsPrefixOn unrefused (tt, may-take-faulty) (λ conn. tt) (λ conn other. behind-other conn [] (on_one (Took faulty)) other))
+    (record { conn = 1; awaited = tt; earlier = none-earlier }) refl

@@ -68,14 +68,44 @@ fn read_text(
     let mut encoding = Output::new(alloc)?;
     let mut rest = text;
     while !rest.is_empty() {
-        let (line, others) = first_line(rest);
-        take_line(alloc, &mut encoding, &mut progress, table, declared, line)?;
+        let others = take_front(alloc, &mut encoding, &mut progress, table, declared, rest)?;
         rest = others;
     }
     Ok(progress.end()?)
 }
 
-// Reads the first line of what is left of a text, and takes what it tells.
+// Reads the first line of what is left of a text, takes what it tells, and answers what stands behind it. (Most lines are
+// read without looking for their ends first.)
+fn take_front<'a>(
+    alloc: Global,
+    encoding: &mut Output,
+    progress: &mut Progress,
+    table: &Table,
+    declared: &Declarations,
+    rest: &'a [u8],
+) -> Result<&'a [u8], AuditFault>
+    requires valid { IsValid table.now }
+    requires policies { All (λ p. IsPolicy p.policy) declared.now.policies }
+    requires few { progress.old.happenings + progress.old.stands + 3 < 2 ^ 32 }
+    requires familiar { IsFamiliar table.now progress.old }
+    requires some { 0 < length rest.now }
+    ensures takes { (limit : ℕ) (text : List ℕ) → IsRead table.now declared.now limit text rest.now progress.old
+        → MatchResult result (λ others. IsRead table.now declared.now limit text others.now progress.new)
+        (FaultsAt (IsFirstBad table.now declared.now text)) }
+    ensures shorter { IfOk result (λ others. length others.now < length rest.now) }
+{
+    a_line_is_cut_into_its_words();
+    a_stands_line_tells_one_call();
+    if let Some((next, others)) = read_brief(rest) {
+        progress.note(alloc, table, next)?;
+        return Ok(others);
+    }
+    let (line, others) = first_line(rest);
+    take_line(alloc, encoding, progress, table, declared, line)?;
+    Ok(others)
+}
+
+// Reads a line by its words, and takes what it tells.
 fn take_line(
     alloc: Global,
     encoding: &mut Output,
@@ -95,9 +125,6 @@ fn take_line(
 {
     a_line_is_cut_into_its_words();
     a_stands_line_tells_one_call();
-    if let Some(next) = read_brief(line) {
-        return progress.note(alloc, table, next);
-    }
     match read_line(alloc, encoding, line, table, declared)? {
         Some(told) => progress.take(alloc, table, told),
         None => Err(AuditFault::Bad {

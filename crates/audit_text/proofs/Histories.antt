@@ -16,7 +16,7 @@ use Rattle.call_history.specs.declared.happening.Happened.{Happened}
 use Rattle.policy_blocks.specs.Declarations.{Declared}
 use Rattle.audit_text.specs.Lines.{audit, audit_line, happening_words}
 use Rattle.audit_text.specs.Writable.{IsWritable}
-use Rattle.audit_text.specs.Faults.{HasNoLine}
+use Rattle.audit_text.specs.Faults.{HasNoLine, IsFirstBad}
 use Rattle.audit_text.specs.LineWords.{happening_in}
 use Rattle.audit_text.specs.Told.{IsLine, bytes_of}
 use Rattle.audit_text.specs.declared.line.AuditLine.{AuditLine}
@@ -76,6 +76,35 @@ no-history one T valid declared (b ∷ before) (x ∷ h) rest told all some none
     (All-head (IsWritable T declared) b before told) (All-head (IsWritable T declared) x h all)
     (sym (append_assoc (audit_line T b) (audit T before) rest) ∙ e) in
     no-history one T valid declared before h rest (All-tail (IsWritable T declared) b before told) (All-tail (IsWritable T declared) x h all) some none same.1
+
+-- of two ways in which a text breaks off behind some happenings, each has as many happenings as the other
+one-end : OneHappening → (T : Table) → IsValid T → (declared : Declared) (before other : History) (rest left : List ℕ)
+    → All (IsWritable T declared) before → All (IsWritable T declared) other → HasNoLine T declared rest
+    → HasNoLine T declared left → audit T before ++ rest ≡ audit T other ++ left → length before ≡ length other
+one-end one T valid declared [] [] rest left told told_too none none_too e = refl
+one-end one T valid declared [] (x ∷ other) rest left told told_too none none_too e =
+    absurd (none x (audit T other ++ left) (All-head (IsWritable T declared) x other told_too)
+    (e ∙ append_assoc (audit_line T x) (audit T other) left))
+one-end one T valid declared (b ∷ before) [] rest left told told_too none none_too e =
+    absurd (none_too b (audit T before ++ rest) (All-head (IsWritable T declared) b before told)
+    (sym e ∙ append_assoc (audit_line T b) (audit T before) rest))
+one-end one T valid declared (b ∷ before) (x ∷ other) rest left told told_too none none_too e =
+    let same = one T declared b x (audit T before ++ rest) (audit T other ++ left) valid
+    (All-head (IsWritable T declared) b before told) (All-head (IsWritable T declared) x other told_too)
+    (sym (append_assoc (audit_line T b) (audit T before) rest) ∙ e ∙ append_assoc (audit_line T x) (audit T other) left) in
+    ap suc (one-end one T valid declared before other rest left (All-tail (IsWritable T declared) b before told)
+    (All-tail (IsWritable T declared) x other told_too) none none_too same.1)
+
+pub one-bad : OneHappening → (T : Table) → IsValid T → (declared : Declared) (text : List ℕ) (line other : ℕ)
+    → IsFirstBad T declared text line → IsFirstBad T declared text other → line ≡ other
+one-bad one T valid declared text line other a b =
+    let long = one-end one T valid declared a.before b.before a.rest b.rest a.told b.told a.none_next b.none_next (sym a.text_is ∙ b.text_is) in
+    a.number ∙ ap (λ n. n + 1) long ∙ sym b.number
+
+pub not-both : OneHappening → (T : Table) → IsValid T → (declared : Declared) (text : List ℕ) (h : History) (line : ℕ)
+    → All (IsWritable T declared) h → text ≡ audit T h → IsFirstBad T declared text line → ⊥
+not-both one T valid declared text h line all is bad =
+    no-history one T valid declared bad.before h bad.rest bad.told all bad.some_left bad.none_next (sym bad.text_is ∙ is)
 
 -- one more happening
 pub audit-more : (T : Table) (h : History) (x : Happened) (text rest behind : List ℕ) → text ≡ audit T h ++ rest

@@ -1,9 +1,9 @@
-mod Briefs
 mod Bytes
 mod Causes
 mod CopyLines
 mod Digits
 mod EncodedBytes
+mod Fronts
 mod Histories
 mod KindLines
 mod Labelled
@@ -17,6 +17,7 @@ mod Spelled
 mod Stands
 mod Telling
 mod Texts
+mod Values
 mod WholeLines
 mod Words
 mod WordsOfLines

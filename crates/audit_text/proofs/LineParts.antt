@@ -63,25 +63,25 @@ named w this k l h is = h.0 ∙ is ∙ ap kind_word (unsome k l h.1)
 
 pub kind-is : (w : List ℕ) (k : Kind) → kind_said w ≡ Some k → w ≡ kind_word k
 kind-is w k e =
-    elim (by-word w (codes "took") (Some kinds.Took) _ k e) [
-      | inl h ↦ named w _ kinds.Took k h refl
-      | inr e ↦ elim (by-word w (codes "away") (Some kinds.Away) _ k e) [
-        | inl h ↦ named w _ kinds.Away k h refl
-        | inr e ↦ elim (by-word w (codes "op") (Some kinds.Op) _ k e) [
-          | inl h ↦ named w _ kinds.Op k h refl
-          | inr e ↦ elim (by-word w (codes "moment") (Some kinds.Moment) _ k e) [
-            | inl h ↦ named w _ kinds.Moment k h refl
-            | inr e ↦ elim (by-word w (codes "charged") (Some kinds.Charged) _ k e) [
-              | inl h ↦ named w _ kinds.Charged k h refl
-              | inr e ↦ elim (by-word w (codes "drawn") (Some kinds.Drawn) _ k e) [
-                | inl h ↦ named w _ kinds.Drawn k h refl
-                | inr e ↦ elim (by-word w (codes "counted") (Some kinds.Counted) _ k e) [
-                  | inl h ↦ named w _ kinds.Counted k h refl
-                  | inr e ↦ elim (by-word w (codes "redacted") (Some kinds.Redacted) _ k e) [
-                    | inl h ↦ named w _ kinds.Redacted k h refl
-                    | inr e ↦ elim (by-word w (codes "sent") (Some kinds.Sent) _ k e) [
-                      | inl h ↦ named w _ kinds.Sent k h refl
-                      | inr e ↦ elim (by-word w (codes "refused") (Some kinds.Refused) None k e) [ inl h ↦ named w _ kinds.Refused k h refl | inr e ↦ absurd (let wrong = e in cc) ]
+    elim (by-word w (codes "charged") (Some kinds.Charged) _ k e) [
+      | inl h ↦ named w _ kinds.Charged k h refl
+      | inr e ↦ elim (by-word w (codes "drawn") (Some kinds.Drawn) _ k e) [
+        | inl h ↦ named w _ kinds.Drawn k h refl
+        | inr e ↦ elim (by-word w (codes "counted") (Some kinds.Counted) _ k e) [
+          | inl h ↦ named w _ kinds.Counted k h refl
+          | inr e ↦ elim (by-word w (codes "sent") (Some kinds.Sent) _ k e) [
+            | inl h ↦ named w _ kinds.Sent k h refl
+            | inr e ↦ elim (by-word w (codes "took") (Some kinds.Took) _ k e) [
+              | inl h ↦ named w _ kinds.Took k h refl
+              | inr e ↦ elim (by-word w (codes "moment") (Some kinds.Moment) _ k e) [
+                | inl h ↦ named w _ kinds.Moment k h refl
+                | inr e ↦ elim (by-word w (codes "redacted") (Some kinds.Redacted) _ k e) [
+                  | inl h ↦ named w _ kinds.Redacted k h refl
+                  | inr e ↦ elim (by-word w (codes "refused") (Some kinds.Refused) _ k e) [
+                    | inl h ↦ named w _ kinds.Refused k h refl
+                    | inr e ↦ elim (by-word w (codes "op") (Some kinds.Op) _ k e) [
+                      | inl h ↦ named w _ kinds.Op k h refl
+                      | inr e ↦ elim (by-word w (codes "away") (Some kinds.Away) None k e) [ inl h ↦ named w _ kinds.Away k h refl | inr e ↦ absurd (let wrong = e in cc) ]
                     ]
                   ]
                 ]

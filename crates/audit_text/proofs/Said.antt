@@ -76,7 +76,7 @@ decimal_form (c ∷ cs) e =
           let len : length cs ≡ 0 = eqb-true (length cs) 0 none in omega arith,
     )
 
-number-is : (w : List ℕ) (n : ℕ) → number_of w ≡ Some n → n < 2 ^ 64 → w ≡ decimal n
+pub number-is : (w : List ℕ) (n : ℕ) → number_of w ≡ Some n → n < 2 ^ 64 → w ≡ decimal n
 number-is w n e small =
     let h = if_true (is_decimal w) (digits_value 10 w) n e in
     let form = decimal_form w h.0 in

@@ -6,14 +6,14 @@ use Rattle.audit_text.specs.declared.what.Kind.TheVariants.{Took, Away, Op, Mome
 
 abbrev pub kind_said : List ℕ → Option Kind
 kind_said word =
-    if bytes_eq word (codes "took") then Some Took
-    else if bytes_eq word (codes "away") then Some Away
-    else if bytes_eq word (codes "op") then Some Op
-    else if bytes_eq word (codes "moment") then Some Moment
-    else if bytes_eq word (codes "charged") then Some Charged
+    if bytes_eq word (codes "charged") then Some Charged
     else if bytes_eq word (codes "drawn") then Some Drawn
     else if bytes_eq word (codes "counted") then Some Counted
-    else if bytes_eq word (codes "redacted") then Some Redacted
     else if bytes_eq word (codes "sent") then Some Sent
+    else if bytes_eq word (codes "took") then Some Took
+    else if bytes_eq word (codes "moment") then Some Moment
+    else if bytes_eq word (codes "redacted") then Some Redacted
     else if bytes_eq word (codes "refused") then Some Refused
+    else if bytes_eq word (codes "op") then Some Op
+    else if bytes_eq word (codes "away") then Some Away
     else None

@@ -1,6 +1,7 @@
 pub mod Briefs
 pub mod Copies
 pub mod Faults
+pub mod Fronts
 pub mod Hexadecimal
 pub mod Kinds
 pub mod Labels

@@ -1,5 +1,5 @@
 -- The code's own: the words of a line, behind its kind and its connection.
-use Rattle.std.specs.Prelude.{◌≡◌, ℕ, ◌^◌, ◌||◌, Bool, List, [], ◌∷◌, codes, Option, Some, None, if◌then◌else◌}
+use Rattle.std.specs.Prelude.{ℕ, ◌^◌, ◌||◌, Bool, List, [], ◌∷◌, codes, Option, Some, None, if◌then◌else◌}
 use Rattle.std.specs.Fmt.{decimal}
 use Rattle.std.specs.Str.{bytes_eq}
 use Rattle.mrpc_table.specs.Names.{is_name_form}
@@ -8,10 +8,6 @@ use Rattle.call_history.specs.declared.happening.Happened.{Happened}
 use Rattle.call_history.specs.declared.happening.Happening.{Happening}
 use Rattle.call_history.specs.declared.happening.Happening.TheVariants as happen
 use Rattle.audit_text.specs.Lines.{Words, cause_words, happening_words, standing_words, step_words, transport}
-use Rattle.policy_blocks.specs.Declarations.{Declared}
-use Rattle.audit_text.specs.Briefs.{told_by}
-use Rattle.audit_text.specs.Writable.{CanBeTold}
-use Rattle.audit_text.specs.declared.short_line.Brief.{Brief}
 use Rattle.audit_text.specs.declared.holding.Holding.{Holding}
 use Rattle.audit_text.specs.Copies.{taken_words}
 use Rattle.audit_text.specs.Reading.{◌>>=◌, first_said, last_said, number_said}
@@ -93,8 +89,3 @@ abbrev pub happening_in : Option AuditLine → Option Happened
 happening_in None = None
 happening_in (Some (lines.Happened x)) = Some x
 happening_in (Some (lines.Stands conn seq position name holding)) = None
-
--- words behind the connection tell what became of a call, and it is of this kind
-abbrev pub IsBriefly : Table → Declared → Kind → Words → Brief → Type 0
-IsBriefly T declared kind words b =
-    (CanBeTold T declared (told_by b) × (kind_of (told_by b) ≡ kind)) × (words ≡ tail_words T (told_by b))

@@ -12,6 +12,7 @@ ghost use Rattle.call_history.specs.declared.happening.Happened.{Happened};
 ghost use Rattle.policy_blocks.specs.Declarations.{Declared};
 ghost use Rattle.audit_text.specs.Lines.{audit, audit_line, happening_words, stands_line, standing_words, IsCutInto};
 ghost use Rattle.audit_text.specs.Writable.{IsStanding, IsWritable};
+ghost use Rattle.audit_text.specs.Faults.{IsFirstBad};
 ghost use Rattle.audit_text.specs.declared.holding.Holding.{Holding};
 
 use wire_decode::{meaning_of_encoding, one_meaning};
@@ -27,6 +28,17 @@ pub fn a_text_has_one_history()
 {
     meaning_of_encoding();
     one_meaning();
+}
+
+/// A text is never both that of a history that can be told and one with a first line that is none of one, and it has
+/// one such line at most.
+pub fn a_text_has_one_bad_line()
+    ensures bad { (T : Table) (declared : Declared) (text : List ℕ) (line other : ℕ) → IsValid T
+        → IsFirstBad T declared text line → IsFirstBad T declared text other → line ≡ other }
+    ensures not_both { (T : Table) (declared : Declared) (text : List ℕ) (h : History) (line : ℕ) → IsValid T
+        → All (IsWritable T declared) h → text ≡ audit T h → IsFirstBad T declared text line → ⊥ }
+{
+    a_text_has_one_history();
 }
 
 /// A line of a call that stands is never that of a happening, and tells one call.
@@ -51,9 +63,4 @@ pub fn a_line_is_cut_into_its_words()
 pub fn an_encoding_is_bytes()
     ensures { (T : Table) (msg : ℕ) (t : Node) → IsValid T → IsNormal T msg t → length (encoding T msg t) < 2 ^ 64
         → IsBytes (encoding T msg t) }
-{}
-
-/// The text of a history that goes on.
-pub fn texts_go_on()
-    ensures { (T : Table) (h k : History) → audit T (h ++ k) ≡ audit T h ++ audit T k }
 {}

@@ -1,6 +1,6 @@
 //! The history that a text tells.
 
-ghost use Rattle.std.specs.Prelude.{◌≡◌, ◌≢◌, ◌+◌, ◌<◌, ◌≤◌, ◌++◌, ◌∷◌, ℕ, List, [], All, IfOk, IfErr, IfSome, MatchOption, MatchResult, length};
+ghost use Rattle.std.specs.Prelude.{◌≡◌, ◌≢◌, ◌+◌, ◌<◌, ◌≤◌, ◌++◌, ◌∷◌, ◌⊎◌, ℕ, List, [], All, IfOk, IfErr, IfSome, MatchOption, MatchResult, length};
 ghost use Rattle.mrpc_table.specs.Valid.{IsValid};
 ghost use Rattle.call_history.specs.Legal.{History};
 ghost use Rattle.audit_text.specs.Lines.{audit, audit_line};
@@ -9,7 +9,7 @@ ghost use Rattle.audit_text.specs.Faults.{FaultsAs, HasNoLine, IsFirstBad};
 ghost use Rattle.audit_text.specs.LineWords.{happening_in};
 ghost use Rattle.audit_text.specs.declared.reading.AuditFault.TheVariants.{Memory as NoMemory};
 
-use crate::laws::{a_line_is_cut_into_its_words, a_text_has_one_history};
+use crate::laws::{a_line_is_cut_into_its_words, a_text_has_one_bad_line, a_text_has_one_history};
 use crate::line::{AuditLine, read_line};
 use call_history::Happened;
 use mrpc_table::{Memory, Sequence, Table, cut};
@@ -111,8 +111,11 @@ pub fn read_audit(
     ensures bad { IfErr result (FaultsAs (IsFirstBad table.now declared.now text.now)) }
     ensures only { (h : History) → All (IsWritable table.now declared.now) h → text.now ≡ audit table.now h
         → MatchResult result (λ k. k ≡ h) (λ fault. fault ≡ AuditFault.Memory) }
+    ensures only_bad { (line : ℕ) → IsFirstBad table.now declared.now text.now line
+        → MatchResult result (λ _. ⊥) (λ fault. (fault ≡ AuditFault.Bad line) ⊎ (fault ≡ AuditFault.Memory)) }
 {
     a_text_has_one_history();
+    a_text_has_one_bad_line();
     let mut history = Sequence::new(alloc);
     let mut encoding = Output::new(alloc)?;
     let mut rest = text;

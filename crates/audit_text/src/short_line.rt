@@ -1,18 +1,17 @@
 //! Lines that are read without memory: what was noted of a call, and that it was sent. Most lines of an audit are such.
 
-ghost use Rattle.std.specs.Prelude.{◌≡◌, IfSome, Some};
+ghost use Rattle.std.specs.Prelude.{◌≡◌, ◌∷◌, ◌++◌, IfSome};
 ghost use Rattle.mrpc_table.specs.declared.table.Table.{Table};
 ghost use Rattle.policy_blocks.specs.Declarations.{Declared};
-ghost use Rattle.audit_text.specs.Briefs.{told_by, told_in};
-ghost use Rattle.audit_text.specs.LineWords.{IsBriefly};
+ghost use Rattle.audit_text.specs.Briefs.{told_in};
+ghost use Rattle.audit_text.specs.Fronts.{IsToldBefore};
+ghost use Rattle.audit_text.specs.LineWords.{kind_word};
 ghost use Rattle.audit_text.specs.Lines.{audit_line};
-ghost use Rattle.audit_text.specs.Reading.{words_in};
-ghost use Rattle.audit_text.specs.Said.{charged_said, counted_said, drawn_said, sent_said};
 ghost use Rattle.audit_text.specs.Writable.{IsWritable};
+ghost use Rattle.audit_text.specs.declared.what.Kind.TheVariants as kinds;
 
-use crate::line::before_feed;
-use crate::what::{Kind, noted};
-use crate::word::{Rest, end, last64, next, number32, number64};
+use crate::front::{behind, front_name, front32, front64};
+use crate::what::Kind;
 
 /// What became of a call, as its line tells it: a name stands where the line has it. Each is a happening of its own
 /// name (`told_by` of `specs/Briefs.antt`).
@@ -50,76 +49,92 @@ pub struct BriefLine<'a> {
     pub what: Brief<'a>,
 }
 
-// `SEQ NAME LEVEL`
-#[tactic(auto, unfolding(crate::specs::Said::charged_said))]
-fn charged(rest: Rest<'_>) -> Option<Brief<'_>>
-    ensures { IfSome result (λ b. charged_said (words_in rest.entry) ≡ Some (told_by b)) }
+// `SEQ NAME LEVEL`, and what stands behind the line.
+fn charged(text: &[u8]) -> Option<(Brief<'_>, &[u8])>
+    ensures { IfSome result (λ r. IsToldBefore kinds.Charged text.now r.0 r.1.now) }
 {
-    let (seq, name, rest) = noted(rest)?;
-    let level = last64(rest)?;
-    Some(Brief::Charged { seq, name, level })
+    let (seq, rest) = front32(text, b' ')?;
+    let (name, rest) = front_name(rest, b' ')?;
+    let (level, rest) = front64(rest, b'\n')?;
+    Some((Brief::Charged { seq, name, level }, rest))
 }
 
-// `SEQ NAME WINDOW TICKET`
-#[tactic(auto, unfolding(crate::specs::Said::drawn_said))]
-fn drawn(rest: Rest<'_>) -> Option<Brief<'_>>
-    ensures { IfSome result (λ b. drawn_said (words_in rest.entry) ≡ Some (told_by b)) }
+// `SEQ NAME WINDOW TICKET`, in the same way.
+fn drawn(text: &[u8]) -> Option<(Brief<'_>, &[u8])>
+    ensures { IfSome result (λ r. IsToldBefore kinds.Drawn text.now r.0 r.1.now) }
 {
-    let (seq, name, rest) = noted(rest)?;
-    let (window, rest) = number64(rest)?;
-    let ticket = last64(rest)?;
-    Some(Brief::Drawn {
+    let (seq, rest) = front32(text, b' ')?;
+    let (name, rest) = front_name(rest, b' ')?;
+    let (window, rest) = front64(rest, b' ')?;
+    let (ticket, rest) = front64(rest, b'\n')?;
+    let what = Brief::Drawn {
         seq,
         name,
         window,
         ticket,
-    })
+    };
+    Some((what, rest))
 }
 
-// `SEQ NAME`
-#[tactic(auto, unfolding(crate::specs::Said::counted_said))]
-fn counted(rest: Rest<'_>) -> Option<Brief<'_>>
-    ensures { IfSome result (λ b. counted_said (words_in rest.entry) ≡ Some (told_by b)) }
+// `SEQ NAME`, in the same way.
+fn counted(text: &[u8]) -> Option<(Brief<'_>, &[u8])>
+    ensures { IfSome result (λ r. IsToldBefore kinds.Counted text.now r.0 r.1.now) }
 {
-    let (seq, name, rest) = noted(rest)?;
-    end(rest)?;
-    Some(Brief::Counted { seq, name })
+    let (seq, rest) = front32(text, b' ')?;
+    let (name, rest) = front_name(rest, b'\n')?;
+    Some((Brief::Counted { seq, name }, rest))
 }
 
-// `SEQ BYTES`
-#[tactic(auto, unfolding(crate::specs::Said::sent_said))]
-fn sent(rest: Rest<'_>) -> Option<Brief<'_>>
-    ensures { IfSome result (λ b. sent_said (words_in rest.entry) ≡ Some (told_by b)) }
+// `SEQ BYTES`, in the same way.
+fn sent(text: &[u8]) -> Option<(Brief<'_>, &[u8])>
+    ensures { IfSome result (λ r. IsToldBefore kinds.Sent text.now r.0 r.1.now) }
 {
-    let (seq, rest) = number32(rest)?;
-    let bytes = last64(rest)?;
-    Some(Brief::Sent { seq, bytes })
+    let (seq, rest) = front32(text, b' ')?;
+    let (bytes, rest) = front64(rest, b'\n')?;
+    Some((Brief::Sent { seq, bytes }, rest))
+}
+
+// The kind whose word a text begins with, where lines of it take no memory, and what stands behind its space.
+#[inline(always)]
+fn front_kind(text: &[u8]) -> Option<(Kind, &[u8])>
+    ensures { IfSome result (λ r. text.now ≡ kind_word r.0 ++ 32 ∷ r.1.now) }
+{
+    if let Some(rest) = behind(text, b"charged ") {
+        return Some((Kind::Charged, rest));
+    }
+    if let Some(rest) = behind(text, b"drawn ") {
+        return Some((Kind::Drawn, rest));
+    }
+    if let Some(rest) = behind(text, b"counted ") {
+        return Some((Kind::Counted, rest));
+    }
+    let rest = behind(text, b"sent ")?;
+    Some((Kind::Sent, rest))
 }
 
 // What the words behind the connection tell, where they are of a kind that takes no memory.
-fn told_of_kind(kind: Kind, rest: Rest<'_>) -> Option<Brief<'_>>
-    ensures { IfSome result (λ b. (T : Table) (declared : Declared)
-        → IsBriefly T declared kind (words_in rest.entry) b) }
+fn told_of_kind(kind: Kind, text: &[u8]) -> Option<(Brief<'_>, &[u8])>
+    ensures { IfSome result (λ r. IsToldBefore kind text.now r.0 r.1.now) }
 {
     match kind {
-        Kind::Charged => charged(rest),
-        Kind::Drawn => drawn(rest),
-        Kind::Counted => counted(rest),
-        Kind::Sent => sent(rest),
+        Kind::Charged => charged(text),
+        Kind::Drawn => drawn(text),
+        Kind::Counted => counted(text),
+        Kind::Sent => sent(text),
         Kind::Took | Kind::Away | Kind::Op | Kind::Moment | Kind::Redacted | Kind::Refused => None,
     }
 }
 
-/// What a line tells, with its line feed, where it is a line of an audit text that notes something of a call or tells
-/// that it was sent. It takes no memory. Of any other line nothing comes: [`read_line`](crate::read_line) reads it.
-pub fn read_brief(line: &[u8]) -> Option<BriefLine<'_>>
-    ensures told { IfSome result (λ b. (T : Table) (declared : Declared) → line.now ≡ audit_line T (told_in b)) }
-    ensures writable { IfSome result (λ b. (T : Table) (declared : Declared) → IsWritable T declared (told_in b)) }
+/// What the line tells with which a text begins, where it is a line of an audit text that notes something of a call or
+/// tells that it was sent, and what stands behind its line feed. It takes no memory. Of any other line nothing comes:
+/// [`read_line`](crate::read_line) reads it.
+pub fn read_brief(text: &[u8]) -> Option<(BriefLine<'_>, &[u8])>
+    ensures told { IfSome result (λ r. (T : Table) (declared : Declared)
+        → text.now ≡ audit_line T (told_in r.0) ++ r.1.now) }
+    ensures writable { IfSome result (λ r. (T : Table) (declared : Declared) → IsWritable T declared (told_in r.0)) }
 {
-    let text = before_feed(line)?;
-    let (word, rest) = next(Some(text))?;
-    let kind = Kind::of_word(word)?;
-    let (conn, rest) = number32(rest)?;
-    let what = told_of_kind(kind, rest)?;
-    Some(BriefLine { conn, what })
+    let (kind, rest) = front_kind(text)?;
+    let (conn, rest) = front32(rest, b' ')?;
+    let (what, rest) = told_of_kind(kind, rest)?;
+    Some((BriefLine { conn, what }, rest))
 }

@@ -26,30 +26,30 @@ pub(crate) enum Kind {
 }
 
 impl Kind {
-    /// The kind that a word names.
+    /// The kind that a word names. (Those that most lines are of come first.)
     pub(crate) fn of_word(word: &[u8]) -> Option<Kind>
         ensures { result ≡ kind_said word.now }
     {
-        if is_word(word, b"took") {
-            Some(Kind::Took)
-        } else if is_word(word, b"away") {
-            Some(Kind::Away)
-        } else if is_word(word, b"op") {
-            Some(Kind::Op)
-        } else if is_word(word, b"moment") {
-            Some(Kind::Moment)
-        } else if is_word(word, b"charged") {
+        if is_word(word, b"charged") {
             Some(Kind::Charged)
         } else if is_word(word, b"drawn") {
             Some(Kind::Drawn)
         } else if is_word(word, b"counted") {
             Some(Kind::Counted)
-        } else if is_word(word, b"redacted") {
-            Some(Kind::Redacted)
         } else if is_word(word, b"sent") {
             Some(Kind::Sent)
+        } else if is_word(word, b"took") {
+            Some(Kind::Took)
+        } else if is_word(word, b"moment") {
+            Some(Kind::Moment)
+        } else if is_word(word, b"redacted") {
+            Some(Kind::Redacted)
         } else if is_word(word, b"refused") {
             Some(Kind::Refused)
+        } else if is_word(word, b"op") {
+            Some(Kind::Op)
+        } else if is_word(word, b"away") {
+            Some(Kind::Away)
         } else {
             None
         }

@@ -71,10 +71,10 @@ fn is_number(digits: &[u8]) -> bool
     }
 }
 
-// The number that the first digits of a text spell, at most 19 of them, and what stands behind these; none where they
-// are no number.
+/// The number that the first digits of a text spell, at most 19 of them, and what stands behind these; none where they
+/// are no number.
 #[inline(always)]
-fn front_number(text: &[u8]) -> Option<(u64, &[u8])>
+pub(crate) fn front_number(text: &[u8]) -> Option<(u64, &[u8])>
     ensures { IfSome result (λ r. IsNumberBefore text.now r.0 r.1.now) }
 {
     let most = text.len().min(FEW_DIGITS);
@@ -90,13 +90,13 @@ fn front_number(text: &[u8]) -> Option<(u64, &[u8])>
     Some((number, &text[count..]))
 }
 
-// What stands behind the space with which a text begins.
+/// What stands behind a byte with which a text begins.
 #[inline(always)]
-fn behind_space(text: &[u8]) -> Option<&[u8]>
-    ensures { IfSome result (λ r. text.now ≡ 32 ∷ r.now) }
+pub(crate) fn behind_byte(text: &[u8], byte: u8) -> Option<&[u8]>
+    ensures { IfSome result (λ r. text.now ≡ byte ∷ r.now) }
 {
     match text {
-        [b' ', others @ ..] => Some(others),
+        [first, others @ ..] if *first == byte => Some(others),
         _ => None,
     }
 }
@@ -110,7 +110,7 @@ fn short_number(text: &[u8]) -> Option<(u64, Rest<'_>)>
     if behind.is_empty() {
         return Some((number, None));
     }
-    let others = behind_space(behind)?;
+    let others = behind_byte(behind, b' ')?;
     Some((number, Some(others)))
 }
 

@@ -1,4 +1,4 @@
-use Rattle.std.proofs.Common.{◌≡◌, ◌<◌, [], arith, length, refl}
+use Rattle.std.proofs.Common.{◌≡◌, [], arith, length, refl}
 use Rattle.std.proofs.lemmas.List.{nil_from_length}
 use Rattle.std.proofs.lemmas.Result.{err_from_is_err_and}
 use Rattle.audit_check.proofs.TextLines.{few_lines, read_whole, tells_nothing}
@@ -14,24 +14,23 @@ loop-rest-init c = record {
   progress = c.in_ok-progress.ensures c.args.table.now;
 }
 
-pub take_line-requires-clause-few : goal.take_line-requires-clause-few
-take_line-requires-clause-few c =
+pub take_front-requires-clause-few : goal.take_front-requires-clause-few
+take_front-requires-clause-few c =
     omega (arith, few_lines c.args.table.now c.args.declared.now c.args.loads c.args.text.now c.loop-rest.rest.now c.loop-rest.progress c.loop-rest.invariant, c.requires.short)
 
-pub take_line-requires-clause-familiar : goal.take_line-requires-clause-familiar
-take_line-requires-clause-familiar c = let r = c.loop-rest.invariant in (c.args.loads, r.history, r.told, r.progress)
+pub take_front-requires-clause-familiar : goal.take_front-requires-clause-familiar
+take_front-requires-clause-familiar c = let r = c.loop-rest.invariant in (c.args.loads, r.history, r.told, r.progress)
 
-pub returns-in_err-take_line-clause-bad : goal.returns-in_err-take_line-clause-bad
-returns-in_err-take_line-clause-bad c =
-    let some : 0 < length c.loop-rest.rest.now = grind (arith, c.is_empty.ensures, c.loop-rest-test.true) in
-    let same = err_from_is_err_and c.from_residual-in_err-take_line.result c.from_residual-in_err-take_line.ensures.1 in
-    rw (same.1, same.2)
-    (c.in_err-take_line.ensures c.args.loads c.args.text.now c.loop-rest.rest.now c.first_line.result.1.now c.loop-rest.invariant some c.first_line.ensures)
+pub take_front-requires-clause-some : goal.take_front-requires-clause-some
+take_front-requires-clause-some c = grind (arith, c.is_empty.ensures, c.loop-rest-test.true)
+
+pub returns-in_err-others-clause-bad : goal.returns-in_err-others-clause-bad
+returns-in_err-others-clause-bad c =
+    let same = err_from_is_err_and c.from_residual-in_err-others.result c.from_residual-in_err-others.ensures.1 in
+    rw (same.1, same.2) (c.in_err-others.ensures.takes c.args.loads c.args.text.now c.loop-rest.invariant)
 
 pub loop-rest-preserved : goal.loop-rest-preserved
-loop-rest-preserved c =
-    let some : 0 < length c.loop-rest.rest.now = grind (arith, c.is_empty.ensures, c.loop-rest-test.true) in
-    c.in_ok-take_line.ensures c.args.loads c.args.text.now c.loop-rest.rest.now c.first_line.result.1.now c.loop-rest.invariant some c.first_line.ensures
+loop-rest-preserved c = c.in_ok-others.ensures.takes c.args.loads c.args.text.now c.loop-rest.invariant
 
 pub end-requires-clause-familiar : goal.end-requires-clause-familiar
 end-requires-clause-familiar c = let r = c.loop-rest.invariant in (c.args.table.now, (c.args.loads, r.history, r.told, r.progress))

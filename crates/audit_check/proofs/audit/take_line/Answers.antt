@@ -1,7 +1,5 @@
 use Rattle.std.proofs.Common.{ℕ, ◌≡◌, ◌+◌, arith, length, subst, sym, Option, None, Some}
-use Rattle.audit_text.specs.Briefs.{told_in}
 use Rattle.audit_text.specs.Told.{IsLine, bytes_of}
-use Rattle.audit_text.specs.declared.line.AuditLine.TheVariants as lines
 use Rattle.audit_check.specs.Checking.{IsFirstBad}
 use Rattle.audit_check.proofs.TextLines.{if_some_at, no_line, readable_line, taken_on}
 use Rattle.audit_check.proofs.audit.take_line.Goals as goal
@@ -10,28 +8,19 @@ no_some : {A : Type 0} (o : Option A) (x : A) → o ≡ None → o ≡ Some x �
 no_some None x none some = cc
 no_some (Some y) x none some = cc
 
+pub take-requires-clause-readable : goal.take-requires-clause-readable
+take-requires-clause-readable c =
+    let T = c.args.table.now in
+    readable_line T c.args.declared.now c.in-Some.told c.requires.policies
+    (if_some_at c.in_ok-told.field-0 c.in-Some.told (IsLine T c.args.declared.now) c.in-Some.is c.in_ok-told.ensures.writable)
+
 pub returns-in-Some : goal.returns-in-Some
 returns-in-Some c limit text rest others r some first =
     let T = c.args.table.now in
     let declared = c.args.declared.now in
-    let next = c.in-Some.next in
-    taken_on c.a_line_is_cut_into_its_words.ensures.stands c.a_stands_line_tells_one_call.ensures.apart T declared limit text rest c.args.line.now others
-    c.args.progress.now c.note.new.self (lines.Happened (told_in next)) c.note.result r some first
-    (c.in-Some.ensures.writable T declared) (c.in-Some.ensures.told T declared) (c.note.ensures limit r.history r.told r.progress)
-
-pub take-requires-clause-readable : goal.take-requires-clause-readable
-take-requires-clause-readable c =
-    let T = c.args.table.now in
-    readable_line T c.args.declared.now c.in-Some-2.told c.requires.policies
-    (if_some_at c.in_ok-told.field-0 c.in-Some-2.told (IsLine T c.args.declared.now) c.in-Some-2.is c.in_ok-told.ensures.writable)
-
-pub returns-in-Some-2 : goal.returns-in-Some-2
-returns-in-Some-2 c limit text rest others r some first =
-    let T = c.args.table.now in
-    let declared = c.args.declared.now in
-    let told = c.in-Some-2.told in
-    let e = if_some_at c.in_ok-told.field-0 told (λ x. c.args.line.now ≡ bytes_of T x) c.in-Some-2.is c.in_ok-told.ensures.told in
-    let in' = if_some_at c.in_ok-told.field-0 told (IsLine T declared) c.in-Some-2.is c.in_ok-told.ensures.writable in
+    let told = c.in-Some.told in
+    let e = if_some_at c.in_ok-told.field-0 told (λ x. c.args.line.now ≡ bytes_of T x) c.in-Some.is c.in_ok-told.ensures.told in
+    let in' = if_some_at c.in_ok-told.field-0 told (IsLine T declared) c.in-Some.is c.in_ok-told.ensures.writable in
     taken_on c.a_line_is_cut_into_its_words.ensures.stands c.a_stands_line_tells_one_call.ensures.apart T declared limit text rest c.args.line.now others
     c.args.progress.now c.take.new.self told c.take.result r some first in' e (c.take.ensures limit r.history r.told r.progress)
 
