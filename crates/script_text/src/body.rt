@@ -111,6 +111,7 @@ fn kind_at(declared: &Declarations, place: usize) -> Kind
 
 impl Body {
     // The words of the heap of a connection that has to be open.
+    #[inline(always)]
     fn heap(&self, conn: u64) -> Result<u32, ScriptReason>
         requires { IsIn 1 16 conn }
         ensures { result ≡ heap_kept (words_kept self.now conn) }
@@ -137,6 +138,7 @@ impl Body {
     }
 
     /// The line that stores a word, where the connection is open and its heap has the place.
+    #[inline(always)]
     #[tactic(auto, unfolding(crate::specs::Keeping::store_said))]
     pub(crate) fn stored(&self, store: Store) -> Result<Line, ScriptReason>
         requires { IsIn 1 16 store.conn }

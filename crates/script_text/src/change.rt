@@ -180,6 +180,7 @@ fn usual_said(
 }
 
 // The line that words say which say that a word is stored, where nothing stands against it.
+#[inline(always)]
 fn stored(loads: u64, declared: &Declarations, body: &Body, store: Store) -> Option<Line>
     requires kept { IsKept loads declared.now body.now }
     requires said { (line : List ℕ) × IsSaid StoreForm line (store_words store) }
@@ -249,9 +250,27 @@ fn drained(loads: u64, declared: &Declarations, body: &Body, conn: u64) -> Optio
     }
 }
 
-/// The line that a text begins with, and what stands behind it, where that line stores a word, submits a request, gives
-/// an engine a turn or drains a connection, its numbers are short, and nothing stands against it. None for each other
-/// line.
+/// The line that a text begins with, and what stands behind it, where that line stores a word, its numbers are short, and
+/// nothing stands against it. None for each other line.
+// Inlined, as is what it asks, so that such a line is made where it is kept: nearly all lines of a long script are such.
+#[inline(always)]
+pub(crate) fn front_stored<'a>(
+    loads: u64,
+    declared: &Declarations,
+    body: &Body,
+    text: &'a [u8],
+) -> Option<(Line, &'a [u8])>
+    requires kept { IsKept loads declared.now body.now }
+    ensures { (T : TheTable) → IfSome result (λ r. IsChange loads T (seen declared.now body.now) text.now
+        (Change.Line r.0) r.1.now) }
+{
+    one_laws();
+    let (store, behind) = front_store(text)?;
+    let made = stored(loads, declared, body, store)?;
+    Some((made, behind))
+}
+
+/// The same where that line submits a request, gives an engine a turn or drains a connection.
 pub(crate) fn front_line<'a>(
     loads: u64,
     declared: &Declarations,
@@ -265,10 +284,6 @@ pub(crate) fn front_line<'a>(
         (Change.Line r.0) r.1.now) }
 {
     one_laws();
-    if let Some((store, behind)) = front_store(text) {
-        let made = stored(loads, declared, body, store)?;
-        return Some((made, behind));
-    }
     if let Some((turn, behind)) = front_turn(text) {
         let made = turned(loads, declared, body, turn)?;
         return Some((made, behind));

@@ -12,7 +12,7 @@ ghost use Rattle.script_text.specs.Texts.{Reaches, Spells, IsFaultOf};
 ghost use Rattle.script_text.specs.declared.script.Script.{Script as TheScript};
 
 use crate::body::Body;
-use crate::change::{Change, first_change, front_line};
+use crate::change::{Change, first_change, front_line, front_stored};
 use crate::laws::{one_laws, one_script};
 use crate::script::{Lines, Script};
 use mrpc_table::{Memory, Table, line_count};
@@ -123,6 +123,14 @@ fn read_lines(
     };
     let mut rest = text;
     while !rest.is_empty() {
+        if let Some((line, behind)) = front_stored(loads, &declared, &body, rest) {
+            match body.add(alloc, &declared, line) {
+                Ok(()) => {}
+                Err(Memory) => return Err(Stop::Memory),
+            }
+            rest = behind;
+            continue;
+        }
         if let Some((line, behind)) = front_line(loads, &declared, &body, rest) {
             match body.add(alloc, &declared, line) {
                 Ok(()) => {}

@@ -81,6 +81,7 @@ fn behind_store(text: &[u8]) -> Option<&[u8]>
 
 /// What a `store` line with which a text begins says, where its numbers are decimal, and short, and what stands behind
 /// the line. None for each other line, which is to be read word by word.
+#[inline(always)]
 pub(crate) fn front_store(text: &[u8]) -> Option<(Store, &[u8])>
     ensures { IfSome result (λ r. SaysInFront StoreForm text.now (store_words r.0) r.1.now) }
 {

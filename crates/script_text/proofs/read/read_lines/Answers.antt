@@ -48,6 +48,30 @@ loop-alloc-preserved-in-Some c =
       kept = next.kept;
     }
 
+pub add-requires-in-Some-front_line : goal.add-requires-in-Some-front_line
+add-requires-in-Some-front_line c =
+    let made = c.in-Some-front_line.ensures c.args.table.now in
+    can_make c.args.loads c.loop-alloc.declared c.loop-alloc.body c.loop-alloc.invariant.kept c.requires.some (change.Line c.in-Some-front_line.line) made.can
+
+pub loop-alloc-smaller-in-Some-front_line : goal.loop-alloc-smaller-in-Some-front_line
+loop-alloc-smaller-in-Some-front_line c = (c.in-Some-front_line.ensures c.args.table.now).shorter
+
+pub loop-alloc-preserved-in-Some-front_line : goal.loop-alloc-preserved-in-Some-front_line
+loop-alloc-preserved-in-Some-front_line c =
+    let loads = c.args.loads in
+    let T = c.args.table.now in
+    let d = c.loop-alloc.declared in
+    let b = c.loop-alloc.body in
+    let made = c.in-Some-front_line.ensures T in
+    let e = c.in-Ok-add-2.ensures in
+    let added : IsAdded d c.in-Some-front_line.line b c.add-in-Some-front_line.new.self = record { lines = e.lines; connections = e.connections; submissions = e.submissions; closed = e.closed } in
+    let next = next_of loads d b c.loop-alloc.invariant.kept (change.Line c.in-Some-front_line.line) d c.add-in-Some-front_line.new.self made.can (refl, added) in
+    record {
+      reaches = goes_on (seen d b) c.loop-alloc.rest.now c.loop-alloc.invariant.reaches
+          (subst (λ p. Goes loads T (seen d b) c.loop-alloc.rest.now p c.in-Some-front_line.behind.now) (sym next.seen_is) made.goes);
+      kept = next.kept;
+    }
+
 pub loop-alloc-init : goal.loop-alloc-init
 loop-alloc-init c =
     let b = c.in-Ok.body in
