@@ -1,1 +1,2 @@
+mod HistoryRows
 pub mod Young

@@ -1,5 +1,6 @@
 //! Tests of what stands below the commands, as far as no command shows it: devices and words, tables, records, links,
-//! tokens of proto files, lines of scripts, and plans. It has no code of its own, and nothing stands on it.
+//! tokens of proto files, lines of scripts, texts of histories, and plans. It has no code of its own, and nothing stands
+//! on it.
 #![tactic(auto)]
 
 #[cfg(test)]

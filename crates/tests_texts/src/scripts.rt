@@ -1,4 +1,5 @@
-//! Lines of scripts, and inputs of `audit`.
+//! Lines of scripts, inputs of `audit`, and texts of histories.
 
+mod audits;
 mod forms;
 mod inputs;

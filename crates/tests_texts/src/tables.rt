@@ -3,4 +3,4 @@
 mod frames;
 mod hellos;
 mod records;
-mod texts;
+pub(crate) mod texts;
