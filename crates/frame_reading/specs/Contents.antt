@@ -1,19 +1,14 @@
 -- What a frame has.
 use Rattle.std.specs.Prelude.{◌≡◌, ◌≢◌, ℕ, ◌==◌, ◌<◌, length, if◌then◌else◌}
-use Rattle.mrpc_table.specs.Calls.{message_of}
 use Rattle.mrpc_table.specs.Node.{Node}
 use Rattle.mrpc_table.specs.Normal.{IsNormal}
-use Rattle.mrpc_table.specs.declared.call.Sort.TheVariants.{Request, Reply}
 use Rattle.mrpc_table.specs.declared.table.Table.{Table}
 use Rattle.wire_decode.specs.Means.{Means}
+use Rattle.frame_transport.specs.Messages.{message_in}
 use Rattle.frame_transport.specs.declared.format.Frame.{Frame}
-use Rattle.frame_transport.specs.declared.format.TheConstants.{HELLO, REQUEST}
+use Rattle.frame_transport.specs.declared.format.TheConstants.{HELLO}
 use Rattle.frame_reading.specs.declared.content.Content.{Content}
 use Rattle.frame_reading.specs.declared.content.Content.TheVariants.{Hello, Call}
-
--- the message that the payload is of: a request has its method's input, a reply its output
-abbrev pub message_in : Table → Frame → ℕ
-message_in T f = message_of T f.method (if f.kind == REQUEST then Request else Reply)
 
 -- the frame is that of a request or a reply of a method of the table, and its payload means this message
 pub record IsMessageOf (T : Table) (f : Frame) (t : Node) : Type 0 where

@@ -3,14 +3,14 @@ use Rattle.std.specs.Prelude.{◌≡◌, ◌≢◌, ℕ, ◌+◌, ◌<◌, ◌�
 use Rattle.wire_decode.specs.Faults.{IsFirstFault}
 use Rattle.wire_decode.specs.Reason.{reason_word}
 use Rattle.wire_decode.specs.declared.fault.DecodeReason.{DecodeReason}
-use Rattle.frame_transport.specs.Parts.{HasNoFrame}
+use Rattle.frame_transport.specs.Frames.{HasNoFrame}
 use Rattle.frame_transport.specs.Standing.{StandsAt}
 use Rattle.frame_transport.specs.declared.fault.FeedFault.{FeedFault}
 use Rattle.frame_transport.specs.declared.fault.FeedFault.TheVariants.{Version, Kind, TooLong, Memory as FeedMemory}
 use Rattle.frame_transport.specs.declared.format.Frame.{Frame}
 use Rattle.frame_transport.specs.declared.format.TheConstants.{HEADER_LEN, HELLO, METHOD_PLACE}
 use Rattle.mrpc_table.specs.declared.table.Table.{Table}
-use Rattle.frame_reading.specs.Contents.{message_in}
+use Rattle.frame_transport.specs.Messages.{message_in}
 use Rattle.frame_reading.specs.declared.fault.ReadFault.{ReadFault}
 use Rattle.frame_reading.specs.declared.fault.ReadFault.TheVariants.{At, Memory}
 

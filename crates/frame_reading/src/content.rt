@@ -5,12 +5,13 @@ ghost use Rattle.mrpc_table.specs.Valid.{IsValid};
 ghost use Rattle.frame_transport.specs.Frames.{IsFrame};
 ghost use Rattle.frame_transport.specs.Standing.{frame_of};
 ghost use Rattle.frame_transport.specs.declared.format.TheConstants.{HELLO};
-ghost use Rattle.frame_reading.specs.Contents.{IsContentOf, message_in};
+ghost use Rattle.frame_reading.specs.Contents.{IsContentOf};
+ghost use Rattle.frame_transport.specs.Messages.{message_in};
 ghost use Rattle.frame_reading.specs.Faults.{OnFault, IsFaultIn};
 
 use crate::fault::ReadFault;
 use frame_transport::{FrameRef, HEADER_LEN, HELLO, METHOD_PLACE};
-use mrpc_table::{Sort, Table, Tree};
+use mrpc_table::{Table, Tree};
 use spare_trees::Spare;
 use std::alloc::Global;
 use wire_decode::{DecodeFault, decode_with};
@@ -61,7 +62,7 @@ fn message_of(
     ensures content { IfOk result (IsContentOf table.now (frame_of frame.now)) }
     ensures fault { IfErr result (OnFault (IsFaultIn table.now (frame_of frame.now))) }
 {
-    let message = message_in(table, frame);
+    let message = frame.payload_message(table);
     match decode_with(alloc, spare, frame.payload, table, message) {
         Ok(tree) => Ok(Content::Call { message, tree }),
         Err(DecodeFault::At { reason, place }) => Err(ReadFault::at(
@@ -70,15 +71,4 @@ fn message_of(
         )),
         Err(DecodeFault::Memory) => Err(ReadFault::Memory),
     }
-}
-
-// The message that the payload of a request or a reply is of.
-fn message_in(table: &Table, frame: &FrameRef) -> u32
-    requires valid { IsValid table.now }
-    requires known { frame.now.method < length table.now.methods }
-    ensures place { result ≡ message_in table.now (frame_of frame.now) }
-    ensures within { result < length table.now.messages }
-{
-    let sort = frame.sort().unwrap_or(Sort::Reply);
-    table.message_of(frame.method, sort)
 }

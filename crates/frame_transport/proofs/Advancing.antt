@@ -5,7 +5,8 @@ use Rattle.std.proofs.lemmas.List.{take_all, take_min, drop_all, length-drop, ta
 use Rattle.std.proofs.Math.Nat.{min_comm}
 use Rattle.std.proofs.Math.Seq.{take-append-add}
 use Rattle.frame_transport.specs.Frames.{HasFault, Splits}
-use Rattle.frame_transport.specs.Parts.{begun_behind, SplitsParts, Advances}
+use Rattle.frame_transport.specs.Kept.{Advances}
+use Rattle.frame_transport.specs.Parts.{begun_behind, SplitsParts}
 use Rattle.frame_transport.specs.declared.format.Frame.{Frame}
 use Rattle.frame_transport.specs.declared.fault.FeedFault.{FeedFault}
 use Rattle.frame_transport.proofs.FaultFacts.{has-take, has_at}
@@ -42,15 +43,16 @@ pub advanced : (end : ℕ) (begun piece : List ℕ) (old new : List Frame) (now_
     (place : ℕ) (left : List ℕ) (fault : Option FeedFault) (kept : ℕ)
     → SplitsParts end begun piece frames place left fault → kept ≡ (if is_some fault then min (length left) 16 else length left)
     → new ≡ old ++ frames → now_begun ≡ begun_behind frames begun (take kept left)
-    → Advances end begun piece old new now_begun (record { end = place; dropped = length left - kept; fault = fault })
+    → Advances (record { waiting = old; end = end; begun = begun }) piece (record { waiting = new; end = place; begun = now_begun })
+    (length left - kept) fault
 advanced end begun piece old new now_begun frames place left fault kept s k added begunis =
     let rest : begun_behind frames begun left ≡ now_begun ++ drop kept left = cut frames begun left kept ∙ ap (λ (bs : List ℕ). bs ++ drop kept left) (sym begunis) in
     record {
-      frames = frames;
-      added = added;
-      dropped = drop kept left;
+      ended = frames;
+      waiting = added;
+      unkept = drop kept left;
       splits = subst (λ (bs : List ℕ). Splits end (begun ++ piece) frames bs) rest s.splits;
-      behind = s.behind;
+      end = s.behind;
       first = has_at place place (begun_behind frames begun (take kept left)) now_begun fault refl (sym begunis) (kept_fault fault frames begun left place kept k s.first);
       count = length-drop kept left;
       clean = kept_clean fault left kept k;

@@ -8,7 +8,8 @@ use Rattle.std.proofs.lemmas.List.{append-nil, length-drop}
 use Rattle.std.proofs.lemmas.List.Elements.{All-append, All-nil, All-cons}
 use Rattle.std.proofs.lemmas.List.Concat.{flat_map-append}
 use Rattle.frame_transport.specs.Frames.{IsFrame, bytes_of, joined, StandFrom, IsPartial}
-use Rattle.frame_transport.specs.Parts.{EndsFrame, HasNoFrame, begun_behind, SplitsParts}
+use Rattle.frame_transport.specs.Frames.{HasNoFrame}
+use Rattle.frame_transport.specs.Parts.{EndsFrame, begun_behind, SplitsParts}
 use Rattle.frame_transport.specs.declared.format.Frame.{Frame}
 use Rattle.frame_transport.specs.declared.fault.FeedFault.{FeedFault}
 use Rattle.frame_transport.proofs.FaultFacts.{has_at}

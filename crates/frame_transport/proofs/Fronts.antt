@@ -7,7 +7,8 @@ use Rattle.std.proofs.Math.ListN.{get_or-append}
 use Rattle.byteorder.specs.Endian.{big_number}
 use Rattle.byteorder.specs.Numbers.{big_from-take}
 use Rattle.frame_transport.specs.Frames.{IsFrame, bytes_of, IsPartial, length_in, IsFaultAt, HasFault}
-use Rattle.frame_transport.specs.Parts.{IsHeaderOf, IsClear, EndsFrame, HasNoFrame}
+use Rattle.frame_transport.specs.Frames.{HasNoFrame}
+use Rattle.frame_transport.specs.Parts.{IsHeaderOf, IsClear, EndsFrame}
 use Rattle.frame_transport.specs.declared.format.Frame.{Frame}
 use Rattle.frame_transport.specs.declared.header.Header.{Header}
 use Rattle.frame_transport.specs.declared.fault.FeedFault.{FeedFault}

@@ -10,8 +10,8 @@ use Rattle.std.proofs.lemmas.List.Elements.{All-append, All-nil, All-head, All-t
 use Rattle.std.proofs.lemmas.List.Concat.{flat_map-append}
 use Rattle.frame_transport.specs.Frames.{IsFrame, bytes_of, joined, StandFrom, IsPartial, IsFaultAt, HasFault, Splits, Ends}
 use Rattle.frame_transport.specs.Feed.{Fed, Gives, GoesOn, StopsAt}
-use Rattle.frame_transport.specs.Kept.{IsKept}
-use Rattle.frame_transport.specs.Parts.{Advances}
+use Rattle.frame_transport.specs.Kept.{Kept, IsKept}
+use Rattle.frame_transport.specs.Kept.{Advances}
 use Rattle.frame_transport.specs.declared.advance.Advance.{Advance}
 use Rattle.frame_transport.specs.declared.format.Frame.{Frame}
 use Rattle.frame_transport.specs.declared.fault.FeedFault.{FeedFault}
@@ -21,6 +21,9 @@ use Rattle.frame_transport.proofs.Splitting.{StandFrom-append, length-joined, sp
 -- what a clause sees of what is kept
 abbrev pub seen : ℕ → List Frame → List ℕ → ℕ → Fed
 seen taken waiting begun behind = record { place = taken; bytes = joined waiting ++ begun; behind = behind }
+
+abbrev pub keeping : List Frame → ℕ → List ℕ → Kept
+keeping waiting end begun = record { waiting = waiting; end = end; begun = begun }
 
 pub kept_nothing : IsKept 0 [] 0 [] 0
 kept_nothing = record { each = All-nil IsFrame; places = tt; ends = refl; partial = partial_of_nothing; room = omega arith }
@@ -44,31 +47,33 @@ partial_front : (xs ys : List ℕ) → IsPartial (xs ++ ys) → IsPartial xs
 partial_front xs ys h f more is e = h f (more ++ ys) is (ap (λ (bs : List ℕ). bs ++ ys) e ∙ append_assoc (bytes_of f) more ys)
 
 -- the bytes that are kept now, and those that aren't, are those from before with the piece
-advanced_bytes : (end : ℕ) (begun piece : List ℕ) (old new : List Frame) (now_begun : List ℕ) (a : Advance) (adv : Advances end begun piece old new now_begun a)
-    → (joined old ++ begun) ++ piece ≡ (joined new ++ now_begun) ++ adv.dropped
+advanced_bytes : (end : ℕ) (begun piece : List ℕ) (old new : List Frame) (now_begun : List ℕ) (a : Advance)
+    (adv : Advances (keeping old end begun) piece (keeping new a.end now_begun) a.dropped a.fault)
+    → (joined old ++ begun) ++ piece ≡ (joined new ++ now_begun) ++ adv.unkept
 advanced_bytes end begun piece old new now_begun a adv =
     append_assoc (joined old) begun piece ∙ ap (λ (bs : List ℕ). joined old ++ bs) adv.splits.whole
-    ∙ sym (append_assoc (joined old) (joined adv.frames) (now_begun ++ adv.dropped))
-    ∙ ap (λ (bs : List ℕ). bs ++ (now_begun ++ adv.dropped)) (sym (flat_map-append bytes_of old adv.frames) ∙ ap joined (sym adv.added))
-    ∙ sym (append_assoc (joined new) now_begun adv.dropped)
+    ∙ sym (append_assoc (joined old) (joined adv.ended) (now_begun ++ adv.unkept))
+    ∙ ap (λ (bs : List ℕ). bs ++ (now_begun ++ adv.unkept)) (sym (flat_map-append bytes_of old adv.ended) ∙ ap joined (sym adv.waiting))
+    ∙ sym (append_assoc (joined new) now_begun adv.unkept)
 
 pub kept_advanced : (taken : ℕ) (waiting : List Frame) (end : ℕ) (begun : List ℕ) (behind : ℕ) (piece : List ℕ) (new : List Frame) (now_begun : List ℕ) (a : Advance)
     → IsKept taken waiting end begun behind → taken + length (joined waiting ++ begun) + behind + length piece < 2 ^ 63
-    → Advances end begun piece waiting new now_begun a → IsKept taken new a.end now_begun (behind + a.dropped)
+    → Advances (keeping waiting end begun) piece (keeping new a.end now_begun) a.dropped a.fault → IsKept taken new a.end now_begun (behind + a.dropped)
 kept_advanced taken waiting end begun behind piece new now_begun a k room adv =
-    let places : StandFrom end adv.frames = adv.splits.places in
-    let all : length (joined new) ≡ length (joined waiting) + length (joined adv.frames) = ap (λ (fs : List Frame). length (joined fs)) adv.added ∙ length-joined waiting adv.frames in
-    let whole : length begun + length piece ≡ length (joined adv.frames) + (length now_begun + length adv.dropped) =
-    sym (length-append begun piece) ∙ ap length adv.splits.whole ∙ length-append (joined adv.frames)
-    (now_begun ++ adv.dropped) ∙ ap (λ (n : ℕ). length (joined adv.frames) + n)
-    (length-append now_begun adv.dropped) in
+    let places : StandFrom end adv.ended = adv.splits.places in
+    let ends : a.end ≡ end + length (joined adv.ended) = adv.end in
+    let all : length (joined new) ≡ length (joined waiting) + length (joined adv.ended) = ap (λ (fs : List Frame). length (joined fs)) adv.waiting ∙ length-joined waiting adv.ended in
+    let whole : length begun + length piece ≡ length (joined adv.ended) + (length now_begun + length adv.unkept) =
+    sym (length-append begun piece) ∙ ap length adv.splits.whole ∙ length-append (joined adv.ended)
+    (now_begun ++ adv.unkept) ∙ ap (λ (n : ℕ). length (joined adv.ended) + n)
+    (length-append now_begun adv.unkept) in
     let before : length (joined waiting ++ begun) ≡ length (joined waiting) + length begun = length-append (joined waiting) begun in
     record {
-      each = subst (All IsFrame) (sym adv.added) (All-append IsFrame waiting adv.frames k.each adv.splits.each);
-      places = subst (StandFrom taken) (sym adv.added) (StandFrom-append taken waiting adv.frames k.places (subst (λ (p : ℕ). StandFrom p adv.frames) k.ends places));
-      ends = omega (arith, k.ends, adv.behind);
-      partial = partial_front now_begun adv.dropped adv.splits.partial;
-      room = omega (arith, k.ends, adv.behind, adv.count);
+      each = subst (All IsFrame) (sym adv.waiting) (All-append IsFrame waiting adv.ended k.each adv.splits.each);
+      places = subst (StandFrom taken) (sym adv.waiting) (StandFrom-append taken waiting adv.ended k.places (subst (λ (p : ℕ). StandFrom p adv.ended) k.ends places));
+      ends = omega (arith, k.ends, ends);
+      partial = partial_front now_begun adv.unkept adv.splits.partial;
+      room = omega (arith, k.ends, ends, adv.count);
     }
 
 -- a fault that was found stands behind the whole stream with the piece
@@ -77,25 +82,27 @@ fault_of_all None place xs ys h clean = has_at place place xs (xs ++ ys) None re
 fault_of_all (Some fault) place xs ys h clean = fault-append place xs ys fault h
 
 pub ends_advanced : (taken : ℕ) (waiting : List Frame) (end : ℕ) (begun : List ℕ) (behind : ℕ) (piece : List ℕ) (new : List Frame) (now_begun : List ℕ) (a : Advance)
-    → IsKept taken waiting end begun behind → Advances end begun piece waiting new now_begun a → Ends taken ((joined waiting ++ begun) ++ piece) a.fault
+    → IsKept taken waiting end begun behind
+    → Advances (keeping waiting end begun) piece (keeping new a.end now_begun) a.dropped a.fault → Ends taken ((joined waiting ++ begun) ++ piece) a.fault
 ends_advanced taken waiting end begun behind piece new now_begun a k adv =
-    let behind_all = splits_behind taken waiting adv.frames (begun ++ piece) (now_begun ++ adv.dropped) k.each k.places
-    (subst (λ (p : ℕ). Splits p (begun ++ piece) adv.frames (now_begun ++ adv.dropped)) k.ends adv.splits) in
-    let place : taken + length (joined (waiting ++ adv.frames)) ≡ a.end = omega (arith, k.ends, adv.behind, length-joined waiting adv.frames) in
+    let behind_all = splits_behind taken waiting adv.ended (begun ++ piece) (now_begun ++ adv.unkept) k.each k.places
+    (subst (λ (p : ℕ). Splits p (begun ++ piece) adv.ended (now_begun ++ adv.unkept)) k.ends adv.splits) in
+    let ends : a.end ≡ end + length (joined adv.ended) = adv.end in
+    let place : taken + length (joined (waiting ++ adv.ended)) ≡ a.end = omega (arith, k.ends, ends, length-joined waiting adv.ended) in
     record {
-      frames = waiting ++ adv.frames;
-      rest = now_begun ++ adv.dropped;
-      splits = subst (λ (bs : List ℕ). Splits taken bs (waiting ++ adv.frames) (now_begun ++ adv.dropped)) (sym (append_assoc (joined waiting) begun piece)) behind_all;
-      first = has_at a.end (taken + length (joined (waiting ++ adv.frames))) (now_begun ++ adv.dropped) (now_begun ++ adv.dropped) a.fault (sym place) refl
-          (fault_of_all a.fault a.end now_begun adv.dropped adv.first adv.clean);
+      frames = waiting ++ adv.ended;
+      rest = now_begun ++ adv.unkept;
+      splits = subst (λ (bs : List ℕ). Splits taken bs (waiting ++ adv.ended) (now_begun ++ adv.unkept)) (sym (append_assoc (joined waiting) begun piece)) behind_all;
+      first = has_at a.end (taken + length (joined (waiting ++ adv.ended))) (now_begun ++ adv.unkept) (now_begun ++ adv.unkept) a.fault (sym place) refl
+          (fault_of_all a.fault a.end now_begun adv.unkept adv.first adv.clean);
     }
 
 pub goes_on : (taken : ℕ) (waiting : List Frame) (end : ℕ) (begun : List ℕ) (behind : ℕ) (piece : List ℕ) (new : List Frame) (now_begun : List ℕ) (a : Advance)
-    → Advances end begun piece waiting new now_begun a → a.fault ≡ None
+    → Advances (keeping waiting end begun) piece (keeping new a.end now_begun) a.dropped a.fault → a.fault ≡ None
     → GoesOn (seen taken waiting begun behind) piece (seen taken new now_begun (behind + a.dropped))
 goes_on taken waiting end begun behind piece new now_begun a adv none =
-    let nothing : adv.dropped ≡ [] = adv.clean none in
-    let zero_dropped : length adv.dropped ≡ 0 = ap length nothing in
+    let nothing : adv.unkept ≡ [] = adv.clean none in
+    let zero_dropped : length adv.unkept ≡ 0 = ap length nothing in
     record {
       place = refl;
       bytes = sym (advanced_bytes end begun piece waiting new now_begun a adv ∙ ap (λ (bs : List ℕ). (joined new ++ now_begun) ++ bs) nothing ∙ append-nil (joined new ++ now_begun));
@@ -103,12 +110,13 @@ goes_on taken waiting end begun behind piece new now_begun a adv none =
     }
 
 pub stops : (taken : ℕ) (waiting : List Frame) (end : ℕ) (begun : List ℕ) (behind : ℕ) (piece : List ℕ) (new : List Frame) (now_begun : List ℕ) (a : Advance) (fault : FeedFault)
-    → IsKept taken new a.end now_begun (behind + a.dropped) → Advances end begun piece waiting new now_begun a → a.fault ≡ Some fault
+    → IsKept taken new a.end now_begun (behind + a.dropped)
+    → Advances (keeping waiting end begun) piece (keeping new a.end now_begun) a.dropped a.fault → a.fault ≡ Some fault
     → StopsAt (seen taken waiting begun behind) piece fault (seen taken new now_begun (behind + a.dropped))
 stops taken waiting end begun behind piece new now_begun a fault k adv some = record {
   place = refl;
   kept = kept_ends taken new a.end now_begun (behind + a.dropped) (Some fault) k (subst (HasFault a.end now_begun) some adv.first);
-  dropped = adv.dropped;
+  dropped = adv.unkept;
   stream = advanced_bytes end begun piece waiting new now_begun a adv;
   behind = omega (arith, adv.count);
 }

@@ -2,7 +2,8 @@
 use Rattle.std.proofs.Common.{◌≡◌, ℕ, ◌+◌, ◌<◌, ◌≤◌, List, ◌++◌, length, take, drop, Some, None, refl, sym, ap, subst, ◌∙◌, arith}
 use Rattle.std.proofs.lemmas.List.{length-take, length-drop}
 use Rattle.frame_transport.specs.Frames.{IsFrame, bytes_of, length_in, IsFaultAt, HasFault}
-use Rattle.frame_transport.specs.Parts.{IsHeaderOf, HasNoFrame}
+use Rattle.frame_transport.specs.Frames.{HasNoFrame}
+use Rattle.frame_transport.specs.Parts.{IsHeaderOf}
 use Rattle.frame_transport.specs.Standing.{StandsAt}
 use Rattle.frame_transport.specs.declared.format.Frame.{Frame}
 use Rattle.frame_transport.specs.declared.header.Header.{Header}

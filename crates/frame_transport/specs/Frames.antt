@@ -69,6 +69,11 @@ abbrev pub HasFault : ℕ → List ℕ → Option FeedFault → Type 0
 HasFault place bytes (Some fault) = IsFaultAt place bytes fault
 HasFault place bytes None = (fault : FeedFault) → IsFaultAt place bytes fault → ⊥
 
+-- no whole frame stands at the front, and this fault, or none so far
+pub record HasNoFrame (place : ℕ) (stream : List ℕ) (fault : Option FeedFault) : Type 0 where
+  pub partial : IsPartial stream
+  pub first : HasFault place stream fault
+
 -- the stream, whose first byte has this place, is these frames and then this rest
 pub record Splits (place : ℕ) (stream : List ℕ) (frames : List Frame) (rest : List ℕ) : Type 0 where
   pub whole : stream ≡ joined frames ++ rest

@@ -1,7 +1,14 @@
--- The code's own: what a feed keeps.
-use Rattle.std.specs.Prelude.{◌≡◌, ℕ, ◌+◌, ◌<◌, ◌^◌, List, length, All}
-use Rattle.frame_transport.specs.Frames.{IsFrame, joined, StandFrom, IsPartial}
+-- The code's own: what a feed keeps, and what a piece makes of it.
+use Rattle.std.specs.Prelude.{◌≡◌, ℕ, ◌+◌, ◌<◌, ◌^◌, List, [], ◌++◌, length, All, Option, None}
+use Rattle.frame_transport.specs.Frames.{IsFrame, joined, StandFrom, IsPartial, Splits, HasFault}
+use Rattle.frame_transport.specs.declared.fault.FeedFault.{FeedFault}
 use Rattle.frame_transport.specs.declared.format.Frame.{Frame}
+
+-- what a feed keeps of its stream: whole frames, and the bytes behind them
+pub record Kept : Type 0 where
+  pub waiting : List Frame  -- the whole frames that were not taken, the oldest first
+  pub end : ℕ  -- the place behind them in the stream
+  pub begun : List ℕ  -- the bytes from there on, up to the first fault or further
 
 -- Frames stand from this place on, and less than a whole frame behind them. All bytes that were fed
 -- can be counted.
@@ -11,3 +18,16 @@ pub record IsKept (taken : ℕ) (waiting : List Frame) (end : ℕ) (begun : List
   pub ends : end ≡ taken + length (joined waiting)
   pub partial : IsPartial begun
   pub room : end + length begun + behind < 2 ^ 63
+
+-- A piece came behind what a feed kept before. The frames that it ended wait behind those that waited. Of the bytes
+-- behind them all are kept, or, where they have a fault, a front that has this fault, and so many others are dropped.
+pub record Advances (before : Kept) (piece : List ℕ) (after : Kept) (dropped : ℕ)
+    (fault : Option FeedFault) : Type 0 where
+  pub ended : List Frame
+  pub waiting : after.waiting ≡ before.waiting ++ ended
+  pub unkept : List ℕ
+  pub splits : Splits before.end (before.begun ++ piece) ended (after.begun ++ unkept)
+  pub end : after.end ≡ before.end + length (joined ended)
+  pub first : HasFault after.end after.begun fault
+  pub count : length unkept ≡ dropped
+  pub clean : fault ≡ None → unkept ≡ []

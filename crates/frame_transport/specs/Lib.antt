@@ -3,6 +3,7 @@ pub mod Feed
 pub mod Frames
 pub mod Kept
 pub mod Links
+pub mod Messages
 pub mod Parts
 pub mod Sorts
 pub mod Standing

@@ -1,15 +1,14 @@
--- What the parts of a feed do: the numbers of a header, the front of a stream that comes in two
--- parts, and its split.
+-- The code's own: what the parts of a feed do: the numbers of a header, the front of a stream that comes in two parts, and
+-- its split.
 use Rattle.std.specs.Prelude.{◌≡◌, ℕ, ◌+◌, ◌-◌, ◌<◌, ◌≤◌, List, [], ◌∷◌, ◌++◌, length, take, drop, slice_index, Option, Some, None}
 use Rattle.byteorder.specs.Endian.{big_number}
-use Rattle.frame_transport.specs.Frames.{IsFrame, bytes_of, joined, IsPartial, Splits, length_in, HasFault}
+use Rattle.frame_transport.specs.Frames.{IsFrame, bytes_of, joined, Splits, length_in, HasFault, HasNoFrame}
 use Rattle.frame_transport.specs.declared.format.Frame.{Frame}
 use Rattle.frame_transport.specs.declared.format.TheConstants.{HEADER_LEN, MAX_PAYLOAD, METHOD_PLACE}
 use Rattle.frame_transport.specs.declared.fault.FeedFault.{FeedFault}
 use Rattle.frame_transport.specs.declared.header.Header.{Header}
 use Rattle.frame_transport.specs.declared.beginning.Beginning.{Beginning}
 use Rattle.frame_transport.specs.declared.beginning.Beginning.TheVariants.{Fault as BadField, Short, Clear}
-use Rattle.frame_transport.specs.declared.advance.Advance.{Advance}
 use Rattle.frame_transport.specs.declared.front.Front.{Front}
 use Rattle.frame_transport.specs.declared.front.Front.TheVariants.{Whole, Partial, Fault}
 
@@ -38,11 +37,6 @@ pub record EndsFrame (place : ℕ) (begun piece : List ℕ) (f : Frame) : Type 0
   pub within : HEADER_LEN + length f.payload ≤ length begun + length piece
   pub bytes : begun ++ piece ≡ bytes_of f ++ drop (HEADER_LEN + length f.payload - length begun) piece
 
--- no whole frame stands at the front, and this fault, or none so far
-pub record HasNoFrame (place : ℕ) (stream : List ℕ) (fault : Option FeedFault) : Type 0 where
-  pub partial : IsPartial stream
-  pub first : HasFault place stream fault
-
 -- how two parts begin
 abbrev pub Begins : ℕ → List ℕ → List ℕ → Beginning → Type 0
 Begins place begun piece (BadField e) = HasNoFrame place (begun ++ piece) (Some e)
@@ -55,28 +49,16 @@ IsFront place begun piece (Whole f) = EndsFrame place begun piece f
 IsFront place begun piece Partial = HasNoFrame place (begun ++ piece) None
 IsFront place begun piece (Fault e) = HasNoFrame place (begun ++ piece) (Some e)
 
--- what has come behind these frames: what had come belongs to the first of them
+-- the bytes behind these frames: what is left of the piece, with what had begun in front of it where there is no frame
 abbrev pub begun_behind : List Frame → List ℕ → List ℕ → List ℕ
 begun_behind [] begun left = begun ++ left
 begun_behind (f ∷ fs) begun left = left
 
--- the two parts split into these frames and what is left of the piece
+-- Two parts, the first byte at this place, split into these frames, which end at that place, and the bytes behind them,
+-- which have this fault, or none so far. These bytes are left of the piece.
 pub record SplitsParts (place : ℕ) (begun piece : List ℕ) (frames : List Frame) (end : ℕ) (left : List ℕ)
     (fault : Option FeedFault) : Type 0 where
   pub splits : Splits place (begun ++ piece) frames (begun_behind frames begun left)
   pub behind : end ≡ place + length (joined frames)
   pub first : HasFault end (begun_behind frames begun left) fault
   pub fewer : length left ≤ length piece
-
--- The frames that a piece ends came behind those that were kept, and what follows them is kept up
--- to a fault or further.
-pub record Advances (end : ℕ) (begun piece : List ℕ) (old new : List Frame) (now_begun : List ℕ)
-    (a : Advance) : Type 0 where
-  pub frames : List Frame
-  pub added : new ≡ old ++ frames
-  pub dropped : List ℕ
-  pub splits : Splits end (begun ++ piece) frames (now_begun ++ dropped)
-  pub behind : a.end ≡ end + length (joined frames)
-  pub first : HasFault a.end now_begun a.fault
-  pub count : length dropped ≡ a.dropped
-  pub clean : a.fault ≡ None → dropped ≡ []

@@ -2,7 +2,8 @@
 
 ghost use Rattle.std.specs.Prelude.{◌≡◌, ◌+◌, ◌<◌, ◌^◌, ◌++◌, length, min, is_some, if◌then◌else◌, OnOk, OnErr, IfOk, None};
 ghost use Rattle.frame_transport.specs.Frames.{IsPartial};
-ghost use Rattle.frame_transport.specs.Parts.{Advances, begun_behind};
+ghost use Rattle.frame_transport.specs.Kept.{Advances};
+ghost use Rattle.frame_transport.specs.Parts.{begun_behind};
 
 use crate::fault::FeedFault;
 use crate::format::{Frame, HEADER_LEN};
@@ -33,8 +34,9 @@ pub(crate) fn go_on(
 ) -> Result<Advance, Memory>
     requires partial { IsPartial begun.old.items }
     requires room { end + length begun.old.items + length piece.now < 2 ^ 63 }
-    ensures ok { IfOk result (Advances end begun.old.items piece.now waiting.old.items waiting.new.items
-        begun.new.items) }
+    ensures ok { IfOk result (λ went. Advances
+        (record { waiting = waiting.old.items; end = end; begun = begun.old.items }) piece.now
+        (record { waiting = waiting.new.items; end = went.end; begun = begun.new.items }) went.dropped went.fault) }
     ensures waiting { OnErr result (waiting.new.items ≡ waiting.old.items) }
     ensures begun { OnErr result (begun.new.items ≡ begun.old.items) }
 {

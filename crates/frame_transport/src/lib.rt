@@ -5,10 +5,11 @@
 //! is there as a whole. The format is this project's own: a header of 16 bytes
 //! (the payload's length, the kind, the version, the method, the connection and the number, each
 //! number big-endian) and then the payload. It stands on `mrpc_base` for links and sinks, on
-//! `mrpc_table` for lists of bytes and on `byteorder` for the header's numbers. The layer above uses
-//! two contracts: the frames that a feed gives are those of the stream that it was fed, in order and
-//! each once, with the stream's first fault behind them; and a frame that a link over a sink was
-//! handed was written whole, or else a write failed and a front of it was written.
+//! `mrpc_table` for lists of bytes, on `byteorder` for the header's numbers and on `thiserror` for the
+//! faults of a stream. The layer above uses two contracts: the frames that a feed gives are those of the
+//! stream that it was fed, in order and each once, with the stream's first fault behind them; and a frame
+//! that a link over a sink was handed was written whole, or else a write failed and a front of it was
+//! written.
 #![tactic(auto)]
 
 mod advance;

@@ -1,14 +1,16 @@
 //! A frame where it stands in the bytes of a stream.
 
-ghost use Rattle.std.specs.Prelude.{◌≡◌, ◌<◌, ◌^◌, IfOk, IfErr, IfSome, IfNone, Some, None};
-ghost use Rattle.frame_transport.specs.Parts.{HasNoFrame};
+ghost use Rattle.std.specs.Prelude.{◌≡◌, ◌<◌, ◌^◌, IfOk, IfErr, IfSome, IfNone, Some, None, length};
+ghost use Rattle.mrpc_table.specs.Valid.{IsValid};
+ghost use Rattle.frame_transport.specs.Messages.{message_in};
+ghost use Rattle.frame_transport.specs.Frames.{HasNoFrame};
 ghost use Rattle.frame_transport.specs.Sorts.{sort_of_kind};
 ghost use Rattle.frame_transport.specs.Standing.{StandsAt, frame_of};
 
 use crate::fault::FeedFault;
 use crate::format::{HEADER_LEN, sort_of_kind};
 use crate::header::{fault_in, read_header};
-use mrpc_table::Sort;
+use mrpc_table::{Sort, Table};
 
 /// A frame whose payload is borrowed from the bytes of its stream.
 #[derive(Clone, Copy)]
@@ -35,6 +37,18 @@ impl<'a> FrameRef<'a> {
         ensures { result ≡ sort_of_kind self.now.kind }
     {
         sort_of_kind(self.kind)
+    }
+
+    /// The message that the payload of a request or a reply is of, by its place in the table: the method's input or its
+    /// output.
+    pub fn payload_message(&self, table: &Table) -> u32
+        requires valid { IsValid table.now }
+        requires known { self.now.method < length table.now.methods }
+        ensures place { result ≡ message_in table.now (frame_of self.now) }
+        ensures within { result < length table.now.messages }
+    {
+        let sort = self.sort().unwrap_or(Sort::Reply);
+        table.message_of(self.method, sort)
     }
 }
 

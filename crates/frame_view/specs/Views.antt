@@ -8,7 +8,8 @@ use Rattle.mrpc_table.specs.declared.table.Table.{Table}
 use Rattle.message_text.specs.Entries.{IsTextOf}
 use Rattle.frame_transport.specs.declared.format.Frame.{Frame}
 use Rattle.frame_transport.specs.declared.format.TheConstants.{HELLO, REQUEST}
-use Rattle.frame_reading.specs.Contents.{IsMessageOf, message_in}
+use Rattle.frame_reading.specs.Contents.{IsMessageOf}
+use Rattle.frame_transport.specs.Messages.{message_in}
 
 -- the service of a method, and the method
 abbrev pub path_of : Table → ℕ → List ℕ

@@ -7,9 +7,9 @@ use Rattle.std.proofs.lemmas.Bool.{cases_eq}
 use Rattle.text_commands.specs.Decoded.{CutsText}
 use Rattle.text_commands.specs.Decoded.CutsText.{in_text, in_stream}
 use Rattle.text_commands.specs.Decoded.HasDecodeFault.{fault_in_text, fault_in_stream}
-use Rattle.text_commands.specs.declared.status.TheConstants.{INPUT_LIMIT}
+use Rattle.whole_input.specs.declared.reading.TheConstants.{INPUT_LIMIT}
 use Rattle.mrpc_top.specs.Command.{IsFaulty, Names, Refuses, command_word}
-use Rattle.mrpc_top.specs.Reading.{ReadsPast}
+use Rattle.whole_input.specs.Reading.{ReadsPast}
 use Rattle.mrpc_top.specs.declared.command.Command.{Command}
 use Rattle.mrpc_top.specs.declared.command.Command.TheVariants.{Replay, Decode, Check, Audit}
 

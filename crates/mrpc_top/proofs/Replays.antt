@@ -8,11 +8,11 @@ use Rattle.script_text.specs.Texts.{Spells, IsFault}
 use Rattle.script_text.specs.declared.script.Script.{Script}
 use Rattle.text_commands.specs.FaultLines.{WritesFront, fault_line}
 use Rattle.mrpc_top.specs.Command.{HasFault, Names, IsReplay}
-use Rattle.mrpc_top.specs.Reading.{IsAllOf}
+use Rattle.whole_input.specs.Reading.{IsAllOf}
 use Rattle.mrpc_top.specs.Replaying.{StopsText, HasScriptFault, in_fault}
 use Rattle.mrpc_top.specs.declared.command.Command.{Command}
 use Rattle.mrpc_top.specs.declared.command.Command.TheVariants.{Replay, Decode, Check, Audit}
-use Rattle.text_commands.specs.declared.status.TheConstants.{INPUT_LIMIT}
+use Rattle.whole_input.specs.declared.reading.TheConstants.{INPUT_LIMIT}
 use Rattle.mrpc_top.proofs.Commands.{NeverBoth}
 use Rattle.mrpc_top.proofs.KnownBytes.{appends-nothing}
 

@@ -15,13 +15,14 @@ use Rattle.scenario.specs.declared.fault.ScenarioReason.{ScenarioReason}
 use Rattle.run_text.specs.Counting.{counted_in}
 use Rattle.scenario_run.specs.Running.{HasRun}
 use Rattle.scenario_run.specs.declared.running.Run.{Run}
-use Rattle.mrpc_top.specs.Command.{IsInput}
+use Rattle.whole_input.specs.Reading.{IsInput}
 use Rattle.text_commands.specs.FaultLines.{fault_line}
-use Rattle.mrpc_top.specs.Reading.{IsAllOf}
+use Rattle.whole_input.specs.Reading.{IsAllOf}
 use Rattle.mrpc_top.specs.Runs.{HasRunFault, MayRefuse, MayTell, drill_line}
 use Rattle.mrpc_top.specs.Told.{IsPlanOf, IsToldOf}
 use Rattle.mrpc_top.specs.declared.run.Running.{Running}
-use Rattle.text_commands.specs.declared.status.TheConstants.{FAULTY_INPUT, INPUT_LIMIT, NO_MEMORY, OUTPUT_FAILED}
+use Rattle.text_commands.specs.declared.status.TheConstants.{FAULTY_INPUT, NO_MEMORY, OUTPUT_FAILED}
+use Rattle.whole_input.specs.declared.reading.TheConstants.{INPUT_LIMIT}
 use Rattle.mrpc_top.specs.declared.run.Running.TheVariants.{Scenario, Drill}
 use Rattle.mrpc_top.proofs.KnownBytes.{appends-nothing}
 

@@ -8,9 +8,9 @@ use Rattle.text_commands.specs.Auditing.{AuditsText, RefusesAudit, HasAuditFault
 use Rattle.text_commands.specs.Checking.{ChecksText, IsCheckFault, RefusesProto}
 use Rattle.text_commands.specs.Decoded.{CutsText, DecodesText, HasDecodeFault}
 use Rattle.text_commands.specs.declared.check.Spot.{Spot}
-use Rattle.text_commands.specs.declared.status.TheConstants.{INPUT_LIMIT}
+use Rattle.whole_input.specs.declared.reading.TheConstants.{INPUT_LIMIT}
 use Rattle.mrpc_top.specs.Replaying.{RunsText, BreaksText, StopsText, RefusesScript, HasScriptFault}
-use Rattle.mrpc_top.specs.Reading.{IsAllOf, ReadsPast}
+use Rattle.whole_input.specs.Reading.{IsInput, ReadsPast}
 use Rattle.mrpc_top.specs.declared.command.Command.{Command}
 use Rattle.mrpc_top.specs.declared.command.Command.TheVariants.{Replay, Decode, Check, Audit}
 
@@ -62,11 +62,6 @@ IsFaulty Check text = (spot : Spot) × (word : List ℕ) × IsCheckFault text sp
 IsFaulty Audit text = HasAuditFault text
 
 -- ---- the whole input
-
--- the text is all that the input had left, and no longer than an input may be
-pub record IsInput (left : Option (List ℕ)) (text : List ℕ) : Type 0 where
-  pub all : IsAllOf left text
-  pub short : length text ≤ INPUT_LIMIT
 
 -- the command did its work on an input
 abbrev pub IsDone : Command → Option (List ℕ) → Option (List ℕ) → Option (List ℕ) → Option (List ℕ)

@@ -20,10 +20,10 @@ use Rattle.scenario.specs.declared.fault.ScenarioReason.{ScenarioReason}
 use Rattle.run_text.specs.Counting.{counted_in}
 use Rattle.scenario_run.specs.Running.{HasRun}
 use Rattle.scenario_run.specs.declared.running.Run.{Run}
-use Rattle.mrpc_top.specs.Command.{IsInput}
+use Rattle.whole_input.specs.Reading.{IsInput}
 use Rattle.text_commands.specs.FaultLines.{WritesFront, fault_line}
-use Rattle.mrpc_top.specs.Reading.{ReadsPast}
-use Rattle.text_commands.specs.declared.status.TheConstants.{INPUT_LIMIT}
+use Rattle.whole_input.specs.Reading.{ReadsPast}
+use Rattle.whole_input.specs.declared.reading.TheConstants.{INPUT_LIMIT}
 use Rattle.mrpc_top.specs.declared.run.Running.{Running}
 use Rattle.mrpc_top.specs.declared.run.Running.TheVariants.{Scenario, Drill}
 

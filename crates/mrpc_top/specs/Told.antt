@@ -7,7 +7,7 @@ use Rattle.scenario.specs.Scenarios.{IsTextOf}
 use Rattle.scenario_run.specs.declared.running.Run.{Run}
 use Rattle.telemetry.specs.Totals.{IsTotals, sums_of}
 use Rattle.text_commands.specs.FaultLines.{WritesFront}
-use Rattle.mrpc_top.specs.Command.{IsInput}
+use Rattle.whole_input.specs.Reading.{IsInput}
 use Rattle.mrpc_top.specs.Runs.{drill_line}
 use Rattle.mrpc_top.specs.declared.run.Running.{Running}
 use Rattle.mrpc_top.specs.declared.run.Running.TheVariants.{Scenario, Drill}

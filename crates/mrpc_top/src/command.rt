@@ -8,7 +8,6 @@ ghost use Rattle.replay_run.specs.Running.{Breaks, Replays, Stops};
 ghost use Rattle.script_text.specs.Lines.{IsScript};
 
 use crate::discard;
-use crate::reading::{Input, read_input};
 use crate::replay::one_replay;
 use mrpc_base::{Sink, Source};
 use replay_run::{Stop, run_script};
@@ -16,9 +15,10 @@ use script_text::{Script, one_script, read_script};
 use script_words::ScriptFault;
 use std::alloc::Global;
 use text_commands::{
-    DONE, FAULTY_INPUT, INPUT_FAILED, INPUT_LIMIT, NO_COMMAND, NO_MEMORY, OUTPUT_FAILED,
-    WIRE_FAILED, audit_to, check_to, decode_to, one_audit, one_check, one_decoding, refuse,
+    DONE, FAULTY_INPUT, INPUT_FAILED, NO_COMMAND, NO_MEMORY, OUTPUT_FAILED, WIRE_FAILED, audit_to,
+    check_to, decode_to, one_audit, one_check, one_decoding, refuse,
 };
+use whole_input::{INPUT_LIMIT, Input, read_input};
 
 /// Runs the command that the words name, and answers its exit status.
 ///

@@ -13,7 +13,6 @@
 #![tactic(auto)]
 
 mod command;
-mod reading;
 mod replay;
 mod run;
 mod top;

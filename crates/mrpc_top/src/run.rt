@@ -9,13 +9,12 @@ ghost use Rattle.scenario.specs.Scenarios.{HasFault, IsTextOf};
 ghost use Rattle.scenario.specs.declared.fault.Entry.{Entry};
 ghost use Rattle.scenario.specs.declared.fault.ScenarioReason.{ScenarioReason};
 ghost use Rattle.telemetry.specs.Totals.{IsTotals, sums_of};
-ghost use Rattle.mrpc_top.specs.Command.{IsInput};
+ghost use Rattle.whole_input.specs.Reading.{IsInput};
 ghost use Rattle.text_commands.specs.FaultLines.{WritesFront};
 ghost use Rattle.mrpc_top.specs.Runs.{HasPlan, HasRunFault, IsCallCount, NamesRun, StopsRun, WritesRefusal, WritesRun, drill_line};
 ghost use Rattle.mrpc_top.specs.Told.{IsPlanOf, WritesFrontOf, WritesTold};
 
 use crate::discard;
-use crate::reading::{Input, read_input};
 use drill_plan::{MAX_CALLS, drill_plan};
 use mrpc_base::{Clock, Fabric, Gate, Sink, Source, write_all};
 use mrpc_table::{Bytes, Decimal, Memory, number_of};
@@ -30,9 +29,9 @@ use std::sync::Wait;
 use std::thread::Threads;
 use telemetry::{Totals, totals_are_counts};
 use text_commands::{
-    DONE, FAULTY_INPUT, INPUT_FAILED, INPUT_LIMIT, NO_COMMAND, NO_MEMORY, OUTPUT_FAILED,
-    WIRE_FAILED, refuse,
+    DONE, FAULTY_INPUT, INPUT_FAILED, NO_COMMAND, NO_MEMORY, OUTPUT_FAILED, WIRE_FAILED, refuse,
 };
+use whole_input::{INPUT_LIMIT, Input, read_input};
 
 /// A link of the run failed.
 pub const LINK_FAILED: u8 = WIRE_FAILED;

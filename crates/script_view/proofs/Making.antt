@@ -10,7 +10,8 @@ use Rattle.graph_form.specs.declared.placed.Placed.{Placed}
 use Rattle.frame_transport.specs.Frames.{Splits}
 use Rattle.frame_transport.specs.Standing.{StandsAt}
 use Rattle.frame_transport.specs.declared.format.Frame.{Frame}
-use Rattle.frame_reading.specs.Contents.{IsMessageOf, message_in}
+use Rattle.frame_reading.specs.Contents.{IsMessageOf}
+use Rattle.frame_transport.specs.Messages.{message_in}
 use Rattle.frame_reading.specs.Faults.{OnFault}
 use Rattle.frame_reading.specs.Input.{Holds}
 use Rattle.frame_reading.specs.Walks.{Stands}

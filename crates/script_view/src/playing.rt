@@ -3,7 +3,8 @@
 ghost use Rattle.std.specs.Prelude.{◌≡◌, ◌<◌, ◌≤◌, ◌^◌, ◌++◌, ◌+◌, ◌==◌, ℕ, List, [], length, if◌then◌else◌, IfOk, IfErr, IfSome, IfNone, OnOk};
 ghost use Rattle.mrpc_table.specs.Valid.{IsValid};
 ghost use Rattle.frame_transport.specs.Standing.{frame_of};
-ghost use Rattle.frame_reading.specs.Contents.{IsContentOf, IsMessageOf, message_in};
+ghost use Rattle.frame_reading.specs.Contents.{IsContentOf, IsMessageOf};
+ghost use Rattle.frame_transport.specs.Messages.{message_in};
 ghost use Rattle.frame_reading.specs.Faults.{OnFault};
 ghost use Rattle.script_view.specs.Playing.{IsNumbered, call_lines, conn_line};
 ghost use Rattle.mrpc_table.specs.declared.table.Table.{Table};

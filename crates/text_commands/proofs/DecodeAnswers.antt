@@ -5,7 +5,8 @@ use Rattle.mrpc_table.specs.declared.table.Table.{Table}
 use Rattle.frame_transport.specs.Frames.{IsFrame, bytes_of, joined, StandFrom, IsPartial, Splits, IsFaultAt}
 use Rattle.frame_transport.specs.declared.format.Frame.{Frame}
 use Rattle.frame_transport.specs.declared.fault.FeedFault.{FeedFault}
-use Rattle.text_commands.specs.Decoding.{message_in, IsLineOf, AreLinesOf, IsFaultIn, StandInFront, IsDecoded, IsCutAt}
+use Rattle.text_commands.specs.Decoding.{IsLineOf, AreLinesOf, IsFaultIn, StandInFront, IsDecoded, IsCutAt}
+use Rattle.frame_transport.specs.Messages.{message_in}
 use Rattle.text_commands.specs.Decoding.IsLineOf.{line_of_hello, line_of_call}
 use Rattle.text_commands.specs.Decoding.IsFaultIn.{no_method, in_payload}
 use Rattle.text_commands.specs.Decoding.IsCutAt.{in_frame, in_header, in_short_frame}

@@ -20,7 +20,8 @@ use Rattle.wire_base.specs.Encoding.{encoding}
 use Rattle.wire_decode.specs.Reason.{reason_word}
 use Rattle.text_commands.specs.DecodeInput.{Holds, IsTextFault, first_line, second_line, head}
 use Rattle.text_commands.specs.DecodeInput.IsTextFault.{no_first_line, no_second_line, in_table, no_end}
-use Rattle.text_commands.specs.Decoding.{hello, hello_line, call_line, message_in, IsLineOf, AreLinesOf, IsFaultIn, IsFaultOfHeader, StandInFront, IsDecoded, IsCutAt}
+use Rattle.text_commands.specs.Decoding.{hello, hello_line, call_line, IsLineOf, AreLinesOf, IsFaultIn, IsFaultOfHeader, StandInFront, IsDecoded, IsCutAt}
+use Rattle.frame_transport.specs.Messages.{message_in}
 use Rattle.text_commands.specs.Decoding.IsLineOf.{line_of_hello, line_of_call}
 use Rattle.text_commands.specs.Decoding.IsFaultIn.{no_method, in_payload}
 use Rattle.text_commands.specs.Decoding.IsCutAt.{in_frame, in_header, in_short_frame}

@@ -10,12 +10,13 @@ use Rattle.wire_decode.specs.Faults.{IsFirstFault}
 use Rattle.wire_decode.specs.Reason.{reason_word}
 use Rattle.wire_decode.specs.declared.fault.DecodeReason.{DecodeReason}
 use Rattle.frame_transport.specs.Frames.{IsFrame, bytes_of, joined, StandFrom, IsPartial, HasFault, Splits}
-use Rattle.frame_transport.specs.Parts.{HasNoFrame}
+use Rattle.frame_transport.specs.Frames.{HasNoFrame}
 use Rattle.frame_transport.specs.Standing.{StandsAt}
 use Rattle.frame_transport.specs.declared.format.Frame.{Frame}
 use Rattle.frame_transport.specs.declared.fault.FeedFault.{FeedFault}
 use Rattle.text_commands.specs.DecodeInput.{OnFault}
-use Rattle.text_commands.specs.Decoding.{hello, message_in, IsLineOf, AreLinesOf, IsFaultIn, in_payload, IsFaultOfHeader, IsDecoded, IsCutAt, in_frame, in_header, in_short_frame}
+use Rattle.text_commands.specs.Decoding.{hello, IsLineOf, AreLinesOf, IsFaultIn, in_payload, IsFaultOfHeader, IsDecoded, IsCutAt, in_frame, in_header, in_short_frame}
+use Rattle.frame_transport.specs.Messages.{message_in}
 use Rattle.text_commands.specs.declared.decoding.Cut.{Cut}
 use Rattle.text_commands.specs.declared.decoding.Cut.TheVariants.{Fault, Memory as NoMemory, Out}
 use Rattle.text_commands.specs.Telling.{Tells}

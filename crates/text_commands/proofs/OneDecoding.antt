@@ -9,7 +9,8 @@ use Rattle.frame_transport.specs.declared.fault.FeedFault.{FeedFault}
 use Rattle.frame_transport.specs.declared.fault.FeedFault.TheVariants.{Version, Kind, TooLong, Memory}
 use Rattle.wire_base.specs.Encoding.{encoding}
 use Rattle.wire_decode.specs.Reason.{reason_word}
-use Rattle.text_commands.specs.Decoding.{IsLineOf, AreLinesOf, IsFaultIn, IsFaultOfHeader, StandInFront, IsDecoded, IsCutAt, message_in, call_line}
+use Rattle.text_commands.specs.Decoding.{IsLineOf, AreLinesOf, IsFaultIn, IsFaultOfHeader, StandInFront, IsDecoded, IsCutAt, call_line}
+use Rattle.frame_transport.specs.Messages.{message_in}
 use Rattle.text_commands.specs.Decoding.IsLineOf.{line_of_hello, line_of_call}
 use Rattle.text_commands.specs.Decoding.IsFaultIn.{no_method, in_payload}
 use Rattle.text_commands.specs.Decoding.IsCutAt.{in_frame, in_header, in_short_frame}

@@ -11,20 +11,15 @@ use Rattle.wire_decode.specs.Reason.{reason_word}
 use Rattle.wire_decode.specs.declared.fault.DecodeReason.{DecodeReason}
 use Rattle.frame_transport.specs.Frames.{IsFrame, StandFrom, Splits, joined, IsFaultAt, HasFault}
 use Rattle.frame_transport.specs.declared.format.Frame.{Frame}
-use Rattle.frame_transport.specs.declared.format.TheConstants.{HEADER_LEN, METHOD_PLACE, REQUEST}
+use Rattle.frame_transport.specs.declared.format.TheConstants.{HEADER_LEN, METHOD_PLACE}
 use Rattle.frame_transport.specs.declared.fault.FeedFault.{FeedFault}
 use Rattle.frame_transport.specs.declared.fault.FeedFault.TheVariants.{Version, Kind, TooLong, Memory}
-use Rattle.mrpc_table.specs.Calls.{message_of}
-use Rattle.mrpc_table.specs.declared.call.Sort.TheVariants.{Request, Reply}
+use Rattle.frame_transport.specs.Messages.{message_in}
 use Rattle.audit_text.specs.Lines.{hex_word}
 
 -- the kind of a hello
 abbrev pub hello : ℕ
 hello = 3
-
--- the message that the payload is of: a request has its method's input, a reply its output
-abbrev pub message_in : Table → Frame → ℕ
-message_in T f = message_of T f.method (if f.kind == REQUEST then Request else Reply)
 
 abbrev pub hello_line : Frame → List ℕ
 hello_line f = line (codes "hello" ∷ decimal f.conn ∷ decimal (length f.payload) ∷ [])

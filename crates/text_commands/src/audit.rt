@@ -11,9 +11,7 @@ ghost use Rattle.text_commands.specs.Stopping.{EndsEarly};
 use crate::discard;
 use crate::laws::{audit_law, near_law};
 use crate::refusal::refuse;
-use crate::status::{
-    DONE, FAULTY_INPUT, INPUT_FAILED, INPUT_LIMIT, NO_COMMAND, NO_MEMORY, OUTPUT_FAILED,
-};
+use crate::status::{DONE, FAULTY_INPUT, INPUT_FAILED, NO_COMMAND, NO_MEMORY, OUTPUT_FAILED};
 use audit_check::{Checked, check_audit};
 use audit_input::{AuditInput, read_audit_input};
 use audit_rules::Rule;
@@ -22,6 +20,7 @@ use mrpc_base::{Sink, write_all};
 use mrpc_table::{Bytes, Memory};
 use script_words::ScriptFault;
 use std::alloc::Global;
+use whole_input::INPUT_LIMIT;
 
 // Why an audit isn't judged.
 #[derive(Drop, Clone, Copy)]

@@ -12,9 +12,7 @@ ghost use Rattle.text_commands.specs.declared.check.Spot.{Spot};
 
 use crate::laws::{file_law, set_law};
 use crate::refusal::refuse_at;
-use crate::status::{
-    DONE, FAULTY_INPUT, INPUT_FAILED, INPUT_LIMIT, NO_COMMAND, NO_MEMORY, OUTPUT_FAILED,
-};
+use crate::status::{DONE, FAULTY_INPUT, INPUT_FAILED, NO_COMMAND, NO_MEMORY, OUTPUT_FAILED};
 use file_bundle::{BundleFault, is_bundle, read_bundle};
 use mrpc_base::{Sink, write_all};
 use mrpc_table::{Bytes, Memory, Table};
@@ -24,6 +22,7 @@ use schema_files::{FilesFault, fault_in_set, resolve_files};
 use schema_resolve::{ResolveFault, resolve};
 use std::alloc::Global;
 use table_lines::table_text;
+use whole_input::INPUT_LIMIT;
 
 /// Where a fault stands, as it is printed.
 #[derive(Drop, Clone, Copy)]

@@ -12,11 +12,10 @@ use crate::decode_input::read_head;
 use crate::decoding::{Cut, decode_stream};
 use crate::laws::{meaning_law, text_law};
 use crate::refusal::refuse;
-use crate::status::{
-    DONE, FAULTY_INPUT, INPUT_FAILED, INPUT_LIMIT, NO_COMMAND, NO_MEMORY, OUTPUT_FAILED,
-};
+use crate::status::{DONE, FAULTY_INPUT, INPUT_FAILED, NO_COMMAND, NO_MEMORY, OUTPUT_FAILED};
 use mrpc_base::Sink;
 use std::alloc::Global;
+use whole_input::INPUT_LIMIT;
 
 /// Reads a table's text and the frames behind it, of at most [`INPUT_LIMIT`] bytes, and writes a line for each frame. The
 /// first fault of the text is written as a line `fault LINE REASON`, one of the frames as `fault PLACE REASON` behind the

@@ -7,14 +7,15 @@ ghost use Rattle.mrpc_table.specs.Valid.{IsValid};
 ghost use Rattle.frame_transport.specs.Frames.{IsFrame};
 ghost use Rattle.frame_transport.specs.Standing.{frame_of};
 ghost use Rattle.text_commands.specs.DecodeInput.{OnFault};
-ghost use Rattle.text_commands.specs.Decoding.{IsLineOf, IsFaultIn, IsFaultOfHeader, IsDecoded, IsCutAt, hello, hello_line, message_in, call_line};
+ghost use Rattle.text_commands.specs.Decoding.{IsLineOf, IsFaultIn, IsFaultOfHeader, IsDecoded, IsCutAt, hello, hello_line, call_line};
+ghost use Rattle.frame_transport.specs.Messages.{message_in};
 ghost use Rattle.text_commands.specs.Telling.{Tells, TellsEarly};
 
 use crate::laws::{frame_law, meaning_law};
 use audit_text::append_hex_word;
 use frame_transport::{FeedFault, FrameRef, HEADER_LEN, HELLO, METHOD_PLACE, frame_at};
 use mrpc_base::{Sink, write_all};
-use mrpc_table::{Bytes, Memory, Sort, Table};
+use mrpc_table::{Bytes, Memory, Table};
 use spare_trees::Spare;
 use std::alloc::Global;
 use wire_decode::{DecodeFault, decode_with};
@@ -241,11 +242,11 @@ fn tell_call(
         × (lines.new ≡ lines.old))) }
     ensures not_out { result ≢ Err Cut.Out }
 {
-    let message = message_in(table, frame);
+    let message = frame.payload_message(table);
     match decode_with(alloc, &mut room.spare, frame.payload, table, message) {
         Ok(tree) => {
             encode_into(&mut room.encoded, &tree, table, message)?;
-            put_call(alloc, frame, room.encoded.as_slice(), lines)?;
+            put_call(frame, room.encoded.as_slice(), lines)?;
             room.spare.take_back(tree);
             Ok(())
         }
@@ -255,17 +256,6 @@ fn tell_call(
         }),
         Err(DecodeFault::Memory) => Err(Cut::Memory),
     }
-}
-
-// The message that the payload of a request or a reply is of.
-fn message_in(table: &Table, frame: &FrameRef) -> u32
-    requires valid { IsValid table.now }
-    requires known { frame.now.method < length table.now.methods }
-    ensures place { result ≡ message_in table.now (frame_of frame.now) }
-    ensures within { result < length table.now.messages }
-{
-    let sort = frame.sort().unwrap_or(Sort::Reply);
-    table.message_of(frame.method, sort)
 }
 
 // Appends the line of a hello.
@@ -279,7 +269,7 @@ fn put_hello(frame: &FrameRef, lines: &mut Bytes) -> Result<(), Memory>
 }
 
 // Appends the line of a request or a reply whose message has this encoding.
-fn put_call(alloc: Global, frame: &FrameRef, bytes: &[u8], lines: &mut Bytes) -> Result<(), Memory>
+fn put_call(frame: &FrameRef, bytes: &[u8], lines: &mut Bytes) -> Result<(), Memory>
     ensures { OnOk result (lines.new ≡ lines.old ++ call_line (frame_of frame.now) bytes.now) }
 {
     lines.append(b"frame")?;
@@ -287,6 +277,6 @@ fn put_call(alloc: Global, frame: &FrameRef, bytes: &[u8], lines: &mut Bytes) ->
     lines.append_word(u64::from(frame.method))?;
     lines.append_word(u64::from(frame.conn))?;
     lines.append_word(u64::from(frame.number))?;
-    append_hex_word(alloc, lines, bytes)?;
+    append_hex_word(lines, bytes)?;
     lines.push(b'\n')
 }

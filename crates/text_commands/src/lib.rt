@@ -21,8 +21,7 @@ pub use check::{Spot, check_to, one_check};
 pub use decode::{decode_to, one_decoding};
 pub use refusal::refuse;
 pub use status::{
-    DONE, FAULTY_INPUT, INPUT_FAILED, INPUT_LIMIT, NO_COMMAND, NO_MEMORY, OUTPUT_FAILED,
-    WIRE_FAILED,
+    DONE, FAULTY_INPUT, INPUT_FAILED, NO_COMMAND, NO_MEMORY, OUTPUT_FAILED, WIRE_FAILED,
 };
 
 // What a drop comes to is proved in each function that has one. In this one it is one call.

@@ -1,8 +1,5 @@
 //! How a command ends: its exit status.
 
-/// The most bytes that an input may have.
-pub const INPUT_LIMIT: usize = 16_777_216;
-
 /// The work is done.
 pub const DONE: u8 = 0;
 

@@ -1,3 +1,2 @@
 pub mod FaultLines
-pub mod Reading
 pub mod Views

@@ -9,8 +9,8 @@ use Rattle.timeline.specs.Drawing.{drawing}
 use Rattle.timeline.specs.Lines.{happenings_of}
 use Rattle.timeline.specs.Plain.{IsPlain}
 use Rattle.timeline.specs.Rows.{AreRows, Row}
-use Rattle.view_top.specs.Reading.{IsAllOf, ReadsPast}
-use Rattle.view_top.specs.declared.reading.TheConstants.{INPUT_LIMIT}
+use Rattle.whole_input.specs.Reading.{IsInput, ReadsPast}
+use Rattle.whole_input.specs.declared.reading.TheConstants.{INPUT_LIMIT}
 use Rattle.view_top.specs.declared.view.View.{View}
 use Rattle.view_top.specs.declared.view.View.TheVariants.{Frames, Script, Timeline}
 
@@ -44,11 +44,6 @@ Cuts Timeline text out out' place word = ⊥
 abbrev pub Refuses : View → List ℕ → Option (List ℕ) → Option (List ℕ) → Type 0
 Refuses view text out out' = (mid : Option (List ℕ)) × (place : ℕ) × (word : List ℕ)
     × Cuts view text out mid place word × Appends mid out' (fault_line place word)
-
--- the text is all that the input had left, and no longer than an input may be
-pub record IsInput (left : Option (List ℕ)) (text : List ℕ) : Type 0 where
-  pub all : IsAllOf left text
-  pub short : length text ≤ INPUT_LIMIT
 
 abbrev pub IsShown : View → Option (List ℕ) → Option (List ℕ) → Option (List ℕ) → Type 0
 IsShown view left out out' = (text : List ℕ) × IsInput left text × Shows view text out out'

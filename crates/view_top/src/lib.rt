@@ -7,7 +7,6 @@
 #![tactic(auto)]
 
 mod fault;
-mod reading;
 mod status;
 mod view;
 

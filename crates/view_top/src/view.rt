@@ -8,7 +8,6 @@ ghost use Rattle.view_top.specs.declared.status.TheConstants.{FAULTY_INPUT};
 ghost use Rattle.view_top.specs.Views.{IsView, Names, view_word, IsShown, IsRefused, Shows, Cuts, Refuses};
 
 use crate::fault::refuse;
-use crate::reading::{INPUT_LIMIT, Input, read_input};
 use crate::status::{DONE, INPUT_FAILED, NO_COMMAND, NO_MEMORY, OUTPUT_FAILED};
 use frame_reading::ReadFault;
 use frame_view::{Stop, view_frames};
@@ -16,6 +15,7 @@ use mrpc_base::{Sink, Source, write_all};
 use script_view::script_of;
 use std::alloc::Global;
 use timeline::timeline_of;
+use whole_input::{INPUT_LIMIT, Input, read_input};
 
 /// Shows an input as the words say, and answers the exit status: `frames`, `script` or `timeline`, each alone.
 ///

@@ -1,6 +1,6 @@
 use Rattle.std.proofs.Common.{◌≡◌, ◌∙◌, ℕ, subst, arith}
 use Rattle.mrpc_table.specs.Normal.{IsNormal}
-use Rattle.frame_reading.specs.Contents.{message_in}
+use Rattle.frame_transport.specs.Messages.{message_in}
 use Rattle.frame_reading.specs.Faults.{IsFaultIn, in_payload}
 use Rattle.frame_transport.specs.Standing.{frame_of}
 use Rattle.wire_decode.specs.Faults.{IsFirstFault}
@@ -12,12 +12,12 @@ pub returns-in-Ok-clause-content : goal.returns-in-Ok-clause-content
 returns-in-Ok-clause-content c =
     let T = c.args.table.now in
     let f = frame_of c.args.frame.now in
-    let message : c.message_in-message.result ≡ message_in T f = c.message_in-message.ensures.place in (
+    let message : c.payload_message-message.result ≡ message_in T f = c.payload_message-message.ensures.place in (
       message,
       record {
         kind = c.requires.call;
         method = c.requires.known;
-        known = omega (arith, message, c.message_in-message.ensures.within);
+        known = omega (arith, message, c.payload_message-message.ensures.within);
         means = subst (λ (m : ℕ). Means T m f.payload c.in-Ok.tree) message c.in-Ok.ensures.means;
         normal = subst (λ (m : ℕ). IsNormal T m c.in-Ok.tree) message c.in-Ok.ensures.normal;
       },
@@ -27,7 +27,7 @@ pub returns-in-Err-At-clause-fault : goal.returns-in-Err-At-clause-fault
 returns-in-Err-At-clause-fault c =
     let T = c.args.table.now in
     let f = frame_of c.args.frame.now in
-    let message : c.message_in-message.result ≡ message_in T f = c.message_in-message.ensures.place in
+    let message : c.payload_message-message.result ≡ message_in T f = c.payload_message-message.ensures.place in
     let first = rw c.in-Err-At.field-0-is at c.in-Err-At.ensures.fault in
     let here : IsFirstFault T (message_in T f) f.payload c.in-Err-At.reason c.in-Err-At.place =
     subst (λ (n : ℕ). IsFirstFault T n f.payload c.in-Err-At.reason c.in-Err-At.place) message first in

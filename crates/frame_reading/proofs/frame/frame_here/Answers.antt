@@ -3,7 +3,7 @@ use Rattle.std.specs.List.{between}
 use Rattle.std.proofs.lemmas.List.{length-drop}
 use Rattle.std.proofs.lemmas.Slice.{between_to_end}
 use Rattle.frame_transport.specs.Frames.{IsFaultAt, long, no_kind, no_version}
-use Rattle.frame_transport.specs.Parts.{HasNoFrame}
+use Rattle.frame_transport.specs.Frames.{HasNoFrame}
 use Rattle.frame_transport.specs.Standing.{StandsAt, frame_of}
 use Rattle.frame_transport.specs.declared.fault.FeedFault.{FeedFault}
 use Rattle.frame_transport.specs.declared.fault.FeedFault.TheVariants.{Memory as NoMemory}

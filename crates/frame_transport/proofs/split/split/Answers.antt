@@ -1,5 +1,6 @@
 use Rattle.std.proofs.Common.{None, ◌++◌, arith, rules, subst}
-use Rattle.frame_transport.specs.Parts.{EndsFrame, HasNoFrame, IsFront}
+use Rattle.frame_transport.specs.Frames.{HasNoFrame}
+use Rattle.frame_transport.specs.Parts.{EndsFrame, IsFront}
 use Rattle.frame_transport.proofs.Found.{found_next, found_total, found_all}
 use Rattle.frame_transport.proofs.split.split.Goals as goal
 

@@ -3,7 +3,7 @@ use Rattle.mrpc_table.specs.declared.limits.TheConstants.{MAX_LOADS}
 use Rattle.graph_place.specs.Size.{tree_words}
 use Rattle.graph_place.specs.Stored.{StandsIn}
 use Rattle.frame_transport.specs.Standing.{frame_of}
-use Rattle.frame_reading.specs.Contents.{message_in}
+use Rattle.frame_transport.specs.Messages.{message_in}
 use Rattle.script_view.specs.Unplayable.{Made, IsUnplayable, too_wide, too_long}
 use Rattle.script_view.specs.declared.limits.TheConstants.{FIRST_PLACE, MAX_REPLAY_WORDS}
 use Rattle.script_view.proofs.Making.{on_fault}

@@ -1,6 +1,7 @@
 use Rattle.std.proofs.Common.{◌≡◌, ◌+◌, ◌∙◌, ◌++◌, List, ℕ, ap, refl, subst}
 use Rattle.frame_transport.specs.Standing.{frame_of}
-use Rattle.text_commands.specs.Decoding.{line_of_call, message_in, call_line}
+use Rattle.text_commands.specs.Decoding.{line_of_call, call_line}
+use Rattle.frame_transport.specs.Messages.{message_in}
 use Rattle.wire_base.specs.Encoding.{encoding}
 use Rattle.wire_decode.specs.Means.{Means}
 use Rattle.wire_decode.specs.Reason.{reason_word}
@@ -11,7 +12,7 @@ pub returns-in_ok-put_call-in-Ok-clause-told : goal.returns-in_ok-put_call-in-Ok
 returns-in_ok-put_call-in-Ok-clause-told c =
     let T = c.args.table.now in
     let f = frame_of c.args.frame.now in
-    let message : c.message_in-message.result ≡ message_in T f = c.message_in-message.ensures.place in
+    let message : c.payload_message-message.result ≡ message_in T f = c.payload_message-message.ensures.place in
     let bytes : c.as_slice.result.now ≡ encoding T (message_in T f) c.in-Ok.tree =
     c.as_slice.ensures ∙ c.in_ok-encode_into-in-Ok.ensures.written
     ∙ ap (λ (m : ℕ). encoding T m c.in-Ok.tree) message in
@@ -25,7 +26,7 @@ pub returns-in-Err-At-clause-cut : goal.returns-in-Err-At-clause-cut
 returns-in-Err-At-clause-cut c =
     let T = c.args.table.now in
     let f = frame_of c.args.frame.now in
-    let message : c.message_in-message.result ≡ message_in T f = c.message_in-message.ensures.place in
+    let message : c.payload_message-message.result ≡ message_in T f = c.payload_message-message.ensures.place in
     let first = rw c.in-Err-At.field-0-is at c.in-Err-At.ensures.fault in (
       fault_of_payload T f _ _ c.in-Err-At.reason c.in-Err-At.place _ c.requires.call c.requires.known message first
           (ap (λ (n : ℕ). f.place + (16 + n)) c.in-Err-At.place-is) (c.word.ensures ∙ ap reason_word c.in-Err-At.reason-is),

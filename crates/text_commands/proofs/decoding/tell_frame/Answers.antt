@@ -2,7 +2,7 @@ use Rattle.std.proofs.Common.{◌≡◌, [], List, ℕ, Some, None, length, drop
 use Rattle.std.specs.List.{between}
 use Rattle.std.proofs.lemmas.Result.{err_from_is_err_and}
 use Rattle.std.proofs.lemmas.Slice.{between_to_end}
-use Rattle.frame_transport.specs.Parts.{HasNoFrame}
+use Rattle.frame_transport.specs.Frames.{HasNoFrame}
 use Rattle.frame_transport.specs.Standing.{StandsAt, frame_of}
 use Rattle.frame_transport.specs.declared.format.Frame.{Frame}
 use Rattle.text_commands.specs.Decoding.{IsCutAt, IsFaultIn, IsFaultOfHeader}

@@ -2,11 +2,13 @@
 
 ghost use Rattle.std.specs.Prelude.{◌≡◌, ◌<◌, ◌≤◌, ◌++◌, length, vec_len, IfOk, OnOk};
 ghost use Rattle.mrpc_base.specs.Faults.{HasCause};
-ghost use Rattle.mrpc_top.specs.Reading.{OnWhole, IsAllOf, ReadsPast};
+ghost use Rattle.whole_input.specs.Reading.{OnWhole, IsAllOf, ReadsPast};
 
 use mrpc_base::{Got, Source};
 use std::alloc::{AllocError, Global};
-use text_commands::INPUT_LIMIT;
+
+/// The most bytes that an input may have.
+pub const INPUT_LIMIT: usize = 16_777_216;
 
 // How many bytes are asked for in one read, at the most.
 const PIECE: usize = 65_536;
@@ -17,7 +19,7 @@ const CHUNK: usize = 2_048;
 
 /// How reading an input ended.
 #[derive(Drop)]
-pub(crate) enum Input {
+pub enum Input {
     /// It was read to its end; these are its bytes.
     Whole(Vec<u8>),
     /// It has more than `INPUT_LIMIT` bytes: one byte more was read.
@@ -29,7 +31,7 @@ pub(crate) enum Input {
 }
 
 /// Reads an input to its end, or past its limit.
-pub(crate) fn read_input<S: Source>(alloc: Global, input: &mut S) -> Input
+pub fn read_input<S: Source>(alloc: Global, input: &mut S) -> Input
     ensures whole { OnWhole result (λ text. (length text ≤ INPUT_LIMIT) × IsAllOf (S.left input.old) text) }
     ensures too_long { result ≡ Input.TooLong → ReadsPast INPUT_LIMIT (S.left input.old) (S.left input.new) }
     ensures cause { HasCause (result ≡ Input.Failed) (S.faults input.old) (S.faults input.new) }

@@ -1,8 +1,9 @@
 -- How an input was read.
-use Rattle.std.specs.Prelude.{◌≡◌, ℕ, ◌+◌, List, length, Option, None, Some}
+use Rattle.std.specs.Prelude.{◌≡◌, ℕ, ◌+◌, ◌≤◌, List, length, Option, None, Some}
 use Rattle.std.specs.Io.KnownBytes.{Consumes}
-use Rattle.view_top.specs.declared.reading.Input.{Input}
-use Rattle.view_top.specs.declared.reading.Input.TheVariants.{Whole}
+use Rattle.whole_input.specs.declared.reading.TheConstants.{INPUT_LIMIT}
+use Rattle.whole_input.specs.declared.reading.Input.{Input}
+use Rattle.whole_input.specs.declared.reading.Input.TheVariants.{Whole}
 
 -- P holds of the bytes of an input that was read to its end
 abbrev pub OnWhole : Input → (List ℕ → Type 0) → Type 0
@@ -13,6 +14,11 @@ OnWhole _ P = Unit {0}
 abbrev pub IsAllOf : Option (List ℕ) → List ℕ → Type 0
 IsAllOf None text = Unit {0}
 IsAllOf (Some bytes) text = bytes ≡ text
+
+-- the text is all that the input had left, and no longer than an input may be
+pub record IsInput (left : Option (List ℕ)) (text : List ℕ) : Type 0 where
+  pub all : IsAllOf left text
+  pub short : length text ≤ INPUT_LIMIT
 
 -- one byte more than the limit was read
 abbrev pub ReadsPast : ℕ → Option (List ℕ) → Option (List ℕ) → Type 0

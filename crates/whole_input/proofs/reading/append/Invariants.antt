@@ -1,7 +1,7 @@
 -- What was appended, and the chunks that are left.
 use Rattle.std.proofs.Common.{◌≡◌, ◌++◌}
 use Rattle.std.specs.Slice.Iter.{chunks_rest, chunks_size}
-use Rattle.mrpc_top.proofs.reading.append.Given as goal
+use Rattle.whole_input.proofs.reading.append.Given as goal
 
 abbrev pub invariant-loop-chunk : goal.invariant-loop-chunk
 invariant-loop-chunk l =

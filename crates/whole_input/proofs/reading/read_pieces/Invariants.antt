@@ -1,6 +1,6 @@
 use Rattle.std.proofs.Common.{◌≡◌, ◌<◌, ◌≤◌, ◌-◌, ℕ, List, Option, length}
 use Rattle.std.specs.Io.KnownBytes.{Consumes}
-use Rattle.view_top.proofs.reading.read_pieces.Given as goal
+use Rattle.whole_input.proofs.reading.read_pieces.Given as goal
 
 -- the text is what was read so far
 pub record IsRead {S : Type 0} (left : S → Option (List ℕ)) (faults : S → ℕ) (old new : S) (text : List ℕ) : Type 0 where
