@@ -10,11 +10,14 @@ use Rattle.mrpc_table.specs.declared.table.Field.{Field}
 use Rattle.mrpc_table.specs.declared.table.Table.{Table}
 use Rattle.mrpc_table.specs.MapEntries.{last_of_each}
 use Rattle.wire_decode.specs.Words.{is_list, is_map}
-use Rattle.wire_decode.specs.Reads.{Reads, read_end, is_message, entry_fields, numbers}
+use Rattle.wire_decode.specs.Reads.{Reads, read_end, numbers}
+use Rattle.wire_decode.specs.Known.{is_message, entry_fields}
 use Rattle.wire_decode.specs.Merged.{contents_of, items_in, values_in, singles_in, joined, last_value, singular}
-use Rattle.wire_decode.specs.Merged.{element, entry, present, present_if_set, some_items, some_pairs, field_content}
-use Rattle.wire_decode.specs.Merged.{counted, with_content}
-use Rattle.wire_decode.specs.Ordered.{is_single, single_content}
+use Rattle.wire_decode.specs.Merged.{element, entry, field_content}
+use Rattle.wire_decode.specs.Contents.{present, present_if_set, some_items, some_pairs}
+use Rattle.wire_decode.specs.Merged.{counted}
+use Rattle.wire_decode.specs.Contents.{with_content}
+use Rattle.wire_decode.specs.Contents.{is_single, single_content}
 use Rattle.wire_decode.specs.Meaning as rule
 use Rattle.wire_decode.specs.Meaning.{Value, single, packed, delimited, counted_values, values_of, values_but}
 use Rattle.wire_decode.specs.Meaning.{joined_payloads, item_or_default, MeansIn, means_in, AreFields, no_field}

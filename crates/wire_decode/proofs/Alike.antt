@@ -20,9 +20,11 @@ use Rattle.wire_base.specs.declared.records.Payload.{Payload}
 use Rattle.wire_base.specs.declared.records.Payload.TheVariants.{Len}
 use Rattle.wire_decode.specs.Words.{word_of, number_in, is_list, is_map, may_be_packed, AreElements}
 use Rattle.wire_decode.specs.Reads.{Reads, read_end, read_other, read_known, Holds, holds_number, holds_piece}
-use Rattle.wire_decode.specs.Reads.{holds_text, holds_octets, holds_message, holds_entry, is_message, entry_fields}
+use Rattle.wire_decode.specs.Reads.{holds_text, holds_octets, holds_message, holds_entry}
+use Rattle.wire_decode.specs.Known.{is_message, entry_fields}
 use Rattle.wire_decode.specs.Reads.{numbers}
-use Rattle.wire_decode.specs.Merged.{contents_of, are_rivals, is_overtaken, counted}
+use Rattle.wire_decode.specs.Merged.{contents_of, is_overtaken, counted}
+use Rattle.wire_decode.specs.Oneofs.{are_rivals}
 use Rattle.wire_decode.specs.Meaning.{Value, single, packed, delimited, has_rival, counted_values, values_of}
 use Rattle.wire_decode.specs.Meaning.{values_but, MeansIn, HaveValues, no_more, skipped, known, HasValue, a_number}
 use Rattle.wire_decode.specs.Meaning.{a_piece, a_text, some_octets, a_message, an_entry}

@@ -23,9 +23,12 @@ use Rattle.wire_base.specs.declared.records.Payload.TheVariants.{Varint, I64, I3
 use Rattle.wire_base.specs.declared.records.Record.{Record}
 use Rattle.wire_decode.specs.Words.{word_of, number_in, payload_type, is_map, suits, AreElements}
 use Rattle.wire_decode.specs.Reads.{Reads, read_end, read_other, read_known, Holds, holds_piece, holds_text}
-use Rattle.wire_decode.specs.Reads.{holds_octets, holds_message, holds_entry, HasRoom, is_message, is_known}
-use Rattle.wire_decode.specs.Reads.{entry_fields, numbers}
-use Rattle.wire_decode.specs.FaultWalk.{reason_of, Faults, no_record, behind_other, behind_known, in_payload, Fails, no_elements, no_text, too_deep, in_message, in_entry, no_room}
+use Rattle.wire_decode.specs.Reads.{holds_octets, holds_message, holds_entry}
+use Rattle.wire_decode.specs.Known.{HasRoom, is_message, is_known}
+use Rattle.wire_decode.specs.Known.{entry_fields}
+use Rattle.wire_decode.specs.Reads.{numbers}
+use Rattle.wire_decode.specs.Reason.{reason_of}
+use Rattle.wire_decode.specs.FaultWalk.{MeetsFault, no_record, behind_other, behind_known, in_payload, Fails, no_elements, no_text, too_deep, in_message, in_entry, no_room}
 use Rattle.wire_decode.specs.Parts.{IsFixedOrVarint}
 use Rattle.wire_decode.specs.declared.fault.DecodeReason.{DecodeReason}
 use Rattle.wire_decode.specs.declared.fault.DecodeReason.TheVariants.{Utf8, PackedLength, Depth}
@@ -82,7 +85,7 @@ elements-or law (suc left) k bytes at numeric within few =
 -- ---- one payload
 
 abbrev ReadsOr : Table → ℕ → List Field → List ℕ → ℕ → Type 0
-ReadsOr T room fs bytes at = ((t : Node) × Reads T room fs bytes at t) ⊎ ((reason : DecodeReason) × (place : ℕ) × Faults T room fs bytes at reason place)
+ReadsOr T room fs bytes at = ((t : Node) × Reads T room fs bytes at t) ⊎ ((reason : DecodeReason) × (place : ℕ) × MeetsFault T room fs bytes at reason place)
 
 abbrev HoldsOr : Table → ℕ → Label → Kind → List ℕ → Payload → Type 0
 HoldsOr T room label k bytes p = ((c : Content) × Holds T room label k bytes p c) ⊎ ((reason : DecodeReason) × (place : ℕ) × Fails T room label k bytes p reason place)
@@ -212,5 +215,5 @@ reads-or law T (suc left) room fs bytes at within few =
     (cases_lt at (length bytes))
 
 pub reading-or : Law → (T : Table) (msg : ℕ) (bytes : List ℕ)
-    → ((raw : Node) × Reads T 31 (fields_of T msg) bytes 0 raw) ⊎ ((reason : DecodeReason) × (place : ℕ) × Faults T 31 (fields_of T msg) bytes 0 reason place)
+    → ((raw : Node) × Reads T 31 (fields_of T msg) bytes 0 raw) ⊎ ((reason : DecodeReason) × (place : ℕ) × MeetsFault T 31 (fields_of T msg) bytes 0 reason place)
 reading-or law T msg bytes = reads-or law T (length bytes) 31 (fields_of T msg) bytes 0 (omega arith) (omega arith)

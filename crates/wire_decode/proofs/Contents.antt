@@ -22,7 +22,8 @@ use Rattle.wire_base.specs.declared.records.Payload.{Payload}
 use Rattle.wire_base.specs.declared.records.Payload.TheVariants.{Len}
 use Rattle.wire_base.specs.declared.records.Record.{Record}
 use Rattle.wire_decode.specs.Words.{word_of, number_in, payload_type, own_type, is_map, may_be_packed, suits}
-use Rattle.wire_decode.specs.Reads.{Reads, Holds, holds_number, holds_piece, holds_text, holds_octets, holds_message, holds_entry, entry_fields, is_known}
+use Rattle.wire_decode.specs.Reads.{Reads, Holds, holds_number, holds_piece, holds_text, holds_octets, holds_message, holds_entry}
+use Rattle.wire_decode.specs.Known.{entry_fields, is_known}
 use Rattle.wire_decode.specs.FaultWalk.{Fails, no_elements, no_text, too_deep, in_message, in_entry, no_room}
 use Rattle.wire_decode.specs.Faults.{FaultsAs}
 use Rattle.wire_decode.specs.Parts.{IsPiece, NoPiece, IsEntry, NoEntry, entry_fault, entry_room, IsInner, NoInner, inner_fault, inner_room}

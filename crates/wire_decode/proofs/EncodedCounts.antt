@@ -12,7 +12,8 @@ use Rattle.mrpc_table.specs.declared.table.Field.{Field}
 use Rattle.mrpc_table.specs.declared.table.Table.{Table}
 use Rattle.wire_base.specs.Encoding.{label_at, is_packed}
 use Rattle.mrpc_table.specs.Words.{key_kind}
-use Rattle.wire_decode.specs.Merged.{contents_of, join_fields, oneof_of, oneof_at, is_same, are_rivals, is_overtaken, counted}
+use Rattle.wire_decode.specs.Merged.{contents_of, join_fields, is_overtaken, counted}
+use Rattle.wire_decode.specs.Oneofs.{oneof_of, oneof_at, is_same, are_rivals}
 use Rattle.wire_decode.proofs.Adding.{contents-here, contents-other}
 use Rattle.wire_decode.proofs.Oneofs.{and-false, overtaken-none, counted-kept, oneof-found}
 use Rattle.wire_decode.proofs.Members.{or-parts, is-member, members-first}

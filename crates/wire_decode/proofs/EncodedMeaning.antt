@@ -18,12 +18,16 @@ use Rattle.mrpc_table.specs.declared.table.Label.TheVariants.{Plain, Optional, R
 use Rattle.mrpc_table.specs.declared.table.Field.{Field}
 use Rattle.mrpc_table.specs.declared.table.Table.{Table}
 use Rattle.wire_base.specs.Encoding.{label_at, is_packed, encoding}
-use Rattle.wire_decode.specs.Reads.{Reads, read_end, is_message}
+use Rattle.wire_decode.specs.Reads.{Reads, read_end}
+use Rattle.wire_decode.specs.Known.{is_message}
 use Rattle.wire_decode.specs.Merges.{Merges}
 use Rattle.mrpc_table.specs.MapEntries.{key_cmp, with_pair, last_of_each}
-use Rattle.wire_decode.specs.Merged.{contents_of, items_in, items_from, values_in, join_fields, is_default}
-use Rattle.wire_decode.specs.Merged.{default_of, singular, element, part, entry, present, present_if_set, some_items}
-use Rattle.wire_decode.specs.Merged.{some_pairs, field_content, with_content, with_fields, merged}
+use Rattle.wire_decode.specs.Merged.{contents_of, items_in, values_in, join_fields}
+use Rattle.wire_decode.specs.Contents.{items_from, is_default}
+use Rattle.wire_decode.specs.Contents.{default_of, present, present_if_set, some_items}
+use Rattle.wire_decode.specs.Merged.{singular, element, part, entry}
+use Rattle.wire_decode.specs.Contents.{some_pairs, with_content}
+use Rattle.wire_decode.specs.Merged.{field_content, with_fields, merged}
 use Rattle.wire_decode.proofs.WireLaws.{ReadsBack}
 use Rattle.wire_decode.proofs.Adding.{contents-here}
 use Rattle.wire_decode.proofs.Reading.{join-none}

@@ -24,7 +24,8 @@ use Rattle.wire_base.specs.declared.records.Payload.{Payload}
 use Rattle.wire_base.specs.declared.records.Payload.TheVariants.{Len}
 use Rattle.wire_base.specs.declared.records.Record.{Record}
 use Rattle.wire_decode.specs.Words.{is_map, may_be_packed, AreElements}
-use Rattle.wire_decode.specs.Reads.{Reads, read_end, read_known, Holds, holds_number, holds_piece, holds_text, holds_octets, holds_message, holds_entry, HasRoom, entry_fields, numbers}
+use Rattle.wire_decode.specs.Reads.{Reads, read_end, read_known, Holds, holds_number, holds_piece, holds_text, holds_octets, holds_message, holds_entry, numbers}
+use Rattle.wire_decode.specs.Known.{HasRoom, entry_fields}
 use Rattle.wire_decode.specs.Merged.{join_fields}
 use Rattle.wire_decode.proofs.WireLaws.{ReadsBack}
 use Rattle.wire_decode.proofs.Gathering.{join-assoc}
@@ -96,14 +97,14 @@ record-read back_read T room fs n f bytes at w body p c found positive small typ
     read_known r f c t (stands-record back_read bytes at n w p next positive small type (stands-left (tag n w) body h)
     payload) found holds refl (subst (λ (x : ℕ). Reads T room fs bytes x t) e rest)
 
--- the words of numbers
-abbrev words_of : Items → List ℕ
-words_of no_items = []
-words_of (item (number n) is) = n ∷ words_of is
-words_of (item (run bytes) is) = words_of is
-words_of (item (node t) is) = words_of is
+-- the numbers among items
+abbrev numbers_in : Items → List ℕ
+numbers_in no_items = []
+numbers_in (item (number n) is) = n ∷ numbers_in is
+numbers_in (item (run bytes) is) = numbers_in is
+numbers_in (item (node t) is) = numbers_in is
 
-numbers-back : (T : Table) (k : Kind) (is : Items) → is_numeric k ≡ true → AreItems T k is → numbers (words_of is) ≡ is
+numbers-back : (T : Table) (k : Kind) (is : Items) → is_numeric k ≡ true → AreItems T k is → numbers (numbers_in is) ≡ is
 numbers-back T k no_items numeric h = refl
 numbers-back T k (item (number n) is) numeric h = ap (item (number n)) (numbers-back T k is numeric h.1)
 numbers-back T k (item (run bytes) is) numeric h = absurd (let bad : true ≡ false = sym numeric ∙ run-not_numeric k bytes h.0 in cc)
@@ -111,7 +112,7 @@ numbers-back T k (item (node t) is) numeric h = absurd (let bad : true ≡ false
 
 elements-stand : ReadsBack → (T : Table) (k : Kind) (bytes : List ℕ) (at : ℕ) (is : Items) → is_numeric k ≡ true
     → AreItems T k is → Stands bytes at (joined_bytes T k is) → length bytes ≡ at + length (joined_bytes T k is)
-    → AreElements k bytes at (words_of is)
+    → AreElements k bytes at (numbers_in is)
 elements-stand back_read T k bytes at no_items numeric h stands ends = omega (arith, ends)
 elements-stand back_read T k bytes at (item (number n) is) numeric h stands ends =
     let body = number_bytes k n in
@@ -132,16 +133,16 @@ record ItemAt (T : Table) (room : ℕ) (label : Label) (k : Kind) (bytes : List 
   holds : Holds T room label k bytes payload (one (raw_item T k i))
 
 -- records from a place to another are read as these contents, with those behind them
-abbrev AreRead : Table → ℕ → List Field → List ℕ → ℕ → ℕ → Node → Type 0
-AreRead T room fs bytes at next raw = (t : Node) → Reads T room fs bytes next t → Reads T room fs bytes at (join_fields raw t)
+abbrev AreReadInFront : Table → ℕ → List Field → List ℕ → ℕ → ℕ → Node → Type 0
+AreReadInFront T room fs bytes at next raw = (t : Node) → Reads T room fs bytes next t → Reads T room fs bytes at (join_fields raw t)
 
-read-nothing : (T : Table) (room : ℕ) (fs : List Field) (bytes : List ℕ) (at next : ℕ) → next ≡ at → AreRead T room fs bytes at next no_fields
+read-nothing : (T : Table) (room : ℕ) (fs : List Field) (bytes : List ℕ) (at next : ℕ) → next ≡ at → AreReadInFront T room fs bytes at next no_fields
 read-nothing T room fs bytes at next e t h = subst (λ (x : ℕ). Reads T room fs bytes x t) e h
 
 read-both : (T : Table) (room : ℕ) (fs : List Field) (bytes : List ℕ) (at : ℕ) (a b : List ℕ) (t u : Node)
-    → AreRead T room fs bytes at (at + length a) t
-    → AreRead T room fs bytes (at + length a) (at + length a + length b) u
-    → AreRead T room fs bytes at (at + length (a ++ b)) (join_fields t u)
+    → AreReadInFront T room fs bytes at (at + length a) t
+    → AreReadInFront T room fs bytes (at + length a) (at + length a + length b) u
+    → AreReadInFront T room fs bytes at (at + length (a ++ b)) (join_fields t u)
 read-both T room fs bytes at a b t u first second v rest =
     let e : at + length (a ++ b) ≡ at + length a + length b = omega (arith, length-append a b) in
     subst (λ (x : Node). Reads T room fs bytes at x) (sym (join-assoc t u v)) (first (join_fields u v) (second v (subst (λ (x : ℕ). Reads T room fs bytes x v) e rest)))
@@ -187,7 +188,7 @@ inner_bytes T k t = fields_bytes T (fields_of T (message_of k)) t
 message-item : ReadsBack → (T : Table) (room inside : ℕ) (label : Label) (k : Kind) (bytes : List ℕ) (at : ℕ)
     (t : Node) (i : ℕ) → is_map label ≡ false → length bytes < 2 ^ 64 → k ≡ OfMessage i → room ≡ suc inside
     → Stands bytes at (delimited (inner_bytes T k t))
-    → AreRead T inside (fields_of T (message_of k)) (take (end_of at (inner_bytes T k t)) bytes)
+    → AreReadInFront T inside (fields_of T (message_of k)) (take (end_of at (inner_bytes T k t)) bytes)
     (start_of at (inner_bytes T k t)) (end_of at (inner_bytes T k t))
     (raw_fields T (fields_of T (message_of k)) t) → ItemAt T room label k bytes at (node t)
 message-item back_read T room inside label k bytes at t i single few kind has_room stands read =
@@ -251,7 +252,7 @@ one-read : ReadsBack → (T : Table) (room : ℕ) (fs : List Field) (n : ℕ) (f
     (at : ℕ) (i : Item) → field_at fs n ≡ Some f → k ≡ f.kind → IsFound 0 n f
     → Stands bytes at (tag n (wire_type_of k) ++ item_bytes T k i)
     → ItemAt T room f.label k bytes (at + length (tag n (wire_type_of k))) i
-    → AreRead T room fs bytes at (at + length (tag n (wire_type_of k) ++ item_bytes T k i))
+    → AreReadInFront T room fs bytes at (at + length (tag n (wire_type_of k) ++ item_bytes T k i))
     (field n (one (raw_item T k i)) no_fields)
 one-read back_read T room fs n f k bytes at i found kind is stands here t rest =
     let small : n < 2 ^ 29 = (let a = is.usable.small in let b = is.number in omega (arith, a, b)) in
@@ -262,7 +263,7 @@ one-read back_read T room fs n f k bytes at i found kind is stands here t rest =
 packed-read : ReadsBack → (T : Table) (room : ℕ) (fs : List Field) (n : ℕ) (f : Field) (k : Kind) (bytes : List ℕ)
     (at : ℕ) (is : Items) → field_at fs n ≡ Some f → k ≡ f.kind → IsFound 0 n f → length bytes < 2 ^ 64
     → f.label ≡ Packed → AreItems T k is → Stands bytes at (tag n 2 ++ delimited (joined_bytes T k is))
-    → AreRead T room fs bytes at (at + length (tag n 2 ++ delimited (joined_bytes T k is)))
+    → AreReadInFront T room fs bytes at (at + length (tag n 2 ++ delimited (joined_bytes T k is)))
     (field n (many is) no_fields)
 packed-read back_read T room fs n f k bytes at is found kind fits few packed items stands t rest =
     let small : n < 2 ^ 29 = (let a = fits.usable.small in let b = fits.number in omega (arith, a, b)) in
@@ -275,20 +276,20 @@ packed-read back_read T room fs n f k bytes at is found kind fits few packed ite
     let behind = stands-right (tag n 2) (delimited body) stands in
     let inner = stands-inner body behind in
     let listed : may_be_packed f.label f.kind ≡ true = ap (λ l. may_be_packed l f.kind) packed ∙ numeric in
-    let whole : AreElements k (take end bytes) start (words_of is) =
+    let whole : AreElements k (take end bytes) start (numbers_in is) =
     elements-stand back_read T k (take end bytes) start is word items (stands-cut bytes start body end refl inner)
     (cut-length bytes start body end refl inner) in
     let holds : Holds T room f.label f.kind bytes (Len start end) (many is) =
-    holds_piece start end (words_of is) listed refl
-    (subst (λ (x : Kind). AreElements x (take end bytes) start (words_of is)) kind whole)
+    holds_piece start end (numbers_in is) listed refl
+    (subst (λ (x : Kind). AreElements x (take end bytes) start (numbers_in is)) kind whole)
     (ap many (sym (numbers-back T k is word items))) in
     record-read back_read T room fs n f bytes at 2 (delimited body) (Len start end) (many is) found fits.above small
     (omega arith) stands (stands-delimited back_read bytes place body few behind) holds t rest
 
 many-go : (T : Table) (room : ℕ) (fs : List Field) (bytes : List ℕ) (at : ℕ) (b : Bool) (x y : List ℕ) (t u : Node)
-    → (b ≡ true → Stands bytes at x → AreRead T room fs bytes at (at + length x) t)
-    → (Stands bytes at y → AreRead T room fs bytes at (at + length y) u) → Stands bytes at (cond b x y)
-    → AreRead T room fs bytes at (at + length (cond b x y)) (cond b t u)
+    → (b ≡ true → Stands bytes at x → AreReadInFront T room fs bytes at (at + length x) t)
+    → (Stands bytes at y → AreReadInFront T room fs bytes at (at + length y) u) → Stands bytes at (cond b x y)
+    → AreReadInFront T room fs bytes at (at + length (cond b x y)) (cond b t u)
 many-go T room fs bytes at true x y t u one_piece records stands = one_piece refl stands
 many-go T room fs bytes at false x y t u one_piece records stands = records stands
 
@@ -304,7 +305,7 @@ entry-read : ReadsBack → (T : Table) (room : ℕ) (fs : List Field) (n : ℕ) 
     → length bytes < 2 ^ 64 → HasRoom room k → Stands bytes at (tag n 2 ++ delimited (entry_bytes T key k i j))
     → Reads T room (entry_fields key k) (take (end_of (at + length (tag n 2)) (entry_bytes T key k i j)) bytes)
     (start_of (at + length (tag n 2)) (entry_bytes T key k i j)) (raw_entry T key k i j)
-    → AreRead T room fs bytes at (at + length (tag n 2 ++ delimited (entry_bytes T key k i j))) (field n (one (node (raw_entry T key k i j))) no_fields)
+    → AreReadInFront T room fs bytes at (at + length (tag n 2 ++ delimited (entry_bytes T key k i j))) (field n (one (node (raw_entry T key k i j))) no_fields)
 entry-read back_read T room fs n f key k bytes at i j found kind map fits few has_room stands reads t rest =
     let small : n < 2 ^ 29 = (let a = fits.usable.small in let b = fits.number in omega (arith, a, b)) in
     let body = entry_bytes T key k i j in
@@ -343,7 +344,7 @@ mutual
   pub fields-reads : ReadsBack → (T : Table) → IsUsableTable T
       → (room m : ℕ) (bytes : List ℕ) (at last : ℕ) (t : Node) → length bytes < 2 ^ 64
       → HasFields T (fields_of T m) last t → depth t ≤ suc room → Stands bytes at (fields_bytes T (fields_of T m) t)
-      → AreRead T room (fields_of T m) bytes at (at + length (fields_bytes T (fields_of T m) t))
+      → AreReadInFront T room (fields_of T m) bytes at (at + length (fields_bytes T (fields_of T m) t))
       (raw_fields T (fields_of T m) t)
   fields-reads back_read T usable room m bytes at last no_fields few h d stands =
       read-nothing T room (fields_of T m) bytes at (at + length (fields_bytes T (fields_of T m) no_fields))
@@ -359,7 +360,7 @@ mutual
   content-reads : ReadsBack → (T : Table) → IsUsableTable T → (room m : ℕ) (bytes : List ℕ) (at n : ℕ) (c : Content)
       → length bytes < 2 ^ 64 → HasContent T (fields_of T m) n c → content_depth c ≤ suc room
       → Stands bytes at (content_bytes T (fields_of T m) n c)
-      → AreRead T room (fields_of T m) bytes at (at + length (content_bytes T (fields_of T m) n c))
+      → AreReadInFront T room (fields_of T m) bytes at (at + length (content_bytes T (fields_of T m) n c))
       (raw_content T (fields_of T m) n c)
   content-reads back_read T usable room m bytes at n (one i) few h d stands =
       let fs = fields_of T m in
@@ -392,7 +393,7 @@ mutual
       → (room m : ℕ) (bytes : List ℕ) (at n : ℕ) (f : Field) (k : Kind) (is : Items) → length bytes < 2 ^ 64
       → field_at (fields_of T m) n ≡ Some f → k ≡ f.kind → IsFound 0 n f → is_map f.label ≡ false → AreItems T k is
       → items_depth is ≤ suc room → Stands bytes at (records_bytes T n k is)
-      → AreRead T room (fields_of T m) bytes at (at + length (records_bytes T n k is)) (raw_records T n k is)
+      → AreReadInFront T room (fields_of T m) bytes at (at + length (records_bytes T n k is)) (raw_records T n k is)
   records-reads back_read T usable room m bytes at n f k no_items few found kind fits single h d stands =
       read-nothing T room (fields_of T m) bytes at (at + length (records_bytes T n k no_items)) (omega arith)
   records-reads back_read T usable room m bytes at n f k (item i is) few found kind fits single h d stands =
@@ -410,7 +411,7 @@ mutual
       → (room m : ℕ) (bytes : List ℕ) (at n : ℕ) (f : Field) (key k : Kind) (ps : Pairs) → length bytes < 2 ^ 64
       → field_at (fields_of T m) n ≡ Some f → k ≡ f.kind → f.label ≡ Map key → IsFound 0 n f → ArePairs T key k ps
       → pairs_depth ps ≤ suc room → Stands bytes at (entries_bytes T n key k ps)
-      → AreRead T room (fields_of T m) bytes at (at + length (entries_bytes T n key k ps)) (raw_entries T n key k ps)
+      → AreReadInFront T room (fields_of T m) bytes at (at + length (entries_bytes T n key k ps)) (raw_entries T n key k ps)
   entries-reads back_read T usable room m bytes at n f key k no_pairs few found kind map fits h d stands =
       read-nothing T room (fields_of T m) bytes at (at + length (entries_bytes T n key k no_pairs)) (omega arith)
   entries-reads back_read T usable room m bytes at n f key k (pair i j ps) few found kind map fits h d stands =

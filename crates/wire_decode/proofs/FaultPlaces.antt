@@ -10,7 +10,7 @@ use Rattle.wire_base.specs.declared.records.Payload.{Payload}
 use Rattle.wire_base.specs.declared.fault.WireFault.{WireFault}
 use Rattle.wire_decode.proofs.Payloads.{PayloadAt-span}
 use Rattle.wire_decode.specs.declared.fault.DecodeReason.{DecodeReason}
-use Rattle.wire_decode.specs.FaultWalk.{Faults, no_record, behind_other, behind_known, in_payload, Fails, no_elements, no_text, too_deep, in_message, in_entry, no_room}
+use Rattle.wire_decode.specs.FaultWalk.{MeetsFault, no_record, behind_other, behind_known, in_payload, Fails, no_elements, no_text, too_deep, in_message, in_entry, no_room}
 
 -- a record fault stands where bytes are read, or right behind a tag
 wire_place : (bytes : List ℕ) (at : ℕ) (f : WireFault) → at ≤ length bytes → FaultAt bytes at f → f.place ≤ length bytes
@@ -27,7 +27,7 @@ within-take bytes end place h = omega (arith, h, length-take end bytes)
 -- a span that is within the bytes begins within a front of them that ends where it does
 mutual
   faults_place : {T : Table} {room : ℕ} {fs : List Field} {bytes : List ℕ} {at : ℕ} {reason : DecodeReason} {place : ℕ}
-      → Faults T room fs bytes at reason place → place ≤ length bytes
+      → MeetsFault T room fs bytes at reason place → place ≤ length bytes
   faults_place (no_record f below fault r p) = let w = wire_place _ _ f (omega (arith, below)) fault in omega (arith, w, p)
   faults_place (behind_other r stands unknown rest) = faults_place rest
   faults_place (behind_known r f c stands known holds rest) = faults_place rest
@@ -43,5 +43,5 @@ mutual
   fails_place w (no_room key end t _ p _ _ _) = let v = subst (IsWithin _) p w in omega (arith, v.0, v.1)
 
 pub fault-within : {T : Table} {room : ℕ} {fs : List Field} {bytes : List ℕ} {at : ℕ} {reason : DecodeReason} {place : ℕ}
-    → Faults T room fs bytes at reason place → place ≤ length bytes
+    → MeetsFault T room fs bytes at reason place → place ≤ length bytes
 fault-within = faults_place

@@ -11,14 +11,15 @@ use Rattle.wire_base.specs.Records.{RecordAt, IsWithin}
 use Rattle.wire_base.specs.declared.records.Record.{Record}
 use Rattle.wire_base.specs.declared.records.Payload.{Payload}
 use Rattle.wire_base.specs.declared.records.Payload.TheVariants.{Len}
-use Rattle.wire_decode.specs.Reads.{Reads, Holds, entry_fields}
+use Rattle.wire_decode.specs.Reads.{Reads, Holds}
+use Rattle.wire_decode.specs.Known.{entry_fields}
 use Rattle.wire_decode.specs.Meaning.{Value, MeansIn, HasValue}
 use Rattle.wire_decode.proofs.WireLaws.{Law}
 use Rattle.wire_decode.proofs.Payloads.{PayloadAt-span}
 use Rattle.wire_decode.proofs.Taken.{meaning}
 use Rattle.wire_decode.proofs.Alike.{Inner, Entries, slice-elements, whole-elements, slice-reads, whole-reads, value-of, content-of}
 use Rattle.wire_decode.proofs.Agreeing.{agree}
-use Rattle.wire_decode.specs.FaultWalk.{Faults, no_record, behind_other, behind_known, in_payload, Fails, no_elements, no_text, too_deep, in_message, in_entry, no_room}
+use Rattle.wire_decode.specs.FaultWalk.{MeetsFault, no_record, behind_other, behind_known, in_payload, Fails, no_elements, no_text, too_deep, in_message, in_entry, no_room}
 use Rattle.wire_decode.specs.Faults.{IsSound, is_skipped, is_known_and_sound, AreSound, HasPayload, FirstFault}
 use Rattle.wire_decode.specs.Faults.{first_fault, IsFault, no_record_there, not_whole_elements, not_utf8}
 use Rattle.wire_decode.specs.Faults.{message_too_deep, inside_message, inside_entry, default_too_deep}
@@ -65,7 +66,7 @@ deep law T room fs bytes s e t w h = (agree law T room fs).to (slice_range bytes
 
 mutual
   pub first-of : Law → {T : Table} {room : ℕ} {fs : List Field} {bytes : List ℕ} {at : ℕ} {reason : DecodeReason} {place : ℕ}
-      → Faults T room fs bytes at reason place → FirstFault T room fs bytes at reason place
+      → MeetsFault T room fs bytes at reason place → FirstFault T room fs bytes at reason place
   first-of law {at = at} (no_record f more fault is there) = first_fault [] at refl (no_record_there f more fault is there)
   first-of law (behind_other r here other g) = in-front r here (is_skipped other) (first-of law g)
   first-of law {T} {room} {fs} {bytes} (behind_known r f c here at_f holds g) =
@@ -94,7 +95,7 @@ mutual
       (deep law T room (entry_fields key f.kind) bytes place e t (span bytes at r place e here is) reads) none why
 
 walk-one : Law → (T : Table) (room : ℕ) (fs : List Field) (bytes : List ℕ) (from : ℕ) (r : Record) (reason : DecodeReason) (place : ℕ)
-    → RecordAt bytes from r → IsSound T room fs bytes r → Faults T room fs bytes r.next reason place → Faults T room fs bytes from reason place
+    → RecordAt bytes from r → IsSound T room fs bytes r → MeetsFault T room fs bytes r.next reason place → MeetsFault T room fs bytes from reason place
 walk-one law T room fs bytes from r reason place here (is_skipped other) g = behind_other r here other g
 walk-one law T room fs bytes from r reason place here (is_known_and_sound f v at_f has) g =
     let c = content-of T room f.label f.kind bytes r.payload v (inner-of law T room)
@@ -103,18 +104,18 @@ walk-one law T room fs bytes from r reason place here (is_known_and_sound f v at
     behind_known r f c.0 here at_f c.1 g
 
 walk-behind : Law → (T : Table) (room : ℕ) (fs : List Field) (bytes : List ℕ) (from : ℕ) (before : List Record) (at : ℕ) (reason : DecodeReason) (place : ℕ)
-    → AreSound T room fs bytes from before at → Faults T room fs bytes at reason place → Faults T room fs bytes from reason place
-walk-behind law T room fs bytes from [] at reason place sound g = subst (λ (n : ℕ). Faults T room fs bytes n reason place) (sym sound) g
+    → AreSound T room fs bytes from before at → MeetsFault T room fs bytes at reason place → MeetsFault T room fs bytes from reason place
+walk-behind law T room fs bytes from [] at reason place sound g = subst (λ (n : ℕ). MeetsFault T room fs bytes n reason place) (sym sound) g
 walk-behind law T room fs bytes from (r ∷ rs) at reason place sound g =
     walk-one law T room fs bytes from r reason place sound.0 sound.1 (walk-behind law T room fs bytes r.next rs at reason place sound.2 g)
 
 mutual
   pub walk-of : Law → {T : Table} {room : ℕ} {fs : List Field} {bytes : List ℕ} {from : ℕ} {reason : DecodeReason} {place : ℕ}
-      → FirstFault T room fs bytes from reason place → Faults T room fs bytes from reason place
+      → FirstFault T room fs bytes from reason place → MeetsFault T room fs bytes from reason place
   walk-of law {T} {room} {fs} {bytes} {from} {reason} {place} (first_fault before at sound fault) = walk-behind law T room fs bytes from before at reason place sound (walk-fault law fault)
 
   walk-fault : Law → {T : Table} {room : ℕ} {fs : List Field} {bytes : List ℕ} {at : ℕ} {reason : DecodeReason} {place : ℕ}
-      → IsFault T room fs bytes at reason place → Faults T room fs bytes at reason place
+      → IsFault T room fs bytes at reason place → MeetsFault T room fs bytes at reason place
   walk-fault law (no_record_there f more fault is there) = no_record f more fault is there
   walk-fault law {T} {room} {fs} {bytes} {at} {reason} {place} (not_whole_elements f e h packed none why) =
       let w = span bytes at (record { number = h.number; payload = Len place e; next = h.next }) place e h.stands refl in

@@ -7,9 +7,10 @@ use Rattle.mrpc_table.specs.declared.tree.Value.{Value}
 use Rattle.mrpc_table.specs.declared.table.Kind.{Kind}
 use Rattle.mrpc_table.specs.declared.table.Kind.TheVariants.{Message as OfMessage}
 use Rattle.mrpc_table.specs.declared.table.Label.TheVariants.{Plain, Optional, Repeated, Packed, Map, Member}
-use Rattle.wire_decode.specs.Merged.{items_in, values_in, singles_in, join_fields, joined, last_value, singular, element, entry, present, present_if_set, some_items, some_pairs}
+use Rattle.wire_decode.specs.Merged.{items_in, values_in, singles_in, join_fields, joined, last_value, singular, element, entry}
+use Rattle.wire_decode.specs.Contents.{present, present_if_set, some_items, some_pairs}
 use Rattle.mrpc_table.specs.MapEntries.{last_of_each}
-use Rattle.wire_decode.specs.Gathered.{single_form, IsBoth, IsJoined, AreSingles, are_both, is_second, is_first}
+use Rattle.wire_decode.specs.TwoInOne.{single_form, MeansBoth, StandsForBoth, HoldsBoth, are_both, is_second, is_first}
 use Rattle.wire_decode.specs.declared.gather.Form.{Form}
 use Rattle.wire_decode.specs.declared.gather.Form.TheVariants.{Listed, Joined, Last}
 
@@ -66,7 +67,7 @@ values-both a b c before after e =
     (one_c ∙ ap (λ is. is ++ values_in after) (e ∙ sym pair_ab) ∙ sym two)
     ∙ sym (values_in-append before (a ∷ b ∷ after))
 
-pub listed-both : (a b c : Content) → values_in (c ∷ []) ≡ values_in (a ∷ []) ++ values_in (b ∷ []) → IsBoth Listed a b c
+pub listed-both : (a b c : Content) → values_in (c ∷ []) ≡ values_in (a ∷ []) ++ values_in (b ∷ []) → MeansBoth Listed a b c
 listed-both a b c e Repeated k form inner before after = ap (λ is. some_items (map (element inner k) is)) (values-both a b c before after e)
 listed-both a b c e Packed k form inner before after = ap (λ is. some_items (map (element inner k) is)) (values-both a b c before after e)
 listed-both a b c e (Map key) k form inner before after = ap (λ is. some_pairs (last_of_each key (map (entry inner key k) is))) (values-both a b c before after e)
@@ -88,7 +89,7 @@ form_for true = Joined
 form_for false = Last
 
 -- a singular field has the same value
-singular-both : (message : Bool) (i j v : Item) (k : Kind) → single_form k ≡ form_for message → IsJoined message i j v
+singular-both : (message : Bool) (i j v : Item) (k : Kind) → single_form k ≡ form_for message → StandsForBoth message i j v
     → (inner : ℕ → Node → Node) (is js : List Item)
     → singular inner k (is ++ v ∷ js) ≡ singular inner k (is ++ i ∷ j ∷ js)
 singular-both true i j v (OfMessage m) form h inner is js =
@@ -106,7 +107,7 @@ singles-two : (a b : Content) (before after : List Content) → singles_in (befo
     ++ (singles_in (a ∷ []) ++ (singles_in (b ∷ []) ++ singles_in after))
 singles-two a b before after = singles-at a before (b ∷ after) ∙ ap (λ is. singles_in before ++ (singles_in (a ∷ []) ++ is)) (singles_in-append (b ∷ []) after)
 
-pub singles-singular : (message : Bool) (a b c : Content) → AreSingles message a b c → (k : Kind)
+pub singles-singular : (message : Bool) (a b c : Content) → HoldsBoth message a b c → (k : Kind)
     → single_form k ≡ form_for message → (inner : ℕ → Node → Node) (before after : List Content)
     → singular inner k (singles_in (before ++ c ∷ after)) ≡ singular inner k (singles_in (before ++ a ∷ b ∷ after))
 singles-singular message a b c (are_both i j v at_a at_b at_c h) k form inner before after =
@@ -128,7 +129,7 @@ form-not_listed : (message : Bool) → Listed ≡ form_for message → ⊥
 form-not_listed true h = cc
 form-not_listed false h = cc
 
-pub singles-both : (message : Bool) (a b c : Content) → AreSingles message a b c → IsBoth (form_for message) a b c
+pub singles-both : (message : Bool) (a b c : Content) → HoldsBoth message a b c → MeansBoth (form_for message) a b c
 singles-both message a b c h Plain k form inner before after = ap present_if_set (singles-singular message a b c h k form inner before after)
 singles-both message a b c h Optional k form inner before after = ap present (singles-singular message a b c h k form inner before after)
 singles-both message a b c h (Member o) k form inner before after = ap present (singles-singular message a b c h k form inner before after)
@@ -136,11 +137,11 @@ singles-both message a b c h Repeated k form inner before after = absurd (form-n
 singles-both message a b c h Packed k form inner before after = absurd (form-not_listed message form)
 singles-both message a b c h (Map key) k form inner before after = absurd (form-not_listed message form)
 
-pub joined-both : (a b c : Content) (form : Form) → form ≡ Joined → AreSingles true a b c → IsBoth form a b c
-joined-both a b c form e h = let P : Form → Type 0 = λ f. IsBoth f a b c in subst P (sym e) (singles-both true a b c h)
+pub joined-both : (a b c : Content) (form : Form) → form ≡ Joined → HoldsBoth true a b c → MeansBoth form a b c
+joined-both a b c form e h = let P : Form → Type 0 = λ f. MeansBoth f a b c in subst P (sym e) (singles-both true a b c h)
 
-pub last-both : (a b c : Content) (form : Form) → form ≡ Last → AreSingles false a b c → IsBoth form a b c
-last-both a b c form e h = let P : Form → Type 0 = λ f. IsBoth f a b c in subst P (sym e) (singles-both false a b c h)
+pub last-both : (a b c : Content) (form : Form) → form ≡ Last → HoldsBoth false a b c → MeansBoth form a b c
+last-both a b c form e h = let P : Form → Type 0 = λ f. MeansBoth f a b c in subst P (sym e) (singles-both false a b c h)
 
-pub list-both : (a b c : Content) (form : Form) → form ≡ Listed → values_in (c ∷ []) ≡ values_in (a ∷ []) ++ values_in (b ∷ []) → IsBoth form a b c
-list-both a b c form e h = let P : Form → Type 0 = λ f. IsBoth f a b c in subst P (sym e) (listed-both a b c h)
+pub list-both : (a b c : Content) (form : Form) → form ≡ Listed → values_in (c ∷ []) ≡ values_in (a ∷ []) ++ values_in (b ∷ []) → MeansBoth form a b c
+list-both a b c form e h = let P : Form → Type 0 = λ f. MeansBoth f a b c in subst P (sym e) (listed-both a b c h)

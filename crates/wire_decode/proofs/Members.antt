@@ -9,7 +9,9 @@ use Rattle.mrpc_table.specs.Normal.{field_at, membership, members_in}
 use Rattle.mrpc_table.specs.declared.table.Label.{Label}
 use Rattle.mrpc_table.specs.declared.table.Label.TheVariants.{Plain, Optional, Repeated, Packed, Map, Member}
 use Rattle.mrpc_table.specs.declared.table.Field.{Field}
-use Rattle.wire_decode.specs.Merged.{contents_of, field_content, with_content, with_fields, oneof_of, oneof_at, is_same, are_rivals, is_overtaken, counted}
+use Rattle.wire_decode.specs.Merged.{contents_of, field_content, with_fields, is_overtaken, counted}
+use Rattle.wire_decode.specs.Contents.{with_content}
+use Rattle.wire_decode.specs.Oneofs.{oneof_of, oneof_at, is_same, are_rivals}
 use Rattle.wire_decode.proofs.Adding.{contents-other}
 use Rattle.wire_decode.proofs.Merging.{content-none}
 use Rattle.wire_decode.proofs.Oneofs.{oneof-found}

@@ -15,11 +15,16 @@ use Rattle.mrpc_table.specs.declared.table.Label.TheVariants.{Plain, Optional, R
 use Rattle.mrpc_table.specs.declared.table.Field.{Field}
 use Rattle.mrpc_table.specs.declared.table.Table.{Table}
 use Rattle.mrpc_table.specs.Ascending.{FieldsAscend}
-use Rattle.wire_decode.specs.Reads.{is_message}
-use Rattle.wire_decode.specs.Merged.{contents_of, items_from, singles_in, join_fields, singular, element, default_of}
-use Rattle.wire_decode.specs.Merged.{some_items, some_pairs, present, present_if_set, field_content, with_content}
+use Rattle.wire_decode.specs.Known.{is_message}
+use Rattle.wire_decode.specs.Merged.{contents_of, singles_in, join_fields, singular, element}
+use Rattle.wire_decode.specs.Contents.{items_from, default_of}
+use Rattle.wire_decode.specs.Contents.{some_items, some_pairs, present, present_if_set, with_content}
+use Rattle.wire_decode.specs.Merged.{field_content}
 use Rattle.wire_decode.specs.Merged.{with_fields, counted, merged}
-use Rattle.wire_decode.specs.Gathered.{RiseFrom, Rise, finish_at, finished_of, MeansAll, IsWith, part_of, IsGathered}
+use Rattle.wire_decode.specs.NumberOrder.{NumbersRiseFrom, NumbersRise}
+use Rattle.wire_decode.specs.Finished.{finish_at, finished_of}
+use Rattle.wire_decode.specs.EntryParts.{MeansAll, IsWithOneMore, found_part}
+use Rattle.wire_decode.specs.Gathered.{IsGathered}
 use Rattle.wire_decode.proofs.Adding.{contents-here, contents-other}
 use Rattle.wire_decode.proofs.Gathering.{singles_in-append}
 
@@ -56,7 +61,7 @@ singular-none : (inner : ℕ → Node → Node) (k : Kind) → singular inner k 
 singular-none inner (OfMessage m) = refl
 singular-none inner _ = refl
 
-pub part-all : (inner : ℕ → Node → Node) (k : Kind) (is : List Item) (o : Option Item) → MeansAll k is o → part_of inner k o ≡ unwrap_or (singular inner k is) (default_of k)
+pub part-all : (inner : ℕ → Node → Node) (k : Kind) (is : List Item) (o : Option Item) → MeansAll k is o → found_part inner k o ≡ unwrap_or (singular inner k is) (default_of k)
 part-all inner k is None h = sym (ap (λ x. unwrap_or x (default_of k)) (ap (singular inner k) h ∙ singular-none inner k))
 part-all inner k is (Some v) h = ap (λ o. unwrap_or o (default_of k)) (sym (singular-one inner k v) ∙ h inner [] ∙ ap (singular inner k) (append-nil is))
 
@@ -64,12 +69,12 @@ again : (is : List Item) (i : Item) (after : List Item) → (is ++ i ∷ []) ++ 
 again [] i after = refl
 again (j ∷ is) i after = ap (λ xs. j ∷ xs) (again is i after)
 
-pub means-more : (k : Kind) (is : List Item) (o : Option Item) (i v : Item) → MeansAll k is o → IsWith k o i v → MeansAll k (is ++ i ∷ []) (Some v)
+pub means-more : (k : Kind) (is : List Item) (o : Option Item) (i v : Item) → MeansAll k is o → IsWithOneMore k o i v → MeansAll k (is ++ i ∷ []) (Some v)
 means-more k is None i v h w inner after = ap (λ x. singular inner k (x ∷ after)) w ∙ ap (λ xs. singular inner k ((xs ++ i ∷ []) ++ after)) (sym h)
 means-more k is (Some b) i v h w inner after = w inner after ∙ h inner (i ∷ after) ∙ ap (singular inner k) (sym (again is i after))
 
 -- the fields by ascending number, each with one content
-rise-above : (m n : ℕ) (t : Node) → RiseFrom n t → m ≤ n → contents_of m t ≡ []
+rise-above : (m n : ℕ) (t : Node) → NumbersRiseFrom n t → m ≤ n → contents_of m t ≡ []
 rise-above m n no_fields h le = refl
 rise-above m n (field k c t) h le = contents-other m k c t (let a = h.0 in omega (arith, a, le)) ∙ rise-above m k t h.1 (let a = h.0 in omega (arith, a, le))
 
@@ -119,22 +124,22 @@ fields-empty inner [] = refl
 fields-empty inner (f ∷ fs) = ap (λ o. with_content f.number o (with_fields inner no_fields fs)) (content-none inner f.label f.kind) ∙ fields-empty inner fs
 
 -- numbers above the first field don't see it
-finished-skip : (inner : ℕ → Node → Node) (f : Field) (fs : List Field) (t : Node) → RiseFrom f.number t → finished_of inner (f ∷ fs) t ≡ finished_of inner fs t
+finished-skip : (inner : ℕ → Node → Node) (f : Field) (fs : List Field) (t : Node) → NumbersRiseFrom f.number t → finished_of inner (f ∷ fs) t ≡ finished_of inner fs t
 finished-skip inner f fs no_fields h = refl
 finished-skip inner f fs (field n c t) h =
     let other : f.number ≢ n = (let a = h.0 in omega (arith, a)) in
     ap (λ o. with_content n (option_and_then (λ f. field_content inner f.label f.kind (c ∷ [])) o) (finished_of inner (f ∷ fs) t)) (field-later f fs n other)
     ∙ ap (with_content n (finish_at inner fs n c)) (finished-skip inner f fs t (rise-lower f.number n t h.1 (let a = h.0 in omega (arith, a))))
   where
-    rise-lower : (m n : ℕ) (t : Node) → RiseFrom n t → m ≤ n → RiseFrom m t
+    rise-lower : (m n : ℕ) (t : Node) → NumbersRiseFrom n t → m ≤ n → NumbersRiseFrom m t
     rise-lower m n no_fields h le = tt
     rise-lower m n (field k c t) h le = (let a = h.0 in omega (arith, a, le), h.1)
 
-rise-low : (m n : ℕ) (t : Node) → RiseFrom n t → m ≤ n → RiseFrom m t
+rise-low : (m n : ℕ) (t : Node) → NumbersRiseFrom n t → m ≤ n → NumbersRiseFrom m t
 rise-low m n no_fields h le = tt
 rise-low m n (field k c t) h le = (let a = h.0 in omega (arith, a, le), h.1)
 
-rise-tail : (n : ℕ) (t : Node) → RiseFrom n t → Rise t
+rise-tail : (n : ℕ) (t : Node) → NumbersRiseFrom n t → NumbersRise t
 rise-tail n no_fields h = tt
 rise-tail n (field k c t) h = h.1
 
@@ -147,7 +152,7 @@ finished-none inner no_fields = refl
 finished-none inner (field n c t) = finished-none inner t
 
 finished-first : (inner : ℕ → Node → Node) (f : Field) (fs : List Field) (n : ℕ) (c : Content) (t : Node)
-    → FieldsAscend (f ∷ fs) → RiseFrom n t → f.number ≡ n → finished_of inner fs t ≡ with_fields inner t fs
+    → FieldsAscend (f ∷ fs) → NumbersRiseFrom n t → f.number ≡ n → finished_of inner fs t ≡ with_fields inner t fs
     → finished_of inner (f ∷ fs) (field n c t) ≡ with_fields inner (field n c t) (f ∷ fs)
 finished-first inner f fs n c t a r e rest =
     let left : finished_of inner (f ∷ fs) (field n c t) ≡ with_content n (field_content inner f.label f.kind (c ∷ [])) (finished_of inner fs t) =
@@ -163,7 +168,7 @@ finished-first inner f fs n c t a r e rest =
     left ∙ ap (with_content n (field_content inner f.label f.kind (c ∷ []))) rest ∙ sym (subst P (sym e) here)
 
 finished-higher : (inner : ℕ → Node → Node) (f : Field) (fs : List Field) (n : ℕ) (c : Content) (t : Node)
-    → RiseFrom n t → f.number < n → finished_of inner fs (field n c t) ≡ with_fields inner (field n c t) fs
+    → NumbersRiseFrom n t → f.number < n → finished_of inner fs (field n c t) ≡ with_fields inner (field n c t) fs
     → finished_of inner (f ∷ fs) (field n c t) ≡ with_fields inner (field n c t) (f ∷ fs)
 finished-higher inner f fs n c t r less rest =
     let none : contents_of f.number (field n c t) ≡ [] = contents-other f.number n c t (omega (arith, less)) ∙ rise-above f.number n t r (omega (arith, less)) in
@@ -181,7 +186,7 @@ finished-lower inner f fs n c t a low rest =
     ∙ rest ∙ sym (fields-skip inner n c t (f ∷ fs) above)
 
 finished-step : (inner : ℕ → Node → Node) (f : Field) (fs : List Field) (n : ℕ) (c : Content) (t : Node)
-    → FieldsAscend (f ∷ fs) → RiseFrom n t → finished_of inner fs t ≡ with_fields inner t fs
+    → FieldsAscend (f ∷ fs) → NumbersRiseFrom n t → finished_of inner fs t ≡ with_fields inner t fs
     → finished_of inner fs (field n c t) ≡ with_fields inner (field n c t) fs
     → finished_of inner (f ∷ fs) t ≡ with_fields inner t (f ∷ fs)
     → finished_of inner (f ∷ fs) (field n c t) ≡ with_fields inner (field n c t) (f ∷ fs)
@@ -195,7 +200,7 @@ finished-step inner f fs n c t a r both_shorter fields_shorter tree_shorter =
     (cases_lt n f.number)
 
 finished-all : (fuel : ℕ) (inner : ℕ → Node → Node) (fs : List Field) (t : Node) → length fs + size t ≤ fuel
-    → FieldsAscend fs → Rise t → finished_of inner fs t ≡ with_fields inner t fs
+    → FieldsAscend fs → NumbersRise t → finished_of inner fs t ≡ with_fields inner t fs
 finished-all fuel inner [] t le a r = finished-none inner t
 finished-all fuel inner (f ∷ fs) no_fields le a r = sym (fields-empty inner (f ∷ fs))
 finished-all zero inner (f ∷ fs) (field n c t) le a r = absurd (omega (arith, le))
@@ -305,7 +310,7 @@ noted-none m n c k o h is g =
     let P : List Item → Type 0 = λ xs. MeansAll k xs o in subst P (sym (ap (λ xs. is ++ xs) none ∙ append-nil is)) g
 
 pub noted-same : (m n : ℕ) (c : Content) (i v : Item) (k : Kind) (o : Option Item) → n ≡ m → c ≡ one i
-    → IsWith k o i v → (is : List Item) → MeansAll k is o
+    → IsWithOneMore k o i v → (is : List Item) → MeansAll k is o
     → MeansAll k (is ++ singles_in (contents_of m (field n c no_fields))) (Some v)
 noted-same m n c i v k o e is_c w is g =
     let here : singles_in (contents_of m (field n c no_fields)) ≡ i ∷ [] =

@@ -18,11 +18,14 @@ use Rattle.mrpc_table.specs.declared.table.Label.TheVariants.{Plain, Optional, R
 use Rattle.mrpc_table.specs.declared.table.Field.{Field}
 use Rattle.mrpc_table.specs.declared.table.Table.{Table}
 use Rattle.wire_decode.specs.Words.{is_map}
-use Rattle.wire_decode.specs.Reads.{is_message, HasRoom, entry_fields}
+use Rattle.wire_decode.specs.Known.{is_message, HasRoom, entry_fields}
 use Rattle.wire_decode.specs.Merges.{Merges}
-use Rattle.wire_decode.specs.Merged.{contents_of, items_from, values_in, singles_in, join_fields, joined, last_value}
-use Rattle.wire_decode.specs.Merged.{is_default, default_of, singular, element, part, entry, present, present_if_set}
-use Rattle.wire_decode.specs.Merged.{some_items, some_pairs, field_content, is_overtaken, counted, with_content}
+use Rattle.wire_decode.specs.Merged.{contents_of, values_in, singles_in, join_fields, joined, last_value}
+use Rattle.wire_decode.specs.Contents.{items_from}
+use Rattle.wire_decode.specs.Contents.{is_default, default_of, present, present_if_set}
+use Rattle.wire_decode.specs.Merged.{singular, element, part, entry}
+use Rattle.wire_decode.specs.Contents.{some_items, some_pairs, with_content}
+use Rattle.wire_decode.specs.Merged.{field_content, is_overtaken, counted}
 use Rattle.wire_decode.specs.Merged.{with_fields, merged}
 use Rattle.wire_decode.proofs.Merging.{element-same, merged-suc}
 use Rattle.wire_decode.proofs.WordForms.{AreBytes}

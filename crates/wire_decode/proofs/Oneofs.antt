@@ -10,10 +10,11 @@ use Rattle.mrpc_table.specs.Normal.{field_at}
 use Rattle.mrpc_table.specs.View.{content_of, node_of}
 use Rattle.mrpc_table.specs.declared.tree.FieldValue.{FieldValue}
 use Rattle.mrpc_table.specs.declared.table.Field.{Field}
-use Rattle.wire_decode.specs.Merged.{oneof_of, oneof_at, is_same, are_rivals, is_overtaken, counted}
+use Rattle.wire_decode.specs.Oneofs.{oneof_of, oneof_at, is_same, are_rivals}
+use Rattle.wire_decode.specs.Merged.{is_overtaken, counted}
 use Rattle.wire_decode.specs.declared.oneof.Behind.{Behind}
 use Rattle.wire_decode.specs.declared.oneof.Behind.TheVariants.{Nothing, Only, Several}
-use Rattle.wire_decode.specs.Behind.{overtakes, IsInFront, IsNoted, Tell, HasNoMember, IsCounted}
+use Rattle.wire_decode.specs.Behind.{overtakes, IsInFront, IsNotedAt, TellsOvertaken, HasNoMember, SaysIfCounted}
 
 pub and-false : (b : Bool) → (b && false) ≡ false
 and-false true = refl
@@ -64,14 +65,14 @@ rivals-other fs n m p e f = ap (λ o. not (m == n) && is_same o (oneof_at fs m))
 rivals-both : (fs : List Field) (n m p o : ℕ) → oneof_at fs n ≡ Some p → oneof_at fs m ≡ Some o → are_rivals fs n m ≡ (not (m == n) && (p == o))
 rivals-both fs n m p o e f = ap (λ x. not (m == n) && is_same x (oneof_at fs m)) e ∙ ap (λ x. not (m == n) && is_same (Some p) x) f
 
-pub counted-other : (fs : List Field) (bs : List Behind) (n : ℕ) → oneof_at fs n ≡ None → IsCounted fs bs n bs true
+pub counted-other : (fs : List Field) (bs : List Behind) (n : ℕ) → oneof_at fs n ≡ None → SaysIfCounted fs bs n bs true
 counted-other fs bs n e = record {
   counts = λ t h. sym (ap not (overtaken-none fs n t e));
   tells = λ t c h k p at. h k p at ∙ sym (ap (λ b. b || is_overtaken fs k t) (rivals-other fs k n p at e));
 }
 
 pub counted-member : (fs : List Field) (old new : List Behind) (n o : ℕ) (b : Bool) → oneof_at fs n ≡ Some o
-    → IsNoted old o n new → b ≡ not (overtakes (get_or old o Nothing) n) → IsCounted fs old n new b
+    → IsNotedAt old o n new → b ≡ not (overtakes (get_or old o Nothing) n) → SaysIfCounted fs old n new b
 counted-member fs old new n o b e noted is = record {
   counts = λ t h. is ∙ ap not (h n o e);
   tells = λ t c h k p at.
@@ -86,7 +87,7 @@ counted-member fs old new n o b e noted is = record {
       (eqb_tells p o);
 }
 
-pub tell-none : (fs : List Field) → Tell fs [] no_fields
+pub tell-none : (fs : List Field) → TellsOvertaken fs [] no_fields
 tell-none fs n o e = refl
 
 pub counted-kept : (fs : List Field) (n : ℕ) (c : Content) (t : Node) → true ≡ not (is_overtaken fs n t) → counted fs (field n c t) ≡ field n c (counted fs t)

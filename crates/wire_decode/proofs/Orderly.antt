@@ -11,8 +11,10 @@ use Rattle.mrpc_table.specs.declared.table.Table.{Table}
 use Rattle.wire_base.specs.Records.{RecordAt, TagAt}
 use Rattle.wire_base.specs.declared.records.Record.{Record}
 use Rattle.mrpc_table.specs.Ascending.{FieldsAscend}
-use Rattle.wire_decode.specs.Gathered.{AreAtMost}
-use Rattle.wire_decode.specs.Merged.{contents_of, join_fields, field_content, with_content, with_fields, counted, merged, oneof_of, oneof_at, are_rivals, is_overtaken}
+use Rattle.wire_decode.specs.NumberOrder.{NumbersAreAtMost}
+use Rattle.wire_decode.specs.Merged.{contents_of, join_fields, field_content, with_fields, counted, merged, is_overtaken}
+use Rattle.wire_decode.specs.Contents.{with_content}
+use Rattle.wire_decode.specs.Oneofs.{oneof_of, oneof_at, are_rivals}
 use Rattle.wire_decode.specs.Ordered.{AreRun, none_yet, one_more, IsWhole, IsFieldRead, may_follow, oneofs_with}
 use Rattle.wire_decode.proofs.Adding.{contents-other, contents-pushed, contents-pushed_other, most-pushed}
 use Rattle.wire_decode.proofs.Merging.{content-none, field-here, field-later}
@@ -40,17 +42,17 @@ all-other : (t : Node) (m n : ℕ) (cs : List Content) → m ≢ n → contents_
 all-other t m n [] h = refl
 all-other t m n (c ∷ cs) h = all-other (push_field t n c) m n cs h ∙ contents-pushed_other m n c t h
 
-pub all-most : (t : Node) (m n : ℕ) (cs : List Content) → n ≤ m → AreAtMost m t → AreAtMost m (push_all t n cs)
+pub all-most : (t : Node) (m n : ℕ) (cs : List Content) → n ≤ m → NumbersAreAtMost m t → NumbersAreAtMost m (push_all t n cs)
 all-most t m n [] le h = h
 all-most t m n (c ∷ cs) le h = all-most (push_field t n c) m n cs le (most-pushed m n c t le h)
 
 -- ---- the fields of a message
 
-most-none : (m n : ℕ) (t : Node) → n < m → AreAtMost n t → contents_of m t ≡ []
+most-none : (m n : ℕ) (t : Node) → n < m → NumbersAreAtMost n t → contents_of m t ≡ []
 most-none m n no_fields less h = refl
 most-none m n (field k c t) less h = contents-other m k c t (let a = h.0 in omega (arith, a, less)) ∙ most-none m n t less h.1
 
-pub most-higher : (m n : ℕ) (t : Node) → n ≤ m → AreAtMost n t → AreAtMost m t
+pub most-higher : (m n : ℕ) (t : Node) → n ≤ m → NumbersAreAtMost n t → NumbersAreAtMost m t
 most-higher m n no_fields le h = tt
 most-higher m n (field k c t) le h = (let a = h.0 in omega (arith, a, le), most-higher m n t le h.1)
 
@@ -71,7 +73,7 @@ tail-ascends x [] h = tt
 tail-ascends x (y ∷ ys) h = h.1
 
 -- fields above all numbers have nothing
-fields-none : (inner : ℕ → Node → Node) (n : ℕ) (t : Node) (fs : List Field) → AreAtMost n t → AreAbove n fs → with_fields inner t fs ≡ no_fields
+fields-none : (inner : ℕ → Node → Node) (n : ℕ) (t : Node) (fs : List Field) → NumbersAreAtMost n t → AreAbove n fs → with_fields inner t fs ≡ no_fields
 fields-none inner n t [] most h = refl
 fields-none inner n t (f ∷ fs) most h =
     ap (λ cs. with_content f.number (field_content inner f.label f.kind cs) (with_fields inner t fs)) (most-none f.number n t h.0 most)
@@ -86,14 +88,14 @@ some-same : (f g : Field) → Some f ≡ Some g → f ≡ g
 some-same f g e = ap (λ o. elim o [ Some x ↦ x | None ↦ f ]) e
 
 fields-here : (inner : ℕ → Node → Node) (g : Field) (gs : List Field) (t : Node) (last n : ℕ) (cs : List Content)
-    (f : Field) → FieldsAscend (g ∷ gs) → field_at (g ∷ gs) n ≡ Some f → AreAtMost last t → last < n → g.number ≡ n
+    (f : Field) → FieldsAscend (g ∷ gs) → field_at (g ∷ gs) n ≡ Some f → NumbersAreAtMost last t → last < n → g.number ≡ n
     → with_fields inner (push_all t n cs) (g ∷ gs) ≡ join_fields (with_fields inner t (g ∷ gs))
     (with_content n (field_content inner f.label f.kind cs) no_fields)
 fields-here inner g gs t last n cs f a at most less e =
     let now = push_all t n cs in
     let above : AreAbove n gs = subst (λ k. AreAbove k gs) e (first-above g gs a) in
     let none : contents_of n t ≡ [] = most-none n last t less most in
-    let all : AreAtMost n now = all-most t n n cs (omega arith) (most-higher n last t (omega (arith, less)) most) in
+    let all : NumbersAreAtMost n now = all-most t n n cs (omega arith) (most-higher n last t (omega (arith, less)) most) in
     let own : contents_of g.number now ≡ cs = ap (λ k. contents_of k now) e ∙ all-here t n cs ∙ ap (λ x. x ++ cs) none in
     let same : g ≡ f = some-same g f (sym (field-here g gs n e) ∙ at) in
     let before : with_fields inner t (g ∷ gs) ≡ no_fields = fields-none inner last t (g ∷ gs) most (omega (arith, e, less), above-lower last n gs (omega (arith, less)) above) in
@@ -105,7 +107,7 @@ fields-here inner g gs t last n cs f a at most less e =
 
 -- records of a field above all that were read add what it has
 pub fields-more : (inner : ℕ → Node → Node) (fs : List Field) (t : Node) (last n : ℕ) (cs : List Content) (f : Field)
-    → FieldsAscend fs → field_at fs n ≡ Some f → AreAtMost last t → last < n
+    → FieldsAscend fs → field_at fs n ≡ Some f → NumbersAreAtMost last t → last < n
     → with_fields inner (push_all t n cs) fs ≡ join_fields (with_fields inner t fs)
     (with_content n (field_content inner f.label f.kind cs) no_fields)
 fields-more inner [] t last n cs f a at most less = absurd (let bad : None ≡ Some f = at in cc)
@@ -195,7 +197,7 @@ oneofs-all fs k n (c ∷ cs) t own h = oneofs-all fs k n cs (push_field t n c) o
 pub record SoFar (T : Table) (room : ℕ) (fs : List Field) (bytes : List ℕ) (start at last oneofs : ℕ) (t : Node) : Type 0 where
   pub raw : Node
   pub read : Read T room fs bytes start at raw
-  pub most : AreAtMost last raw
+  pub most : NumbersAreAtMost last raw
   pub clear : Clear fs raw
   pub below : OneofsBelow fs oneofs raw
   pub same : t ≡ with_fields (merged T room) raw fs

@@ -23,10 +23,14 @@ use Rattle.wire_base.specs.declared.records.Payload.{Payload}
 use Rattle.wire_base.specs.declared.records.Payload.TheVariants.{Varint, I64, I32, Len}
 use Rattle.mrpc_table.specs.MapEntries.{last_of_each}
 use Rattle.wire_decode.specs.Words.{word_of, number_in, payload_type, is_map, is_list, may_be_packed, AreElements}
-use Rattle.wire_decode.specs.Reads.{read_end, read_known, holds_number, holds_piece, holds_text, holds_octets, holds_message, holds_entry, HasRoom, is_message, numbers}
-use Rattle.wire_decode.specs.Merged.{items_in, values_in, join_fields, merged, with_content, field_content, singular}
-use Rattle.wire_decode.specs.Merged.{element, entry, present, present_if_set, some_items, some_pairs, default_of}
-use Rattle.wire_decode.specs.Ordered.{IsWhole, IsValue, AreRun, none_yet, one_more, IsFieldRead, AreValues, AreEntries, IsPair, is_single, is_run, single_content}
+use Rattle.wire_decode.specs.Reads.{read_end, read_known, holds_number, holds_piece, holds_text, holds_octets, holds_message, holds_entry, numbers}
+use Rattle.wire_decode.specs.Known.{HasRoom, is_message}
+use Rattle.wire_decode.specs.Merged.{items_in, values_in, join_fields, merged, field_content, singular}
+use Rattle.wire_decode.specs.Contents.{with_content}
+use Rattle.wire_decode.specs.Merged.{element, entry}
+use Rattle.wire_decode.specs.Contents.{present, present_if_set, some_items, some_pairs, default_of}
+use Rattle.wire_decode.specs.Ordered.{IsWhole, IsValue, AreRun, none_yet, one_more, IsFieldRead, AreValues, AreEntries, IsPair, is_run}
+use Rattle.wire_decode.specs.Contents.{is_single, single_content}
 use Rattle.wire_decode.proofs.Merging.{element-same, singular-one, merged-suc, map-pushed}
 use Rattle.wire_decode.proofs.Reading.{join-none}
 

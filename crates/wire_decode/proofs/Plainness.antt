@@ -4,7 +4,7 @@ use Rattle.mrpc_table.specs.Words.{is_numeric, IsWordForm}
 use Rattle.mrpc_table.specs.Normal.{IsRun}
 use Rattle.mrpc_table.specs.declared.table.Kind.{Kind}
 use Rattle.mrpc_table.specs.declared.table.Kind.TheVariants.{Text, Octets, Message as OfMessage}
-use Rattle.wire_decode.specs.Reads.{is_message}
+use Rattle.wire_decode.specs.Known.{is_message}
 
 pub word-numeric : (k : Kind) (n : ℕ) → IsWordForm k n → is_numeric k ≡ true
 word-numeric Text n h = absurd h

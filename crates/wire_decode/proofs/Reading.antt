@@ -9,15 +9,16 @@ use Rattle.wire_base.specs.declared.records.Record.{Record}
 use Rattle.wire_base.specs.declared.records.Payload.{Payload}
 use Rattle.wire_base.specs.declared.records.Payload.TheVariants.{Varint, I64, I32, Len}
 use Rattle.wire_decode.proofs.Payloads.{VarintAt-moves}
-use Rattle.wire_decode.specs.Reads.{Reads, read_end, read_other, read_known, Holds, is_known}
-use Rattle.wire_decode.specs.FaultWalk.{Faults, behind_other, behind_known}
+use Rattle.wire_decode.specs.Reads.{Reads, read_end, read_other, read_known, Holds}
+use Rattle.wire_decode.specs.Known.{is_known}
+use Rattle.wire_decode.specs.FaultWalk.{MeetsFault, behind_other, behind_known}
 use Rattle.wire_decode.specs.Merged.{join_fields}
 use Rattle.wire_decode.specs.declared.fault.DecodeReason.{DecodeReason}
 
 -- records that were read, with what is still to come
 pub record Read (T : Table) (room : ℕ) (fs : List Field) (bytes : List ℕ) (start at : ℕ) (done : Node) : Type 0 where
   pub good : (t : Node) → Reads T room fs bytes at t → Reads T room fs bytes start (join_fields done t)
-  pub bad : (reason : DecodeReason) (place : ℕ) → Faults T room fs bytes at reason place → Faults T room fs bytes start reason place
+  pub bad : (reason : DecodeReason) (place : ℕ) → MeetsFault T room fs bytes at reason place → MeetsFault T room fs bytes start reason place
 
 pub read-start : (T : Table) (room : ℕ) (fs : List Field) (bytes : List ℕ) (start : ℕ) → Read T room fs bytes start start no_fields
 read-start T room fs bytes start = record { good = λ t h. h; bad = λ r p h. h }

@@ -6,6 +6,7 @@ use Rattle.std.specs.List.{slice_range}
 use Rattle.std.specs.Str.{IsUtf8}
 use Rattle.std.specs.Int.{w32, w64, from_le_bytes}
 use Rattle.std.proofs.lemmas.List.{length-take, length-drop, length-append, drop-drop, drop-take, drop_at, take-append-le, drop-append-le}
+use Rattle.std.specs.List.{concat}
 use Rattle.mrpc_table.specs.Node.{Node, field, Content, one, Item, number, run, node}
 use Rattle.mrpc_table.specs.Normal.{fields_of, field_at}
 use Rattle.mrpc_table.specs.declared.table.Kind.{Kind}
@@ -18,9 +19,10 @@ use Rattle.wire_base.specs.declared.records.Record.{Record}
 use Rattle.wire_base.specs.declared.records.Payload.{Payload}
 use Rattle.wire_base.specs.declared.records.Payload.TheVariants.{Varint, I64, I32, Len}
 use Rattle.wire_decode.specs.Words.{number_in, payload_type, suits, word_of, AreElements}
-use Rattle.wire_decode.specs.Reads.{Reads, read_end, read_other, read_known, Holds, holds_number, holds_piece, holds_text, holds_octets, holds_message, holds_entry, is_known, entry_fields}
+use Rattle.wire_decode.specs.Reads.{Reads, read_end, read_other, read_known, Holds, holds_number, holds_piece, holds_text, holds_octets, holds_message, holds_entry}
+use Rattle.wire_decode.specs.Known.{is_known, entry_fields}
 use Rattle.wire_decode.specs.Merged.{join_fields, joined}
-use Rattle.wire_decode.specs.Joined.{joined_bytes, AreReadEach}
+use Rattle.wire_decode.specs.Joined.{AreReadEach}
 use Rattle.wire_decode.proofs.Payloads.{VarintAt-moves, PayloadAt-span}
 
 -- ---- bytes in front
@@ -339,10 +341,10 @@ reads-joined T room fs a b t u first second =
     let here : Reads T room fs (a ++ b) (length a + 0) u = reads-to (length a) (a ++ b) b (omega (arith, length-append a b)) (sym (drop_at a b (length a) refl)) second in
     reads-front a b u first (subst (λ (n : ℕ). Reads T room fs (a ++ b) n u) (let e : length a + 0 ≡ length a = omega arith in e) here)
 
-pub payloads-joined : (T : Table) (room : ℕ) (fs : List Field) (ps : List (List ℕ)) (is : List Item) → AreReadEach T room fs ps is → Reads T room fs (joined_bytes ps) 0 (joined is)
+pub payloads-joined : (T : Table) (room : ℕ) (fs : List Field) (ps : List (List ℕ)) (is : List Item) → AreReadEach T room fs ps is → Reads T room fs (concat ps) 0 (joined is)
 payloads-joined T room fs [] [] h = read_end refl refl
 payloads-joined T room fs [] (i ∷ is) h = absurd h
 payloads-joined T room fs (p ∷ ps) [] h = absurd h
 payloads-joined T room fs (p ∷ ps) (number n ∷ is) h = absurd h
 payloads-joined T room fs (p ∷ ps) (run bytes ∷ is) h = absurd h
-payloads-joined T room fs (p ∷ ps) (node t ∷ is) h = reads-joined T room fs p (joined_bytes ps) t (joined is) h.0 (payloads-joined T room fs ps is h.1)
+payloads-joined T room fs (p ∷ ps) (node t ∷ is) h = reads-joined T room fs p (concat ps) t (joined is) h.0 (payloads-joined T room fs ps is h.1)

@@ -16,7 +16,8 @@ use Rattle.mrpc_table.specs.WireTypes.{wire_type_of}
 use Rattle.wire_base.specs.declared.records.Payload.{Payload}
 use Rattle.wire_decode.specs.Words.{word_of, number_in, is_map, AreElements}
 use Rattle.wire_decode.specs.Reads.{Reads, read_end, read_other, read_known, Holds, holds_number, holds_piece}
-use Rattle.wire_decode.specs.Reads.{holds_text, holds_octets, holds_message, holds_entry, HasRoom, entry_fields}
+use Rattle.wire_decode.specs.Reads.{holds_text, holds_octets, holds_message, holds_entry}
+use Rattle.wire_decode.specs.Known.{HasRoom, entry_fields}
 use Rattle.wire_decode.specs.Reads.{numbers}
 use Rattle.wire_decode.specs.Merged.{contents_of, items_in, values_in, singles_in, join_fields, joined}
 use Rattle.wire_decode.proofs.Adding.{contents-here, contents-other}

@@ -12,10 +12,14 @@ use Rattle.mrpc_table.specs.declared.table.Label.TheVariants.{Optional}
 use Rattle.mrpc_table.specs.declared.table.Field.{Field}
 use Rattle.mrpc_table.specs.declared.table.Table.{Table}
 use Rattle.mrpc_table.specs.Ascending.{FieldsAscend, AllAscend}
-use Rattle.wire_decode.specs.Reads.{entry_fields}
-use Rattle.wire_decode.specs.Merged.{contents_of, singles_in, singular, default_of, part, entry, present}
-use Rattle.wire_decode.specs.Merged.{field_content, with_content, with_fields, is_overtaken, is_same, counted}
-use Rattle.wire_decode.specs.Merged.{oneof_of, oneof_at, merged}
+use Rattle.wire_decode.specs.Known.{entry_fields}
+use Rattle.wire_decode.specs.Merged.{contents_of, singles_in, singular, part, entry}
+use Rattle.wire_decode.specs.Contents.{default_of, present}
+use Rattle.wire_decode.specs.Merged.{field_content, with_fields, is_overtaken, counted}
+use Rattle.wire_decode.specs.Contents.{with_content}
+use Rattle.wire_decode.specs.Oneofs.{is_same}
+use Rattle.wire_decode.specs.Oneofs.{oneof_of, oneof_at}
+use Rattle.wire_decode.specs.Merged.{merged}
 use Rattle.wire_decode.specs.Meaning.{item_or_default}
 use Rattle.wire_decode.proofs.Adding.{contents-here, contents-other}
 use Rattle.wire_decode.proofs.Merging.{AreAbove, ascend-above, first-least, field-here, field-later}

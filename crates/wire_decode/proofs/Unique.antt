@@ -24,9 +24,11 @@ use Rattle.wire_decode.proofs.Payloads.{PayloadAt-ahead, PayloadAt-within, Recor
 use Rattle.std.proofs.lemmas.Bool.{or_left, or_right, eq-eqb}
 use Rattle.wire_decode.specs.Words.{word_of, number_in, payload_type, own_type, is_map, may_be_packed, suits, AreElements}
 use Rattle.wire_decode.specs.Reads.{Reads, read_end, read_other, read_known, Holds, holds_number, holds_piece}
-use Rattle.wire_decode.specs.Reads.{holds_text, holds_octets, holds_message, holds_entry, numbers, entry_fields}
-use Rattle.wire_decode.specs.Reads.{is_known}
-use Rattle.wire_decode.specs.FaultWalk.{reason_of, Faults, no_record, behind_other, behind_known, in_payload, Fails, no_elements, no_text, too_deep, in_message, in_entry, no_room}
+use Rattle.wire_decode.specs.Reads.{holds_text, holds_octets, holds_message, holds_entry, numbers}
+use Rattle.wire_decode.specs.Known.{entry_fields}
+use Rattle.wire_decode.specs.Known.{is_known}
+use Rattle.wire_decode.specs.Reason.{reason_of}
+use Rattle.wire_decode.specs.FaultWalk.{MeetsFault, no_record, behind_other, behind_known, in_payload, Fails, no_elements, no_text, too_deep, in_message, in_entry, no_room}
 use Rattle.wire_decode.specs.declared.fault.DecodeReason.{DecodeReason}
 
 -- a record is within the bytes
@@ -268,14 +270,14 @@ fail-kinds (no_room key e t map at reads room is) = (omega arith, λ e. omega (a
 mutual
   pub reads-faultless : Law
       → {T : Table} {room : ℕ} {fs : List Field} {bytes : List ℕ} {at : ℕ} {t : Node} {reason : DecodeReason} {place
-      : ℕ} → Reads T room fs bytes at t → Faults T room fs bytes at reason place → ⊥
+      : ℕ} → Reads T room fs bytes at t → MeetsFault T room fs bytes at reason place → ⊥
   reads-faultless law (read_end a b) (no_record f more fault is at_is) = omega (arith, more, a)
   reads-faultless law {bytes = bytes} {at = at} (read_end a b) (behind_other r here other g) = let h = record-ahead bytes at r here in omega (arith, h, a)
   reads-faultless law {bytes = bytes} {at = at} (read_end a b) (behind_known r f c here at_f holds g) = let h = record-ahead bytes at r here in omega (arith, h, a)
   reads-faultless law {bytes = bytes} {at = at} (read_end a b) (in_payload r f here at_f fails) = let h = record-ahead bytes at r here in omega (arith, h, a)
   reads-faultless law {bytes = bytes} {at = at} (read_other r here other g) (no_record f more fault is at_is) = law.not_both bytes at r f here fault
   reads-faultless law {T} {room} {fs} {bytes} {at} {t} {reason} {place} (read_other r here other g) (behind_other r' here' other' g') =
-      let P : Record → Type 0 = λ x. Faults T room fs bytes x.next reason place in
+      let P : Record → Type 0 = λ x. MeetsFault T room fs bytes x.next reason place in
       reads-faultless law g (subst P (law.one_record bytes at r' r here' here) g')
   reads-faultless law {T} {room} {fs} {bytes} {at} (read_other r here other g) (behind_known r' f c here' at_f holds g') =
       both (is_known fs r') (known fs r' f at_f (holds-suits holds)) (ap (is_known fs) (law.one_record bytes at r' r here' here) ∙ other)
@@ -285,7 +287,7 @@ mutual
   reads-faultless law {T} {room} {fs} {bytes} {at} (read_known r f c rest here at_f holds is g) (behind_other r' here' other' g') =
       both (is_known fs r) (known fs r f at_f (holds-suits holds)) (ap (is_known fs) (law.one_record bytes at r r' here here') ∙ other')
   reads-faultless law {T} {room} {fs} {bytes} {at} {t} {reason} {place} (read_known r f c rest here at_f holds is g) (behind_known r' f' c' here' at_f' holds' g') =
-      let P : Record → Type 0 = λ x. Faults T room fs bytes x.next reason place in
+      let P : Record → Type 0 = λ x. MeetsFault T room fs bytes x.next reason place in
       reads-faultless law g (subst P (law.one_record bytes at r' r here' here) g')
   reads-faultless law {T} {room} {fs} {bytes} {at} {t} {reason} {place} (read_known r f c rest here at_f holds is g) (in_payload r' f' here' at_f' fails) =
       let same : r' ≡ r = law.one_record bytes at r' r here' here in
@@ -324,10 +326,10 @@ mutual
       let messages : OfMessage i' ≡ OfMessage i = sym kind' ∙ kind in
       let at_i : i' ≡ i = cc in
       let rooms : inside' ≡ inside = (let h : suc inside' ≡ suc inside = sym room_is' ∙ room_is in omega (arith, h)) in
-      let A : ℕ → Type 0 = λ x. Faults T x (fields_of T i') (take e' bytes) s' reason place in
-      let B : ℕ → Type 0 = λ x. Faults T inside (fields_of T x) (take e' bytes) s' reason place in
-      let C : ℕ → Type 0 = λ x. Faults T inside (fields_of T i) (take x bytes) s' reason place in
-      let D : ℕ → Type 0 = λ x. Faults T inside (fields_of T i) (take e bytes) x reason place in
+      let A : ℕ → Type 0 = λ x. MeetsFault T x (fields_of T i') (take e' bytes) s' reason place in
+      let B : ℕ → Type 0 = λ x. MeetsFault T inside (fields_of T x) (take e' bytes) s' reason place in
+      let C : ℕ → Type 0 = λ x. MeetsFault T inside (fields_of T i) (take x bytes) s' reason place in
+      let D : ℕ → Type 0 = λ x. MeetsFault T inside (fields_of T i) (take e bytes) x reason place in
       reads-faultless law reads (subst D starts (subst C ends (subst B at_i (subst A rooms faults'))))
   holds-faultless law {T} {room} {label} {k} {bytes} {p} {c} {reason} {place} (holds_entry key s e t map at reads room_is is) (in_entry key' s' e' map' at' faults') =
       let same : Len s' e' ≡ Len s e = sym at' ∙ at in
@@ -335,9 +337,9 @@ mutual
       let ends : e' ≡ e = cc in
       let maps : Map key' ≡ Map key = sym map' ∙ map in
       let keys : key' ≡ key = cc in
-      let B : Kind → Type 0 = λ x. Faults T room (entry_fields x k) (take e' bytes) s' reason place in
-      let C : ℕ → Type 0 = λ x. Faults T room (entry_fields key k) (take x bytes) s' reason place in
-      let D : ℕ → Type 0 = λ x. Faults T room (entry_fields key k) (take e bytes) x reason place in
+      let B : Kind → Type 0 = λ x. MeetsFault T room (entry_fields x k) (take e' bytes) s' reason place in
+      let C : ℕ → Type 0 = λ x. MeetsFault T room (entry_fields key k) (take x bytes) s' reason place in
+      let D : ℕ → Type 0 = λ x. MeetsFault T room (entry_fields key k) (take e bytes) x reason place in
       reads-faultless law reads (subst D starts (subst C ends (subst B keys faults')))
   holds-faultless law (holds_entry key s e t map at reads room_is is) (no_room key' e' t' map' at' reads' none is') = none room_is
   holds-faultless law {T} {room} {label} {k} {bytes} {p} {c} (holds_number single numeric typed is) b =
@@ -369,16 +371,16 @@ entry-faultless : Law
     → (T : Table) (room : ℕ) (label : Label) (k : Kind) (bytes : List ℕ) (p : Payload) (key key' : Kind)
     (s e s' e' : ℕ) (t : Node) (reason : DecodeReason) (place : ℕ)
     → label ≡ Map key → label ≡ Map key' → p ≡ Len s e → p ≡ Len s' e'
-    → Reads T room (entry_fields key' k) (take e' bytes) s' t → Faults T room (entry_fields key k) (take e bytes) s reason place → ⊥
+    → Reads T room (entry_fields key' k) (take e' bytes) s' t → MeetsFault T room (entry_fields key k) (take e bytes) s reason place → ⊥
 entry-faultless law T room label k bytes p key key' s e s' e' t reason place map map' at at' reads faults =
     let same : Len s e ≡ Len s' e' = sym at ∙ at' in
     let starts : s ≡ s' = cc in
     let ends : e ≡ e' = cc in
     let maps : Map key ≡ Map key' = sym map ∙ map' in
     let keys : key ≡ key' = cc in
-    let B : Kind → Type 0 = λ x. Faults T room (entry_fields x k) (take e bytes) s reason place in
-    let C : ℕ → Type 0 = λ x. Faults T room (entry_fields key' k) (take x bytes) s reason place in
-    let D : ℕ → Type 0 = λ x. Faults T room (entry_fields key' k) (take e' bytes) x reason place in
+    let B : Kind → Type 0 = λ x. MeetsFault T room (entry_fields x k) (take e bytes) s reason place in
+    let C : ℕ → Type 0 = λ x. MeetsFault T room (entry_fields key' k) (take x bytes) s reason place in
+    let D : ℕ → Type 0 = λ x. MeetsFault T room (entry_fields key' k) (take e' bytes) x reason place in
     reads-faultless law reads (subst D starts (subst C ends (subst B keys faults)))
 
 len-start : (p : Payload) (s e s' e' : ℕ) → p ≡ Len s e → p ≡ Len s' e' → s ≡ s'
@@ -387,7 +389,7 @@ len-start p s e s' e' a b = let same : Len s e ≡ Len s' e' = sym a ∙ b in cc
 -- a first fault is the only one
 mutual
   pub faults-same : Law → {T : Table} {room : ℕ} {fs : List Field} {bytes : List ℕ} {at : ℕ} {reason why : DecodeReason} {place there : ℕ}
-      → Faults T room fs bytes at reason place → Faults T room fs bytes at why there → (reason ≡ why) × (place ≡ there)
+      → MeetsFault T room fs bytes at reason place → MeetsFault T room fs bytes at why there → (reason ≡ why) × (place ≡ there)
   faults-same law {bytes = bytes} {at = at} (no_record f more fault is at_is) (no_record g more' fault' is' at_is') =
       let one : f ≡ g = law.one_fault bytes at f g fault fault' in
       (is ∙ ap (λ (x : WireFault). reason_of x.reason) one ∙ sym is', at_is ∙ ap (λ (x : WireFault). x.place) one ∙ sym at_is')
@@ -396,7 +398,7 @@ mutual
   faults-same law {bytes = bytes} {at = at} (no_record f more fault is at_is) (in_payload r h here at_f fails) = absurd (law.not_both bytes at r f here fault)
   faults-same law {bytes = bytes} {at = at} (behind_other r here other g) (no_record f more fault is at_is) = absurd (law.not_both bytes at r f here fault)
   faults-same law {T} {room} {fs} {bytes} {at} {reason} {why} {place} {there} (behind_other r here other g) (behind_other r' here' other' g') =
-      let P : Record → Type 0 = λ x. Faults T room fs bytes x.next why there in
+      let P : Record → Type 0 = λ x. MeetsFault T room fs bytes x.next why there in
       faults-same law g (subst P (law.one_record bytes at r' r here' here) g')
   faults-same law {T} {room} {fs} {bytes} {at} (behind_other r here other g) (behind_known r' f c here' at_f holds g') =
       absurd (both (is_known fs r') (known fs r' f at_f (holds-suits holds)) (ap (is_known fs) (law.one_record bytes at r' r here' here) ∙ other))
@@ -406,7 +408,7 @@ mutual
   faults-same law {T} {room} {fs} {bytes} {at} (behind_known r f c here at_f holds g) (behind_other r' here' other g') =
       absurd (both (is_known fs r) (known fs r f at_f (holds-suits holds)) (ap (is_known fs) (law.one_record bytes at r r' here here') ∙ other))
   faults-same law {T} {room} {fs} {bytes} {at} {reason} {why} {place} {there} (behind_known r f c here at_f holds g) (behind_known r' f' c' here' at_f' holds' g') =
-      let P : Record → Type 0 = λ x. Faults T room fs bytes x.next why there in
+      let P : Record → Type 0 = λ x. MeetsFault T room fs bytes x.next why there in
       faults-same law g (subst P (law.one_record bytes at r' r here' here) g')
   faults-same law {T} {room} {fs} {bytes} {at} {reason} {why} {place} {there} (behind_known r f c here at_f holds g) (in_payload r' f' here' at_f' fails) =
       absurd (holds-faultless law holds (fails-at law T room fs bytes at r r' f f' why there here here' at_f at_f' fails))
@@ -438,10 +440,10 @@ mutual
       let messages : OfMessage i' ≡ OfMessage i = sym kind' ∙ kind in
       let at_i : i' ≡ i = cc in
       let rooms : inside' ≡ inside = (let h : suc inside' ≡ suc inside = sym room_is' ∙ room_is in omega (arith, h)) in
-      let A : ℕ → Type 0 = λ x. Faults T x (fields_of T i') (take e' bytes) s' why there in
-      let B : ℕ → Type 0 = λ x. Faults T inside (fields_of T x) (take e' bytes) s' why there in
-      let C : ℕ → Type 0 = λ x. Faults T inside (fields_of T i) (take x bytes) s' why there in
-      let D : ℕ → Type 0 = λ x. Faults T inside (fields_of T i) (take e bytes) x why there in
+      let A : ℕ → Type 0 = λ x. MeetsFault T x (fields_of T i') (take e' bytes) s' why there in
+      let B : ℕ → Type 0 = λ x. MeetsFault T inside (fields_of T x) (take e' bytes) s' why there in
+      let C : ℕ → Type 0 = λ x. MeetsFault T inside (fields_of T i) (take x bytes) s' why there in
+      let D : ℕ → Type 0 = λ x. MeetsFault T inside (fields_of T i) (take e bytes) x why there in
       faults-same law faults (subst D starts (subst C ends (subst B at_i (subst A rooms faults'))))
   fails-same law {T} {room} {label} {k} {bytes} {p} {reason} {why} {place} {there} (in_entry key s e map at faults) (in_entry key' s' e' map' at' faults') =
       let same : Len s' e' ≡ Len s e = sym at' ∙ at in
@@ -449,9 +451,9 @@ mutual
       let ends : e' ≡ e = cc in
       let maps : Map key' ≡ Map key = sym map' ∙ map in
       let keys : key' ≡ key = cc in
-      let B : Kind → Type 0 = λ x. Faults T room (entry_fields x k) (take e' bytes) s' why there in
-      let C : ℕ → Type 0 = λ x. Faults T room (entry_fields key k) (take x bytes) s' why there in
-      let D : ℕ → Type 0 = λ x. Faults T room (entry_fields key k) (take e bytes) x why there in
+      let B : Kind → Type 0 = λ x. MeetsFault T room (entry_fields x k) (take e' bytes) s' why there in
+      let C : ℕ → Type 0 = λ x. MeetsFault T room (entry_fields key k) (take x bytes) s' why there in
+      let D : ℕ → Type 0 = λ x. MeetsFault T room (entry_fields key k) (take e bytes) x why there in
       faults-same law faults (subst D starts (subst C ends (subst B keys faults')))
   fails-same law {T} {room} {label} {k} {bytes} {p} {reason} {why} {place} {there} (in_entry key s e map at faults) (no_room key' e' t' map' at' reads' none' is') =
       absurd (entry-faultless law T room label k bytes p key key' s e there e' t' reason place map map' at at' reads' faults)

@@ -14,7 +14,7 @@ use Rattle.mrpc_table.specs.declared.table.Field.{Field}
 use Rattle.mrpc_table.specs.declared.table.Message.{Message}
 use Rattle.mrpc_table.specs.declared.table.Table.{Table}
 use Rattle.mrpc_table.specs.Ascending.{AllAscend, FieldsAscend}
-use Rattle.wire_decode.specs.Reads.{is_message}
+use Rattle.wire_decode.specs.Known.{is_message}
 use Rattle.wire_decode.proofs.Merging.{field-here, field-later}
 
 pub record IsUsable (f : Field) : Type 0 where

@@ -1,36 +1,43 @@
--- The code's own: what stands behind a record of a oneof.
+-- The code's own: what a walk from the last record to the first knows of the oneofs of the records behind it.
 use Rattle.std.specs.Prelude.{◌≡◌, ◌≢◌, ◌==◌, ◌||◌, ℕ, Bool, true, false, not, Some, None, List, slice_index_or}
 use Rattle.mrpc_table.specs.Node.{Node, no_fields, field, Content}
 use Rattle.mrpc_table.specs.declared.table.Field.{Field}
-use Rattle.wire_decode.specs.Merged.{oneof_at, is_overtaken}
+use Rattle.wire_decode.specs.Oneofs.{oneof_at}
+use Rattle.wire_decode.specs.Merged.{is_overtaken}
 use Rattle.wire_decode.specs.declared.oneof.Behind.{Behind}
 use Rattle.wire_decode.specs.declared.oneof.Behind.TheVariants.{Nothing, Only, Several}
 
--- whether another member's record stands behind one of this number
+-- whether a record of another member than the one of this number stands behind
 abbrev pub overtakes : Behind → ℕ → Bool
-overtakes Nothing n = false
-overtakes (Only m) n = not (m == n)
-overtakes Several n = true
+overtakes Nothing number = false
+overtakes (Only other) number = not (other == number)
+overtakes Several number = true
 
--- the same with a record of the number m in front
+-- With a record of the member `added` in front, each other member is overtaken, and besides those that were before.
 abbrev pub IsInFront : Behind → ℕ → Behind → Type 0
-IsInFront b m c = (n : ℕ) → overtakes c n ≡ (not (m == n) || overtakes b n)
+IsInFront behind added whole = (number : ℕ)
+    → overtakes whole number ≡ (not (added == number) || overtakes behind number)
 
--- what stands behind, by the places of the oneofs
-abbrev pub Tell : List Field → List Behind → Node → Type 0
-Tell fs bs t = (n o : ℕ) → oneof_at fs n ≡ Some o → overtakes (slice_index_or bs o Nothing) n ≡ is_overtaken fs n t
+-- The list has for each oneof, at its place, which of its members stand behind: it tells of each member whether one of the later
+-- records overtakes it.
+abbrev pub TellsOvertaken : List Field → List Behind → Node → Type 0
+TellsOvertaken fields list later = (number oneof : ℕ) → oneof_at fields number ≡ Some oneof
+    → overtakes (slice_index_or list oneof Nothing) number ≡ is_overtaken fields number later
 
--- a record of the number m was noted in front, at the place of its oneof
-pub record IsNoted (old : List Behind) (o m : ℕ) (new : List Behind) : Type 0 where
-  pub here : IsInFront (slice_index_or old o Nothing) m (slice_index_or new o Nothing)
-  pub others : (p : ℕ) → p ≢ o → slice_index_or new p Nothing ≡ slice_index_or old p Nothing
+-- At the place of the oneof the new list has a record of the member `added` in front, and elsewhere what the old has.
+pub record IsNotedAt (old : List Behind) (oneof added : ℕ) (new : List Behind) : Type 0 where
+  pub here : IsInFront (slice_index_or old oneof Nothing) added (slice_index_or new oneof Nothing)
+  pub others : (place : ℕ) → place ≢ oneof → slice_index_or new place Nothing ≡ slice_index_or old place Nothing
 
 -- no record is of a member of a oneof
 abbrev pub HasNoMember : List Field → Node → Type 0
-HasNoMember fs no_fields = Unit {0}
-HasNoMember fs (field n c t) = (oneof_at fs n ≡ None) × HasNoMember fs t
+HasNoMember fields no_fields = Unit {0}
+HasNoMember fields (field number content others) = (oneof_at fields number ≡ None) × HasNoMember fields others
 
--- whether a record of the number n counts, and what stands behind from it on
-pub record IsCounted (fs : List Field) (old : List Behind) (n : ℕ) (new : List Behind) (b : Bool) : Type 0 where
-  pub counts : (t : Node) → Tell fs old t → b ≡ not (is_overtaken fs n t)
-  pub tells : (t : Node) (c : Content) → Tell fs old t → Tell fs new (field n c t)
+-- Where the old list tells of the later records, the answer is whether a record of this number in front of them counts,
+-- and the new list tells of the records from that one on.
+pub record SaysIfCounted (fields : List Field) (old : List Behind) (number : ℕ) (new : List Behind)
+    (answer : Bool) : Type 0 where
+  pub counts : (later : Node) → TellsOvertaken fields old later → answer ≡ not (is_overtaken fields number later)
+  pub tells : (later : Node) (content : Content) → TellsOvertaken fields old later
+      → TellsOvertaken fields new (field number content later)

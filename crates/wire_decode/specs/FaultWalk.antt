@@ -13,38 +13,31 @@ use Rattle.wire_base.specs.Records.{RecordAt, FaultAt}
 use Rattle.wire_base.specs.declared.records.Record.{Record}
 use Rattle.wire_base.specs.declared.records.Payload.{Payload}
 use Rattle.wire_base.specs.declared.records.Payload.TheVariants.{Len}
-use Rattle.wire_base.specs.declared.fault.WireReason.{WireReason}
-use Rattle.wire_base.specs.declared.fault.WireReason.TheVariants as wire
 use Rattle.wire_base.specs.declared.fault.WireFault.{WireFault}
 use Rattle.wire_decode.specs.Words.{is_map, may_be_packed, AreElements}
-use Rattle.wire_decode.specs.Reads.{Reads, Holds, HasRoom, is_known, entry_fields}
+use Rattle.wire_decode.specs.Reads.{Reads, Holds}
+use Rattle.wire_decode.specs.Known.{HasRoom, is_known, entry_fields}
+use Rattle.wire_decode.specs.Reason.{reason_of}
 use Rattle.wire_decode.specs.declared.fault.DecodeReason.{DecodeReason}
-use Rattle.wire_decode.specs.declared.fault.DecodeReason.TheVariants.{Varint, TagRange, NumberZero, WireType, Short, Utf8, PackedLength, Depth}
-
-abbrev pub reason_of : WireReason → DecodeReason
-reason_of wire.Varint = Varint
-reason_of wire.TagRange = TagRange
-reason_of wire.NumberZero = NumberZero
-reason_of wire.WireType = WireType
-reason_of wire.Short = Short
+use Rattle.wire_decode.specs.declared.fault.DecodeReason.TheVariants.{Utf8, PackedLength, Depth}
 
 mutual
   -- Records stand from a place on, and this is the first fault behind them: no record stands there, or the
   -- payload of a known field is at fault.
-  pub data Faults (T : Table) : ℕ → List Field → List ℕ → ℕ → DecodeReason → ℕ → Type 0 where
+  pub data MeetsFault (T : Table) : ℕ → List Field → List ℕ → ℕ → DecodeReason → ℕ → Type 0 where
     no_record : {room : ℕ} {fs : List Field} {bytes : List ℕ} {at : ℕ} {reason : DecodeReason} {place : ℕ}
         (f : WireFault) → at < length bytes → FaultAt bytes at f → reason ≡ reason_of f.reason → place ≡ f.place
-        → Faults T room fs bytes at reason place
+        → MeetsFault T room fs bytes at reason place
     behind_other : {room : ℕ} {fs : List Field} {bytes : List ℕ} {at : ℕ} {reason : DecodeReason} {place : ℕ}
-        (r : Record) → RecordAt bytes at r → is_known fs r ≡ false → Faults T room fs bytes r.next reason place
-        → Faults T room fs bytes at reason place
+        (r : Record) → RecordAt bytes at r → is_known fs r ≡ false → MeetsFault T room fs bytes r.next reason place
+        → MeetsFault T room fs bytes at reason place
     behind_known : {room : ℕ} {fs : List Field} {bytes : List ℕ} {at : ℕ} {reason : DecodeReason} {place : ℕ}
         (r : Record) (f : Field) (c : Content) → RecordAt bytes at r → field_at fs r.number ≡ Some f
-        → Holds T room f.label f.kind bytes r.payload c → Faults T room fs bytes r.next reason place
-        → Faults T room fs bytes at reason place
+        → Holds T room f.label f.kind bytes r.payload c → MeetsFault T room fs bytes r.next reason place
+        → MeetsFault T room fs bytes at reason place
     in_payload : {room : ℕ} {fs : List Field} {bytes : List ℕ} {at : ℕ} {reason : DecodeReason} {place : ℕ}
         (r : Record) (f : Field) → RecordAt bytes at r → field_at fs r.number ≡ Some f
-        → Fails T room f.label f.kind bytes r.payload reason place → Faults T room fs bytes at reason place
+        → Fails T room f.label f.kind bytes r.payload reason place → MeetsFault T room fs bytes at reason place
 
   -- the first fault of the payload of a field
   pub data Fails (T : Table) : ℕ → Label → Kind → List ℕ → Payload → DecodeReason → ℕ → Type 0 where
@@ -61,11 +54,11 @@ mutual
         → Fails T room label k bytes p reason place
     in_message : {room : ℕ} {label : Label} {k : Kind} {bytes : List ℕ} {p : Payload} {reason : DecodeReason}
         {place : ℕ} (inside i start end : ℕ) → is_map label ≡ false → k ≡ OfMessage i → p ≡ Len start end
-        → room ≡ suc inside → Faults T inside (fields_of T i) (take end bytes) start reason place
+        → room ≡ suc inside → MeetsFault T inside (fields_of T i) (take end bytes) start reason place
         → Fails T room label k bytes p reason place
     in_entry : {room : ℕ} {label : Label} {k : Kind} {bytes : List ℕ} {p : Payload} {reason : DecodeReason} {place : ℕ}
         (key : Kind) (start end : ℕ) → label ≡ Map key → p ≡ Len start end
-        → Faults T room (entry_fields key k) (take end bytes) start reason place
+        → MeetsFault T room (entry_fields key k) (take end bytes) start reason place
         → Fails T room label k bytes p reason place
     -- the default of the entry's value would be the 33rd message
     no_room : {room : ℕ} {label : Label} {k : Kind} {bytes : List ℕ} {p : Payload} {reason : DecodeReason} {place : ℕ}

@@ -15,9 +15,9 @@ use Rattle.wire_base.specs.declared.records.Record.{Record}
 use Rattle.wire_base.specs.declared.records.Payload.TheVariants.{Len}
 use Rattle.wire_base.specs.declared.fault.WireFault.{WireFault}
 use Rattle.wire_decode.specs.Words.{is_map, may_be_packed, AreElements}
-use Rattle.wire_decode.specs.Reads.{HasRoom, is_known, entry_fields}
+use Rattle.wire_decode.specs.Known.{HasRoom, is_known, entry_fields}
 use Rattle.wire_decode.specs.Meaning.{Value, MeansIn, HasValue}
-use Rattle.wire_decode.specs.FaultWalk.{reason_of}
+use Rattle.wire_decode.specs.Reason.{reason_of}
 use Rattle.wire_decode.specs.declared.fault.DecodeFault.{DecodeFault}
 use Rattle.wire_decode.specs.declared.fault.DecodeFault.TheVariants.{At, Memory}
 use Rattle.wire_decode.specs.declared.fault.DecodeReason.{DecodeReason}

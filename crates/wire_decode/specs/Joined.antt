@@ -1,15 +1,11 @@
--- Strings of whole records, one behind another.
-use Rattle.std.specs.Prelude.{ℕ, List, [], ◌∷◌, ◌++◌}
+-- Strings of whole records, each with the contents of a message.
+use Rattle.std.specs.Prelude.{ℕ, List, [], ◌∷◌}
 use Rattle.mrpc_table.specs.Node.{Item, node}
 use Rattle.mrpc_table.specs.declared.table.Field.{Field}
 use Rattle.mrpc_table.specs.declared.table.Table.{Table}
 use Rattle.wire_decode.specs.Reads.{Reads}
 
-abbrev pub joined_bytes : List (List ℕ) → List ℕ
-joined_bytes [] = []
-joined_bytes (s ∷ ss) = s ++ joined_bytes ss
-
--- each string is whole records, with the contents of a message
+-- each string is whole records, and the item at its place is the message of what they have
 abbrev pub AreReadEach : Table → ℕ → List Field → List (List ℕ) → List Item → Type 0
 AreReadEach T room fs [] [] = Unit {0}
 AreReadEach T room fs (s ∷ ss) (node t ∷ is) = Reads T room fs s 0 t × AreReadEach T room fs ss is

@@ -18,9 +18,10 @@ use Rattle.wire_base.specs.declared.records.Record.{Record}
 use Rattle.wire_base.specs.declared.records.Payload.{Payload}
 use Rattle.wire_base.specs.declared.records.Payload.TheVariants.{Len}
 use Rattle.wire_decode.specs.Words.{word_of, number_in, payload_type, is_list, is_map, may_be_packed, AreElements}
-use Rattle.wire_decode.specs.Reads.{is_known, is_message, entry_fields, HasRoom}
-use Rattle.wire_decode.specs.Merged.{default_of, some_items, some_pairs, are_rivals, with_content}
-use Rattle.wire_decode.specs.Ordered.{is_single, single_content}
+use Rattle.wire_decode.specs.Known.{is_known, is_message, entry_fields, HasRoom}
+use Rattle.wire_decode.specs.Contents.{default_of, some_items, some_pairs, with_content}
+use Rattle.wire_decode.specs.Oneofs.{are_rivals}
+use Rattle.wire_decode.specs.Contents.{is_single, single_content}
 
 -- what a record of a field has: a number, the numbers of a packed piece, or the bytes of a text, of bytes, of a
 -- message or of an entry

@@ -1,28 +1,27 @@
 -- The message that the contents of records, in the order of the bytes, stand for: each field has its value from
 -- the records of its number alone (Protocol Buffers, "Encoding": "Last One Wins", "Oneofs", "Maps").
-use Rattle.std.specs.Prelude.{◌==◌, ◌||◌, ◌&&◌, ℕ, zero, suc, Bool, true, false, not, List, [], ◌∷◌, ◌++◌, map, Option, Some, None, option_and_then, unwrap_or, if◌then◌else◌}
-use Rattle.mrpc_table.specs.Node.{Node, no_fields, field, Content, one, many, pairs, Item, number, run, node, Items, no_items, item, Pairs, no_pairs, pair}
-use Rattle.mrpc_table.specs.Normal.{fields_of, field_at}
+use Rattle.std.specs.Prelude.{◌==◌, ◌||◌, ℕ, zero, suc, Bool, false, List, [], ◌∷◌, ◌++◌, map, Option, Some, None, unwrap_or, if◌then◌else◌}
+use Rattle.mrpc_table.specs.Node.{Node, no_fields, field, Content, one, many, pairs, Item, number, run, node, Items, no_items, item}
+use Rattle.mrpc_table.specs.Normal.{fields_of}
 use Rattle.mrpc_table.specs.MapEntries.{last_of_each}
 use Rattle.mrpc_table.specs.declared.table.Kind.{Kind}
-use Rattle.mrpc_table.specs.declared.table.Kind.TheVariants.{Text, Octets, Message as OfMessage}
+use Rattle.mrpc_table.specs.declared.table.Kind.TheVariants.{Message as OfMessage}
 use Rattle.mrpc_table.specs.declared.table.Label.{Label}
 use Rattle.mrpc_table.specs.declared.table.Label.TheVariants.{Plain, Optional, Repeated, Packed, Map, Member}
 use Rattle.mrpc_table.specs.declared.table.Field.{Field}
 use Rattle.mrpc_table.specs.declared.table.Table.{Table}
+use Rattle.wire_decode.specs.Contents.{default_of, present, present_if_set, some_items, some_pairs, with_content}
+use Rattle.wire_decode.specs.Oneofs.{are_rivals}
 
 -- the contents of the records of one number, in order
 abbrev pub contents_of : ℕ → Node → List Content
 contents_of n no_fields = []
 contents_of n (field m c t) = if m == n then c ∷ contents_of n t else contents_of n t
 
+-- the items of a content, as a list
 abbrev pub items_in : Items → List Item
 items_in no_items = []
 items_in (item i is) = i ∷ items_in is
-
-abbrev pub items_from : List Item → Items
-items_from [] = no_items
-items_from (i ∷ is) = item i (items_from is)
 
 -- the values in contents, those of packed pieces included
 abbrev pub values_in : List Content → List Item
@@ -38,6 +37,7 @@ singles_in (one i ∷ cs) = i ∷ singles_in cs
 singles_in (many is ∷ cs) = singles_in cs
 singles_in (pairs ps ∷ cs) = singles_in cs
 
+-- the fields of two messages, one behind another
 abbrev pub join_fields : Node → Node → Node
 join_fields no_fields u = u
 join_fields (field n c t) u = field n c (join_fields t u)
@@ -49,22 +49,11 @@ joined (number n ∷ is) = joined is
 joined (run bytes ∷ is) = joined is
 joined (node t ∷ is) = join_fields t (joined is)
 
+-- the last of some values, if there is one
 abbrev pub last_value : List Item → Option Item
 last_value [] = None
 last_value (i ∷ []) = Some i
 last_value (i ∷ j ∷ is) = last_value (j ∷ is)
-
-abbrev pub is_default : Item → Bool
-is_default (number n) = n == 0
-is_default (run []) = true
-is_default (run (b ∷ bs)) = false
-is_default (node t) = false
-
-abbrev pub default_of : Kind → Item
-default_of Text = run []
-default_of Octets = run []
-default_of (OfMessage i) = node no_fields
-default_of _ = number 0
 
 -- the value of a singular field: the last one, or the message of all records joined
 abbrev pub singular : (ℕ → Node → Node) → Kind → List Item → Option Item
@@ -81,26 +70,11 @@ element inner _ v = v
 abbrev pub part : (ℕ → Node → Node) → ℕ → Kind → Node → Item
 part inner n k t = unwrap_or (singular inner k (singles_in (contents_of n t))) (default_of k)
 
+-- the key and the value of an entry
 abbrev pub entry : (ℕ → Node → Node) → Kind → Kind → Item → Item × Item
 entry inner key k v = (part inner 1 key (joined (v ∷ [])), part inner 2 k (joined (v ∷ [])))
 
--- what a field has, from the contents of its records; under implicit presence a default is nothing
-abbrev pub present : Option Item → Option Content
-present None = None
-present (Some i) = Some (one i)
-
-abbrev pub present_if_set : Option Item → Option Content
-present_if_set None = None
-present_if_set (Some i) = if is_default i then None else Some (one i)
-
-abbrev pub some_items : List Item → Option Content
-some_items [] = None
-some_items (i ∷ is) = Some (many (items_from (i ∷ is)))
-
-abbrev pub some_pairs : Pairs → Option Content
-some_pairs no_pairs = None
-some_pairs (pair k v ps) = Some (pairs (pair k v ps))
-
+-- what a field has, from the contents of its records
 abbrev pub field_content : (ℕ → Node → Node) → Label → Kind → List Content → Option Content
 field_content inner Plain k cs = present_if_set (singular inner k (singles_in cs))
 field_content inner Optional k cs = present (singular inner k (singles_in cs))
@@ -108,22 +82,6 @@ field_content inner (Member o) k cs = present (singular inner k (singles_in cs))
 field_content inner Repeated k cs = some_items (map (element inner k) (values_in cs))
 field_content inner Packed k cs = some_items (map (element inner k) (values_in cs))
 field_content inner (Map key) k cs = some_pairs (last_of_each key (map (entry inner key k) (values_in cs)))
-
--- the oneof that a field is a member of
-abbrev pub oneof_of : Label → Option ℕ
-oneof_of (Member o) = Some o
-oneof_of _ = None
-
-abbrev pub oneof_at : List Field → ℕ → Option ℕ
-oneof_at fs n = option_and_then (λ f. oneof_of f.label) (field_at fs n)
-
-abbrev pub is_same : Option ℕ → Option ℕ → Bool
-is_same (Some o) (Some p) = o == p
-is_same _ _ = false
-
--- two numbers are of different members of one oneof
-abbrev pub are_rivals : List Field → ℕ → ℕ → Bool
-are_rivals fs n m = not (m == n) && is_same (oneof_at fs n) (oneof_at fs m)
 
 -- a record of another member of the same oneof stands behind
 abbrev pub is_overtaken : List Field → ℕ → Node → Bool
@@ -135,10 +93,6 @@ is_overtaken fs n (field m c t) = are_rivals fs n m || is_overtaken fs n t
 abbrev pub counted : List Field → Node → Node
 counted fs no_fields = no_fields
 counted fs (field n c t) = if is_overtaken fs n t then counted fs t else field n c (counted fs t)
-
-abbrev pub with_content : ℕ → Option Content → Node → Node
-with_content n None t = t
-with_content n (Some c) t = field n c t
 
 -- the fields by ascending number, each with what its records give
 abbrev pub with_fields : (ℕ → Node → Node) → Node → List Field → Node

@@ -1,17 +1,19 @@
--- What a reader finds that reads records straight into the tree that they mean.
-use Rattle.std.specs.Prelude.{◌≡◌, ℕ, ◌+◌, ◌/◌, ◌%◌, nat_le, Bool, true, false, Option, Some, List, [], ◌∷◌, ◌++◌, map}
+-- The code's own: what a reader finds that reads records straight into the tree that they mean.
+use Rattle.std.specs.Prelude.{◌≡◌, ℕ, ◌+◌, ◌/◌, ◌%◌, nat_le, Bool, true, false, List, [], ◌∷◌, ◌++◌, map}
 use Rattle.mrpc_table.specs.Node.{Node, no_fields, Content, one, Item, node}
 use Rattle.mrpc_table.specs.declared.table.Kind.{Kind}
 use Rattle.mrpc_table.specs.declared.table.Kind.TheVariants.{Text, Octets}
 use Rattle.mrpc_table.specs.declared.table.Label.{Label}
-use Rattle.mrpc_table.specs.declared.table.Label.TheVariants.{Plain, Optional, Map, Member}
+use Rattle.mrpc_table.specs.declared.table.Label.TheVariants.{Map, Member}
 use Rattle.mrpc_table.specs.declared.table.Field.{Field}
 use Rattle.mrpc_table.specs.declared.table.Table.{Table}
 use Rattle.wire_base.specs.Records.{TagAt, PayloadAt}
 use Rattle.wire_base.specs.declared.records.Payload.{Payload}
 use Rattle.wire_decode.specs.Words.{is_map}
-use Rattle.wire_decode.specs.Reads.{Reads, Holds, HasRoom, entry_fields}
-use Rattle.wire_decode.specs.Merged.{merged, counted, with_fields, with_content, join_fields, field_content, element, entry, present, present_if_set}
+use Rattle.wire_decode.specs.Reads.{Reads, Holds}
+use Rattle.wire_decode.specs.Known.{HasRoom, entry_fields}
+use Rattle.wire_decode.specs.Merged.{merged, counted, with_fields, join_fields, field_content, element, entry}
+use Rattle.wire_decode.specs.Contents.{with_content}
 
 -- the fields of the message that the bytes from a place on mean
 pub record IsWhole (T : Table) (room : ℕ) (fs : List Field) (bytes : List ℕ) (at : ℕ) (t : Node) : Type 0 where
@@ -76,20 +78,8 @@ abbrev pub oneofs_with : Label → ℕ → ℕ
 oneofs_with (Member o) oneofs = o + 1
 oneofs_with _ oneofs = oneofs
 
--- a label of a field that has one value at most
-abbrev pub is_single : Label → Bool
-is_single Plain = true
-is_single Optional = true
-is_single (Member o) = true
-is_single _ = false
-
 -- a kind whose values are runs of bytes
 abbrev pub is_run : Kind → Bool
 is_run Text = true
 is_run Octets = true
 is_run _ = false
-
--- what a singular field with this value has
-abbrev pub single_content : Label → Item → Option Content
-single_content Plain i = present_if_set (Some i)
-single_content _ i = present (Some i)

@@ -5,8 +5,9 @@ use Rattle.mrpc_table.specs.Normal.{fields_of}
 use Rattle.mrpc_table.specs.declared.table.Kind.{Kind}
 use Rattle.mrpc_table.specs.declared.table.Table.{Table}
 use Rattle.wire_decode.specs.Words.{AreElements}
-use Rattle.wire_decode.specs.Reads.{Reads, HasRoom, entry_fields, numbers}
-use Rattle.wire_decode.specs.FaultWalk.{Faults}
+use Rattle.wire_decode.specs.Reads.{Reads, numbers}
+use Rattle.wire_decode.specs.Known.{HasRoom, entry_fields}
+use Rattle.wire_decode.specs.FaultWalk.{MeetsFault}
 use Rattle.wire_decode.specs.declared.fault.DecodeReason.{DecodeReason}
 use Rattle.wire_decode.specs.declared.fault.DecodeReason.TheVariants.{Depth}
 
@@ -16,9 +17,11 @@ pub record IsPiece (k : Kind) (bytes : List ℕ) (at : ℕ) (c : Content) : Type
   pub whole : AreElements k bytes at words
   pub content : c ≡ many (numbers words)
 
+-- no packed piece is there
 abbrev pub NoPiece : Kind → List ℕ → ℕ → Type 0
 NoPiece k bytes at = (ws : List ℕ) → AreElements k bytes at ws → ⊥
 
+-- one of the wire types of numbers
 abbrev pub IsFixedOrVarint : ℕ → Type 0
 IsFixedOrVarint w = (w ≡ 0) ⊎ (w ≡ 1) ⊎ (w ≡ 5)
 
@@ -32,7 +35,7 @@ pub record IsEntry (T : Table) (room : ℕ) (key k : Kind) (bytes : List ℕ) (a
 -- the first fault of an entry
 pub data NoEntry (T : Table) (room : ℕ) (key k : Kind) (bytes : List ℕ) (at : ℕ) (reason : DecodeReason)
     (place : ℕ) : Type 0 where
-  entry_fault : Faults T room (entry_fields key k) bytes at reason place → NoEntry T room key k bytes at reason place
+  entry_fault : MeetsFault T room (entry_fields key k) bytes at reason place → NoEntry T room key k bytes at reason place
   entry_room : (t : Node) → Reads T room (entry_fields key k) bytes at t → (HasRoom room k → ⊥) → reason ≡ Depth
       → place ≡ at → NoEntry T room key k bytes at reason place
 
@@ -44,7 +47,8 @@ pub record IsInner (T : Table) (room i : ℕ) (bytes : List ℕ) (at : ℕ) (c :
   pub reads : Reads T inside (fields_of T i) bytes at raw
   pub content : c ≡ one (node raw)
 
+-- the first fault of a message inside
 pub data NoInner (T : Table) (room i : ℕ) (bytes : List ℕ) (at : ℕ) (reason : DecodeReason) (place : ℕ) : Type 0 where
-  inner_fault : (inside : ℕ) → room ≡ suc inside → Faults T inside (fields_of T i) bytes at reason place
+  inner_fault : (inside : ℕ) → room ≡ suc inside → MeetsFault T inside (fields_of T i) bytes at reason place
       → NoInner T room i bytes at reason place
   inner_room : room ≡ 0 → reason ≡ Depth → place ≡ at → NoInner T room i bytes at reason place

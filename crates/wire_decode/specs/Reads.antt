@@ -1,7 +1,7 @@
 -- What stands in the records of a message, each read by itself: the contents of the records of known fields in
 -- the order of the bytes, with what the messages in them have. Records of other numbers, and of known
 -- numbers with another wire type, are skipped (Protocol Buffers, "Encoding").
-use Rattle.std.specs.Prelude.{◌≡◌, ℕ, suc, ◌<◌, Bool, true, false, List, [], ◌∷◌, length, take, Some, option_map, unwrap_or, slice_range}
+use Rattle.std.specs.Prelude.{◌≡◌, ℕ, suc, true, false, List, [], ◌∷◌, length, take, Some, slice_range}
 use Rattle.std.specs.Str.{IsUtf8}
 use Rattle.mrpc_table.specs.Node.{Node, no_fields, field, Content, one, many, number, run, node, Items, no_items, item}
 use Rattle.mrpc_table.specs.Normal.{fields_of, field_at}
@@ -9,7 +9,7 @@ use Rattle.mrpc_table.specs.Words.{is_numeric}
 use Rattle.mrpc_table.specs.declared.table.Kind.{Kind}
 use Rattle.mrpc_table.specs.declared.table.Kind.TheVariants.{Text, Octets, Message as OfMessage}
 use Rattle.mrpc_table.specs.declared.table.Label.{Label}
-use Rattle.mrpc_table.specs.declared.table.Label.TheVariants.{Optional, Map}
+use Rattle.mrpc_table.specs.declared.table.Label.TheVariants.{Map}
 use Rattle.mrpc_table.specs.declared.table.Field.{Field}
 use Rattle.mrpc_table.specs.declared.table.Table.{Table}
 use Rattle.mrpc_table.specs.WireTypes.{wire_type_of}
@@ -17,28 +17,13 @@ use Rattle.wire_base.specs.Records.{RecordAt}
 use Rattle.wire_base.specs.declared.records.Record.{Record}
 use Rattle.wire_base.specs.declared.records.Payload.{Payload}
 use Rattle.wire_base.specs.declared.records.Payload.TheVariants.{Len}
-use Rattle.wire_decode.specs.Words.{word_of, number_in, payload_type, is_map, may_be_packed, suits, AreElements}
+use Rattle.wire_decode.specs.Words.{word_of, number_in, payload_type, is_map, may_be_packed, AreElements}
+use Rattle.wire_decode.specs.Known.{is_known, entry_fields, HasRoom}
 
--- whether a record is of a field of the message and of a wire type from which that field is read
-abbrev pub is_known : List Field → Record → Bool
-is_known fs r = unwrap_or (option_map (λ f. suits f.label f.kind r.payload) (field_at fs r.number)) false
-
+-- the words of a packed piece as items
 abbrev pub numbers : List ℕ → Items
 numbers [] = no_items
 numbers (w ∷ ws) = item (number w) (numbers ws)
-
--- an entry of a map is a message with the key as field 1 and the value as field 2
-abbrev pub entry_fields : Kind → Kind → List Field
-entry_fields key k = record { number = 1; name = []; kind = key; label = Optional }
-    ∷ record { number = 2; name = []; kind = k; label = Optional } ∷ []
-
-abbrev pub is_message : Kind → Bool
-is_message (OfMessage i) = true
-is_message _ = false
-
--- the message of a map's value may stand as deep as its entry, or its default could
-abbrev pub HasRoom : ℕ → Kind → Type 0
-HasRoom room k = is_message k ≡ true → 0 < room
 
 mutual
   -- The records are the bytes from a place to their end, and t has the contents of the known ones in order.

@@ -37,6 +37,7 @@ number_in (I64 v) = v
 number_in (I32 v) = v
 number_in (Len start end) = 0
 
+-- the wire type of a payload
 abbrev pub payload_type : Payload → ℕ
 payload_type (Varint v) = wire_varint
 payload_type (I64 v) = wire_i64
@@ -48,11 +49,13 @@ abbrev pub own_type : Label → Kind → ℕ
 own_type (Map key) k = wire_len
 own_type _ k = wire_type_of k
 
+-- a label of a field that has elements, one behind another
 abbrev pub is_list : Label → Bool
 is_list Repeated = true
 is_list Packed = true
 is_list _ = false
 
+-- the label of a map
 abbrev pub is_map : Label → Bool
 is_map (Map key) = true
 is_map _ = false

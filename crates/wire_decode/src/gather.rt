@@ -4,7 +4,8 @@ ghost use Rattle.std.specs.Prelude.{◌≡◌, ℕ, List, [], ◌∷◌, ◌++�
 ghost use Rattle.mrpc_table.specs.Node.{Node, Item};
 ghost use Rattle.mrpc_table.specs.View.{item_of, content_of, node_of};
 ghost use Rattle.wire_decode.specs.Merged.{values_in, singles_in, joined, join_fields};
-ghost use Rattle.wire_decode.specs.Gathered.{form_of, IsBoth, AreSingles, IsJoined, IsAdded};
+ghost use Rattle.wire_decode.specs.TwoInOne.{form_of, MeansBoth, HoldsBoth, StandsForBoth};
+ghost use Rattle.wire_decode.specs.Gathered.{HasOneMore};
 
 use mrpc_table::{FieldValue, Kind, Label, Memory, Numbered, Tree, Value, Values};
 use std::alloc::Global;
@@ -42,7 +43,7 @@ pub fn add(
     form: Form,
 ) -> Result<(), Memory>
     ensures { OnOk result
-        (IsAdded form (node_of held.old.items) number (content_of content) (node_of held.new.items)) }
+        (HasOneMore form (node_of held.old.items) number (content_of content) (node_of held.new.items)) }
 {
     match held.pop() {
         Some((last, before)) => {
@@ -66,7 +67,7 @@ fn joined(
     content: FieldValue,
     form: Form,
 ) -> Result<FieldValue, Memory>
-    ensures { IfOk result (λ c. IsBoth form (content_of before) (content_of content) (content_of c)) }
+    ensures { IfOk result (λ c. MeansBoth form (content_of before) (content_of content) (content_of c)) }
 {
     match form {
         Form::Listed => listed(alloc, before, content),
@@ -88,7 +89,7 @@ fn listed(alloc: Global, before: FieldValue, content: FieldValue) -> Result<Fiel
 // Two contents of a singular field in one.
 fn singles(before: FieldValue, content: FieldValue, is_message: bool) -> Result<FieldValue, Memory>
     ensures { IfOk result
-        (λ c. AreSingles is_message (content_of before) (content_of content) (content_of c)) }
+        (λ c. HoldsBoth is_message (content_of before) (content_of content) (content_of c)) }
 {
     match content {
         FieldValue::One(value) => match before {
@@ -104,7 +105,7 @@ fn singles(before: FieldValue, content: FieldValue, is_message: bool) -> Result<
 
 /// Two values of a singular field in one: the last one, or the message of the records of both.
 pub fn joined_value(before: Value, value: Value, is_message: bool) -> Result<Value, Memory>
-    ensures { IfOk result (λ v. IsJoined is_message (item_of before) (item_of value) (item_of v)) }
+    ensures { IfOk result (λ v. StandsForBoth is_message (item_of before) (item_of value) (item_of v)) }
 {
     if is_message {
         joined_message(before, value)

@@ -1,6 +1,7 @@
 //! Laws of the definitions. These functions do nothing; their clauses hold.
 
 ghost use Rattle.std.specs.Prelude.{◌≡◌, ◌-◌, ◌<◌, ◌^◌, ◌⊎◌, ◌++◌, ℕ, List, length, All};
+ghost use Rattle.std.specs.List.{concat};
 ghost use Rattle.mrpc_table.specs.Node.{Node, Item};
 ghost use Rattle.mrpc_table.specs.Normal.{IsNormal, fields_of};
 ghost use Rattle.mrpc_table.specs.Valid.{IsValid};
@@ -11,8 +12,8 @@ ghost use Rattle.wire_base.specs.Encoding.{encoding};
 ghost use Rattle.mrpc_table.specs.Ascending.{AllAscend};
 ghost use Rattle.wire_decode.specs.Means.{Means};
 ghost use Rattle.wire_decode.specs.Merges.{Merges};
-ghost use Rattle.wire_decode.specs.FaultWalk.{Faults};
-ghost use Rattle.wire_decode.specs.Joined.{AreReadEach, joined_bytes};
+ghost use Rattle.wire_decode.specs.FaultWalk.{MeetsFault};
+ghost use Rattle.wire_decode.specs.Joined.{AreReadEach};
 ghost use Rattle.wire_decode.specs.Merged.{join_fields, joined, merged};
 ghost use Rattle.wire_decode.specs.Reads.{Reads};
 ghost use Rattle.wire_decode.specs.Faults.{IsFirstFault};
@@ -86,7 +87,7 @@ pub fn meaning_of_joined_strings()
 
     // The payloads of a singular message mean together what their joined bytes mean.
     ensures payloads { (T : Table) (room : ℕ) (fs : List Field) (strings : List (List ℕ)) (messages : List Item)
-        → AreReadEach T room fs strings messages → Reads T room fs (joined_bytes strings) 0 (joined messages) }
+        → AreReadEach T room fs strings messages → Reads T room fs (concat strings) 0 (joined messages) }
 {
     rules_and_reader_agree();
 }
@@ -99,9 +100,9 @@ pub fn rules_and_reader_agree()
     ensures meant { (T : Table) (msg : ℕ) (bytes : List ℕ) (t : Node) → AllAscend T → Merges T msg bytes t
         → Means T msg bytes t }
     ensures met { (T : Table) (msg : ℕ) (bytes : List ℕ) (reason : DecodeReason) (place : ℕ)
-        → IsFirstFault T msg bytes reason place → Faults T (MAX_DEPTH - 1) (fields_of T msg) bytes 0 reason place }
+        → IsFirstFault T msg bytes reason place → MeetsFault T (MAX_DEPTH - 1) (fields_of T msg) bytes 0 reason place }
     ensures first { (T : Table) (msg : ℕ) (bytes : List ℕ) (reason : DecodeReason) (place : ℕ)
-        → Faults T (MAX_DEPTH - 1) (fields_of T msg) bytes 0 reason place → IsFirstFault T msg bytes reason place }
+        → MeetsFault T (MAX_DEPTH - 1) (fields_of T msg) bytes 0 reason place → IsFirstFault T msg bytes reason place }
 {
     payload_or_reason();
     record_or_fault();
@@ -112,7 +113,7 @@ pub fn one_merging()
     ensures one { (T : Table) (msg : ℕ) (bytes : List ℕ) (t u : Node) → Merges T msg bytes t → Merges T msg bytes u
         → t ≡ u }
     ensures not_both { (T : Table) (msg : ℕ) (bytes : List ℕ) (t : Node) (reason : DecodeReason) (place : ℕ)
-        → Merges T msg bytes t → Faults T (MAX_DEPTH - 1) (fields_of T msg) bytes 0 reason place → ⊥ }
+        → Merges T msg bytes t → MeetsFault T (MAX_DEPTH - 1) (fields_of T msg) bytes 0 reason place → ⊥ }
 {
     payload_or_reason();
     record_or_fault();

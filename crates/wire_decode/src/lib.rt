@@ -19,7 +19,7 @@ ghost use Rattle.mrpc_table.specs.declared.limits.TheConstants.{MAX_DEPTH};
 ghost use Rattle.wire_decode.specs.Means.{Means};
 ghost use Rattle.wire_decode.specs.Merges.{Merges};
 ghost use Rattle.wire_decode.specs.Faults.{IsFirstFault, FaultsAs};
-ghost use Rattle.wire_decode.specs.FaultWalk.{Faults};
+ghost use Rattle.wire_decode.specs.FaultWalk.{MeetsFault};
 ghost use Rattle.mrpc_table.specs.Normal.{fields_of as fields_in};
 
 mod fault;
@@ -99,7 +99,7 @@ fn decoded(
     requires { AllAscend table.now }
     ensures means { IfOk result (λ t. Merges table.now msg bytes.now t) }
     ensures fault { IfErr result
-        (FaultsAs (Faults table.now (MAX_DEPTH - 1) (fields_in table.now msg) bytes.now 0)) }
+        (FaultsAs (MeetsFault table.now (MAX_DEPTH - 1) (fields_in table.now msg) bytes.now 0)) }
     ensures only { (t : Node) → Merges table.now msg bytes.now t
         → MatchResult result (λ u. u ≡ t) (λ f. f ≡ DecodeFault.Memory) }
 {
@@ -116,7 +116,7 @@ fn merged_records(alloc: Global, bytes: &[u8], table: &Table, msg: u32) -> Resul
     requires { AllAscend table.now }
     ensures means { IfOk result (λ t. Merges table.now msg bytes.now t) }
     ensures fault { IfErr result
-        (FaultsAs (Faults table.now (MAX_DEPTH - 1) (fields_in table.now msg) bytes.now 0)) }
+        (FaultsAs (MeetsFault table.now (MAX_DEPTH - 1) (fields_in table.now msg) bytes.now 0)) }
     ensures only { (t : Node) → Merges table.now msg bytes.now t
         → MatchResult result (λ u. u ≡ t) (λ f. f ≡ DecodeFault.Memory) }
 {

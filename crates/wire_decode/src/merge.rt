@@ -4,8 +4,13 @@
 ghost use Rattle.std.specs.Prelude.{◌≡◌, ℕ, ◌<◌, length, IfOk, IsTrue, Some, true, map, option_map, List, [], ◌∷◌, ◌++◌, OnOk};
 ghost use Rattle.mrpc_table.specs.View.{item_of, content_of, node_of, pairs_of};
 ghost use Rattle.mrpc_table.specs.MapEntries.{last_of_each};
-ghost use Rattle.wire_decode.specs.Merged.{contents_of, join_fields, with_content, merged, field_content, singular, element, entry, some_items, some_pairs, present, present_if_set, is_default, joined, default_of, singles_in};
-ghost use Rattle.wire_decode.specs.Gathered.{MeansAll, finish_at, NeverFallFrom, IsGathered, form_of, finished_of, entry_of, part_of, IsWith};
+ghost use Rattle.wire_decode.specs.Merged.{contents_of, join_fields, merged, field_content, singular, element, entry, joined, singles_in};
+ghost use Rattle.wire_decode.specs.Contents.{with_content, some_items, some_pairs, present, present_if_set, is_default, default_of};
+ghost use Rattle.wire_decode.specs.EntryParts.{MeansAll, found_entry, found_part, IsWithOneMore};
+ghost use Rattle.wire_decode.specs.Finished.{finish_at, finished_of};
+ghost use Rattle.wire_decode.specs.NumberOrder.{NumbersNeverFallFrom};
+ghost use Rattle.wire_decode.specs.Gathered.{IsGathered};
+ghost use Rattle.wire_decode.specs.TwoInOne.{form_of};
 ghost use Rattle.mrpc_table.specs.SortedEntries.{items_of_entry};
 ghost use Rattle.mrpc_table.specs.Normal.{field_at};
 ghost use Rattle.mrpc_table.specs.declared.table.Field.{Field};
@@ -48,7 +53,7 @@ pub fn merged(
 
 // The contents by ascending number, those of one number in their order.
 fn by_number(raw: Numbered) -> Result<Numbered, Memory>
-    ensures sorted { IfOk result (λ parts. NeverFallFrom 0 (node_of parts.items)) }
+    ensures sorted { IfOk result (λ parts. NumbersNeverFallFrom 0 (node_of parts.items)) }
     ensures same { IfOk result
         (λ parts. (n : ℕ) → contents_of n (node_of parts.items) ≡ contents_of n (node_of raw.items)) }
 {
@@ -62,7 +67,7 @@ fn by_number(raw: Numbered) -> Result<Numbered, Memory>
 
 // Whether no number is below the one before it.
 fn ascends(raw: &Numbered) -> bool
-    ensures { IsTrue result → NeverFallFrom 0 (node_of raw.now.items) }
+    ensures { IsTrue result → NumbersNeverFallFrom 0 (node_of raw.now.items) }
 {
     let mut last = 0;
     for part in raw {
@@ -77,7 +82,7 @@ fn ascends(raw: &Numbered) -> bool
 // The contents of each number in one.
 fn gathered(alloc: Global, raw: Numbered, fields: &[Field]) -> Result<Numbered, Memory>
     requires ascend { FieldsAscend fields.now }
-    requires sorted { NeverFallFrom 0 (node_of raw.items) }
+    requires sorted { NumbersNeverFallFrom 0 (node_of raw.items) }
     ensures { IfOk result (λ held. IsGathered fields.now (node_of raw.items) (node_of held.items)) }
 {
     let mut held = Vec::with_capacity(alloc, raw.len().min(fields.len()))?;
@@ -381,7 +386,7 @@ fn entry(
 ) -> Result<(Value, Value), Memory>
     requires { AllAscend table.now }
     ensures { IfOk result
-        (λ e. items_of_entry e ≡ entry_of (merged table.now depth) key kind (node_of raw.items)) }
+        (λ e. items_of_entry e ≡ found_entry (merged table.now depth) key kind (node_of raw.items)) }
 {
     let mut keys = None;
     let mut values = None;
@@ -434,7 +439,7 @@ fn noted(
 // The values of a singular field in one, and one more.
 fn with(before: Option<Value>, value: Value, kind: Kind) -> Result<Value, Memory>
     ensures { IfOk result
-        (λ v. IsWith kind (option_map item_of before) (item_of value) (item_of v)) }
+        (λ v. IsWithOneMore kind (option_map item_of before) (item_of value) (item_of v)) }
 {
     match before {
         Some(before) => joined_value(before, value, is_message(kind)),
@@ -453,7 +458,7 @@ fn part(
 ) -> Result<Value, Memory>
     requires { AllAscend table.now }
     ensures { IfOk result
-        (λ v. item_of v ≡ part_of (merged table.now depth) kind (option_map item_of found)) }
+        (λ v. item_of v ≡ found_part (merged table.now depth) kind (option_map item_of found)) }
 {
     match found {
         Some(value) => element(alloc, value, table, kind, depth),

@@ -2,7 +2,7 @@
 
 ghost use Rattle.std.specs.Prelude.{◌≡◌, ℕ, ◌%◌, ◌^◌};
 ghost use Rattle.mrpc_table.specs.WireTypes.{wire_type_of};
-ghost use Rattle.wire_decode.specs.Reads.{is_message};
+ghost use Rattle.wire_decode.specs.Known.{is_message};
 ghost use Rattle.wire_decode.specs.Words.{word_of, sign_extended, unzigzag_of, is_map, is_list, own_type, payload_type, number_in, suits, may_be_packed};
 
 use mrpc_table::{Kind, Label};

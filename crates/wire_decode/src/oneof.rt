@@ -4,8 +4,9 @@ ghost use Rattle.std.specs.Prelude.{◌≡◌, ◌≢◌, ℕ, ◌<◌, ◌^◌,
 ghost use Rattle.mrpc_table.specs.Node.{Node, Content, field};
 ghost use Rattle.mrpc_table.specs.View.{node_of};
 ghost use Rattle.mrpc_table.specs.Ascending.{FieldsAscend};
-ghost use Rattle.wire_decode.specs.Merged.{counted, oneof_at, is_overtaken};
-ghost use Rattle.wire_decode.specs.Behind.{overtakes, IsInFront, IsNoted, Tell, HasNoMember, IsCounted};
+ghost use Rattle.wire_decode.specs.Merged.{counted, is_overtaken};
+ghost use Rattle.wire_decode.specs.Oneofs.{oneof_at};
+ghost use Rattle.wire_decode.specs.Behind.{overtakes, IsInFront, IsNotedAt, TellsOvertaken, HasNoMember, SaysIfCounted};
 
 use mrpc_table::{Field, FieldValue, Label, Memory, Numbered, find_field};
 use std::alloc::Global;
@@ -88,7 +89,7 @@ fn keep_if(kept: &mut Numbered, part: (u32, FieldValue), counts: bool) -> Result
 // Whether a record counts, given what stands behind it; it is noted.
 fn counts(behind: &mut Vec<Behind>, fields: &[Field], number: u32) -> Result<bool, Memory>
     requires { FieldsAscend fields.now }
-    ensures { IfOk result (λ b. IsCounted fields.now behind.old.items number behind.new.items b) }
+    ensures { IfOk result (λ b. SaysIfCounted fields.now behind.old.items number behind.new.items b) }
 {
     match oneof_at(fields, number) {
         Some(oneof) => note(behind, oneof, number),
@@ -99,7 +100,7 @@ fn counts(behind: &mut Vec<Behind>, fields: &[Field], number: u32) -> Result<boo
 // Notes a record of a oneof, and says whether it counts.
 fn note(behind: &mut Vec<Behind>, oneof: usize, number: u32) -> Result<bool, Memory>
     requires { oneof < 2 ^ 32 }
-    ensures noted { OnOk result (IsNoted behind.old.items oneof number behind.new.items) }
+    ensures noted { OnOk result (IsNotedAt behind.old.items oneof number behind.new.items) }
     ensures counts { IfOk result
         (λ b. b ≡ not (overtakes (slice_index_or behind.old.items oneof Behind.Nothing) number)) }
 {

@@ -14,7 +14,8 @@ ghost use Rattle.wire_base.specs.declared.records.Payload.{Payload};
 ghost use Rattle.wire_base.specs.declared.records.Payload.TheVariants.{Len};
 ghost use Rattle.mrpc_table.specs.Ascending.{AllAscend, FieldsAscend};
 ghost use Rattle.wire_decode.specs.Words.{is_list, number_in};
-ghost use Rattle.wire_decode.specs.Ordered.{IsWhole, IsValue, IsFieldRead, AreValues, AreEntries, IsPair, may_follow, oneofs_with, is_single, single_content};
+ghost use Rattle.wire_decode.specs.Ordered.{IsWhole, IsValue, IsFieldRead, AreValues, AreEntries, IsPair, may_follow, oneofs_with};
+ghost use Rattle.wire_decode.specs.Contents.{is_single, single_content};
 
 use crate::merge::{many, pairs, present, present_if_set, push_content};
 use crate::number::word_of;

@@ -9,10 +9,12 @@ ghost use Rattle.wire_base.specs.Records.{PayloadAt, VarintAt, IsWithin};
 ghost use Rattle.wire_base.specs.declared.records.Payload.{Payload};
 ghost use Rattle.mrpc_table.specs.Ascending.{AllAscend, FieldsAscend};
 ghost use Rattle.wire_decode.specs.Words.{AreElements, number_in, suits, word_of};
-ghost use Rattle.wire_decode.specs.Reads.{Reads, Holds, numbers, is_message};
+ghost use Rattle.wire_decode.specs.Reads.{Reads, Holds, numbers};
+ghost use Rattle.wire_decode.specs.Known.{is_message};
 ghost use Rattle.wire_decode.specs.Parts.{IsPiece, NoPiece, IsFixedOrVarint, IsEntry, NoEntry, IsInner, NoInner};
 ghost use Rattle.std.specs.Str.{IsUtf8};
-ghost use Rattle.wire_decode.specs.FaultWalk.{Faults, Fails, reason_of};
+ghost use Rattle.wire_decode.specs.FaultWalk.{MeetsFault, Fails};
+ghost use Rattle.wire_decode.specs.Reason.{reason_of};
 ghost use Rattle.wire_decode.specs.Faults.{FaultsAs};
 ghost use Rattle.wire_decode.specs.declared.fault.DecodeReason.TheVariants.{PackedLength, Utf8};
 
@@ -44,7 +46,7 @@ pub fn read_message(
     ensures found { IfOk result
         (λ parts. Reads table.now room fields.now bytes.now start (node_of parts.items)) }
     ensures fault { IfErr result
-        (FaultsAs (λ reason place. Faults table.now room fields.now bytes.now start reason place)) }
+        (FaultsAs (λ reason place. MeetsFault table.now room fields.now bytes.now start reason place)) }
 {
     let mut parts = Vec::new(alloc);
     let mut at = start;

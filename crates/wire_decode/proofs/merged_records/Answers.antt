@@ -5,7 +5,7 @@ use Rattle.mrpc_table.specs.declared.table.Field.{Field}
 use Rattle.wire_decode.specs.Merges.{Merges}
 use Rattle.wire_decode.specs.Merged.{merged}
 use Rattle.wire_decode.specs.Reads.{Reads}
-use Rattle.wire_decode.specs.FaultWalk.{Faults}
+use Rattle.wire_decode.specs.FaultWalk.{MeetsFault}
 use Rattle.wire_decode.specs.Faults.{FaultsAs}
 use Rattle.wire_decode.proofs.Only.{only-memory}
 use Rattle.wire_decode.proofs.merged_records.Goals as goal
@@ -13,7 +13,7 @@ use Rattle.wire_decode.proofs.merged_records.Goals as goal
 pub returns-in_err-raw-clause-only : goal.returns-in_err-raw-clause-only
 returns-in_err-raw-clause-only c u means =
     let p = err_from_is_err_and c.from_residual.result c.from_residual.ensures.1 in
-    let P : List Field → Type 0 = λ fs. FaultsAs (λ r at. Faults c.args.table.now 31 fs c.args.bytes.now 0 r at) c.in_err-raw.field-0.0 in
+    let P : List Field → Type 0 = λ fs. FaultsAs (λ r at. MeetsFault c.args.table.now 31 fs c.args.bytes.now 0 r at) c.in_err-raw.field-0.0 in
     rw (p.1, p.2) (only-memory c.one_merging.ensures.not_both c.args.table.now c.args.msg c.args.bytes.now u
     c.in_err-raw.field-0.0 means (subst P c.fields-fields.ensures.value c.in_err-raw.ensures.fault))
 

@@ -1,7 +1,7 @@
 use Rattle.std.proofs.Common.{ap, [], ◌∷◌, refl}
 use Rattle.mrpc_table.specs.View.{item_of, content_of}
 use Rattle.wire_decode.specs.Merged.{singles_in}
-use Rattle.wire_decode.specs.Gathered.{are_both}
+use Rattle.wire_decode.specs.TwoInOne.{are_both}
 use Rattle.wire_decode.proofs.gather.singles.Goals as goal
 
 pub returns-in_ok-value-in-One-before : goal.returns-in_ok-value-in-One-before

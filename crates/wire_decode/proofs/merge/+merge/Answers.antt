@@ -7,8 +7,10 @@ use Rattle.mrpc_table.specs.Node.{no_fields, Item}
 use Rattle.mrpc_table.specs.View.{item_of, content_of, node_of}
 use Rattle.wire_decode.proofs.Views.{node_of-last}
 use Rattle.mrpc_table.specs.declared.tree.FieldValue.{FieldValue}
-use Rattle.wire_decode.specs.Merged.{merged, part, singles_in, contents_of, join_fields, with_content}
-use Rattle.wire_decode.specs.Gathered.{finished_of, MeansAll}
+use Rattle.wire_decode.specs.Merged.{merged, part, singles_in, contents_of, join_fields}
+use Rattle.wire_decode.specs.Contents.{with_content}
+use Rattle.wire_decode.specs.Finished.{finished_of}
+use Rattle.wire_decode.specs.EntryParts.{MeansAll}
 use Rattle.wire_decode.proofs.Merging.{elements-same, finished-merged, finished-pushed, part-all, singles-more, merged-zero}
 use Rattle.wire_decode.proofs.merge.+merge.Goals as goal
 

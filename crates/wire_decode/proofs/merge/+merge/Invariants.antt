@@ -3,7 +3,8 @@ use Rattle.std.specs.Option.{option_map}
 use Rattle.mrpc_table.specs.View.{item_of, node_of}
 use Rattle.wire_decode.specs.Merged.{merged, element, entry, singles_in, contents_of}
 use Rattle.mrpc_table.specs.SortedEntries.{items_of_entry}
-use Rattle.wire_decode.specs.Gathered.{MeansAll, finished_of}
+use Rattle.wire_decode.specs.EntryParts.{MeansAll}
+use Rattle.wire_decode.specs.Finished.{finished_of}
 use Rattle.wire_decode.proofs.merge.+merge.Given as goal
 
 abbrev pub decreases-merged : goal.decreases-merged

@@ -6,7 +6,8 @@ use Rattle.mrpc_table.specs.Node.{Node}
 use Rattle.mrpc_table.specs.View.{node_of, content_of}
 use Rattle.mrpc_table.specs.declared.tree.FieldValue.{FieldValue}
 use Rattle.wire_decode.proofs.Views.{node_of-last}
-use Rattle.wire_decode.specs.Gathered.{IsGathered, AreAtMost}
+use Rattle.wire_decode.specs.Gathered.{IsGathered}
+use Rattle.wire_decode.specs.NumberOrder.{NumbersAreAtMost}
 use Rattle.wire_decode.proofs.Adding.{gathered-more}
 use Rattle.wire_decode.proofs.Sorting.{fall-most}
 use Rattle.wire_decode.proofs.merge.gathered.Goals as goal
@@ -19,7 +20,7 @@ loop-number-preserved c =
     let so_far = YieldsList-so_far e ys c.loop-number.number-iterator c.loop-number.yielded_by in
     let turn = YieldsList-turn e ys c.loop-number.number-iterator c.loop-number.yielded_by c.next.result c.next.new.self x c.in-Some.is c.next.ensures.steps in
     let most = fall-most 0 c.args.raw.items (length ys) x c.requires.sorted turn.0 turn.1 in
-    let M : List (ℕ × FieldValue) → Type 0 = λ zs. AreAtMost c.in-Some.number (node_of zs) in
+    let M : List (ℕ × FieldValue) → Type 0 = λ zs. NumbersAreAtMost c.in-Some.number (node_of zs) in
     let at_most = subst M (sym (sym (map-id ys) ∙ so_far)) most in
     let more = gathered-more c.args.fields.now (node_of ys) (node_of c.loop-number.held.items)
     (node_of c.add.new.held.items) c.in-Some.number (content_of c.in-Some.content) c.form_at-form.result.0

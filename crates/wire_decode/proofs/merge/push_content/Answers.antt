@@ -3,7 +3,8 @@ use Rattle.std.specs.Option.{option_map}
 use Rattle.mrpc_table.specs.Node.{no_fields}
 use Rattle.mrpc_table.specs.View.{node_of, content_of}
 use Rattle.wire_decode.proofs.Views.{node_of-last}
-use Rattle.wire_decode.specs.Merged.{join_fields, with_content}
+use Rattle.wire_decode.specs.Merged.{join_fields}
+use Rattle.wire_decode.specs.Contents.{with_content}
 use Rattle.wire_decode.proofs.Reading.{join-none}
 use Rattle.wire_decode.proofs.Merging.{push-join}
 use Rattle.wire_decode.proofs.merge.push_content.Goals as goal

@@ -5,14 +5,14 @@ use Rattle.mrpc_table.specs.View.{node_of, content_of}
 use Rattle.wire_decode.proofs.Views.{node_of-last}
 use Rattle.wire_decode.specs.declared.oneof.Behind.{Behind}
 use Rattle.wire_decode.specs.Merged.{join_fields}
-use Rattle.wire_decode.specs.Behind.{Tell}
+use Rattle.wire_decode.specs.Behind.{TellsOvertaken}
 use Rattle.wire_decode.proofs.Reading.{join-none, join-pushed}
 use Rattle.wire_decode.proofs.Oneofs.{tell-none, kept-more}
 use Rattle.wire_decode.proofs.oneof.counted_behind.Goals as goal
 
 pub loop-part-init : goal.loop-part-init
 loop-part-init c =
-    let P : List Behind → Type 0 = λ bs. Tell c.args.fields.now bs no_fields in (
+    let P : List Behind → Type 0 = λ bs. TellsOvertaken c.args.fields.now bs no_fields in (
       no_fields,
       sym (join-none (node_of c.args.raw.items)),
       ap (λ xs. node_of (reverse xs)) c.in_ok-kept.ensures.items,

@@ -7,7 +7,8 @@ use Rattle.mrpc_table.specs.declared.tree.FieldValue.{FieldValue}
 use Rattle.mrpc_table.specs.declared.tree.Value.{Value}
 use Rattle.mrpc_table.specs.MapEntries.{last_of_each}
 use Rattle.mrpc_table.specs.SortedEntries.{items_of_entry}
-use Rattle.wire_decode.specs.Merged.{join_fields, with_content, some_pairs}
+use Rattle.wire_decode.specs.Merged.{join_fields}
+use Rattle.wire_decode.specs.Contents.{with_content, some_pairs}
 use Rattle.wire_decode.specs.Ordered.{IsWhole, AreValues, AreEntries}
 use Rattle.wire_decode.proofs.Merging.{map-pushed}
 use Rattle.wire_decode.proofs.Payloads.{VarintAt-moves}

@@ -1,7 +1,8 @@
 use Rattle.std.proofs.Common.{◌∙◌, ◌/◌, ◌%◌, ap, subst, sym, ℕ}
 use Rattle.mrpc_table.specs.Node.{number, no_fields}
 use Rattle.mrpc_table.specs.View.{node_of}
-use Rattle.wire_decode.specs.Merged.{join_fields, with_content}
+use Rattle.wire_decode.specs.Merged.{join_fields}
+use Rattle.wire_decode.specs.Contents.{with_content}
 use Rattle.wire_decode.specs.Ordered.{IsValue}
 use Rattle.wire_decode.proofs.OrderlyValues.{number-value, single-field, on-ok-has}
 use Rattle.wire_decode.proofs.ordered.ordered_number.Goals as goal

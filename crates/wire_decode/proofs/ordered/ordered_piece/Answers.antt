@@ -1,7 +1,8 @@
 use Rattle.std.proofs.Common.{◌∙◌, ◌/◌, ap, sym, map}
 use Rattle.mrpc_table.specs.Node.{no_fields}
 use Rattle.mrpc_table.specs.View.{item_of, node_of}
-use Rattle.wire_decode.specs.Merged.{items_in, join_fields, with_content}
+use Rattle.wire_decode.specs.Merged.{items_in, join_fields}
+use Rattle.wire_decode.specs.Contents.{with_content}
 use Rattle.wire_decode.proofs.Gathering.{items_in-items_of}
 use Rattle.wire_decode.proofs.OrderlyValues.{piece-field, items-of-numbers, ok-has, on-ok-has}
 use Rattle.wire_decode.proofs.ordered.ordered_piece.Goals as goal

@@ -10,8 +10,9 @@ use Rattle.mrpc_table.specs.declared.table.Label.TheVariants.{Map, Optional}
 use Rattle.wire_base.specs.declared.records.Payload.{Payload}
 use Rattle.wire_base.specs.declared.records.Payload.TheVariants.{Len}
 use Rattle.wire_decode.specs.Words.{suits, word_of, number_in, payload_type}
-use Rattle.wire_decode.specs.Reads.{Reads, is_message, Holds}
-use Rattle.wire_decode.specs.FaultWalk.{Faults, no_record, in_payload}
+use Rattle.wire_decode.specs.Reads.{Reads, Holds}
+use Rattle.wire_decode.specs.Known.{is_message}
+use Rattle.wire_decode.specs.FaultWalk.{MeetsFault, no_record, in_payload}
 use Rattle.wire_decode.specs.Parts.{entry_room, inner_fault}
 use Rattle.wire_decode.proofs.Faulty.{faults_as}
 use Rattle.wire_decode.proofs.Contents.{number-holds, packs, not_map, numeric-kind, unknown, unsuited, answers-at}
@@ -109,7 +110,7 @@ message-returns-in_err-fields-clause-fault t c =
     let p = err_from_is_err_and c.from_residual.result c.from_residual.ensures.1 in
     rw (p.1, p.2) (faults_as _ _ c.in_err-fields.field-0.0 c.in_err-fields.ensures.fault
     (λ r at h. inner_fault (c.args.room - 1) more (let P : List Field
-    → Type 0 = λ fs. Faults c.args.table.now (c.args.room - 1) fs c.args.bytes.now c.args.start r at in
+    → Type 0 = λ fs. MeetsFault c.args.table.now (c.args.room - 1) fs c.args.bytes.now c.args.start r at in
     subst P c.fields.ensures.value h)))
 
 pub read_message-returns-in-Err-clause-fault : goal.read_message-returns-in-Err-clause-fault

@@ -1,0 +1,23 @@
+-- The code's own: in which order the numbers of fields come.
+use Rattle.std.specs.Prelude.{ℕ, ◌<◌, ◌≤◌}
+use Rattle.mrpc_table.specs.Node.{Node, no_fields, field}
+
+-- each number is above the one before it, and the first above the last one so far
+abbrev pub NumbersRiseFrom : ℕ → Node → Type 0
+NumbersRiseFrom last no_fields = Unit {0}
+NumbersRiseFrom last (field number content others) = (last < number) × NumbersRiseFrom number others
+
+-- each number is above the one before it
+abbrev pub NumbersRise : Node → Type 0
+NumbersRise no_fields = Unit {0}
+NumbersRise (field number content others) = NumbersRiseFrom number others
+
+-- no number is below the one before it, nor the first below the last one so far
+abbrev pub NumbersNeverFallFrom : ℕ → Node → Type 0
+NumbersNeverFallFrom last no_fields = Unit {0}
+NumbersNeverFallFrom last (field number content others) = (last ≤ number) × NumbersNeverFallFrom number others
+
+-- no number is above this one
+abbrev pub NumbersAreAtMost : ℕ → Node → Type 0
+NumbersAreAtMost most no_fields = Unit {0}
+NumbersAreAtMost most (field number content others) = (number ≤ most) × NumbersAreAtMost most others

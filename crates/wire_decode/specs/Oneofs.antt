@@ -1,0 +1,24 @@
+-- Which fields are members of one oneof (Protocol Buffers, "Encoding": "Oneofs").
+use Rattle.std.specs.Prelude.{◌==◌, ◌&&◌, ℕ, Bool, false, not, List, Option, Some, None, option_and_then}
+use Rattle.mrpc_table.specs.Normal.{field_at}
+use Rattle.mrpc_table.specs.declared.table.Label.{Label}
+use Rattle.mrpc_table.specs.declared.table.Label.TheVariants.{Member}
+use Rattle.mrpc_table.specs.declared.table.Field.{Field}
+
+-- the oneof that a field of this label is a member of, by its place
+abbrev pub oneof_of : Label → Option ℕ
+oneof_of (Member oneof) = Some oneof
+oneof_of _ = None
+
+-- the oneof that the field of a number is a member of
+abbrev pub oneof_at : List Field → ℕ → Option ℕ
+oneof_at fields number = option_and_then (λ f. oneof_of f.label) (field_at fields number)
+
+-- whether both are a oneof, and the same
+abbrev pub is_same : Option ℕ → Option ℕ → Bool
+is_same (Some one) (Some other) = one == other
+is_same _ _ = false
+
+-- two numbers are of different members of one oneof
+abbrev pub are_rivals : List Field → ℕ → ℕ → Bool
+are_rivals fields one other = not (other == one) && is_same (oneof_at fields one) (oneof_at fields other)
