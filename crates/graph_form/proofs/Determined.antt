@@ -10,11 +10,11 @@ use Rattle.graph_form.specs.declared.reason.Reason.TheVariants.{Address, Presenc
 use Rattle.graph_form.specs.Roles.{Role, Expected, behind, node_words, size_words}
 use Rattle.graph_form.specs.Placed.{Placed, nothing, first, word, loads, LiesIn, IsFine, IsPlaced, IsSound}
 use Rattle.graph_form.specs.Forgotten.{tree_of}
-use Rattle.graph_form.specs.Malformed.{Loaded, words_of, loads_of, AreFine, order_of, OffendsFirst, IsMalformed}
+use Rattle.graph_form.specs.Malformed.{Loaded, loaded_words, loads_of, AreFine, order_of, OffendsFirst, IsMalformed}
 use Rattle.graph_form.specs.Malformed.{no_root, offends, too_many, Outcome, copied, malformed, ComesTo, is_copied}
 use Rattle.graph_form.specs.Malformed.{is_malformed, ReadsBy}
 use Rattle.graph_form.specs.Loading.{LeadsTo}
-use Rattle.graph_form.proofs.Joined.{join, placed-join, words_of-join, placed-sound, sound-leads, loads-same}
+use Rattle.graph_form.proofs.Joined.{join, placed-join, loaded_words-join, placed-sound, sound-leads, loads-same}
 
 -- ---- the first words of a placed tree, none of which offends, lead to the next
 
@@ -28,23 +28,23 @@ heads : {X : Type 0} (x y : X) (xs ys : List X) → x ∷ xs ≡ y ∷ ys → (x
 heads x y xs ys e = (cc, cc)
 
 leads-to-word : (T : Table) (H : ℕ) (es : Expected) (P : Placed) (before : List Loaded) (next : Loaded)
-    (after : List Loaded) → IsPlaced T H es P → words_of T es P ≡ before ++ next ∷ after → AreFine T H before
+    (after : List Loaded) → IsPlaced T H es P → loaded_words T es P ≡ before ++ next ∷ after → AreFine T H before
     → LeadsToWord T H es before next
 leads-to-word T H [] P [] next after h e fine = absurd (cc)
 leads-to-word T H [] P (b ∷ bs) next after h e fine = absurd (cc)
 leads-to-word T H (f ∷ es) nothing before next after h e fine = absurd h
 leads-to-word T H (f ∷ es) (first (word p v c) P) [] next after h e fine =
     let w : Loaded = record { role = f.0; place = p; number = v } in
-    let same : w ≡ next = (heads w next (words_of T (behind T f.0 p v) c ++ words_of T es P) after e).0 in
+    let same : w ≡ next = (heads w next (loaded_words T (behind T f.0 p v) c ++ loaded_words T es P) after e).0 in
     let place : f.1 ≡ next.place = sym h.0 ∙ ap (λ (z : Loaded). z.place) same in
     record { role = f.0; rest = es; leads = ap (λ q. (f.0, q) ∷ es) place; is = ap (λ (z : Loaded). z.role) same }
 leads-to-word T H (f ∷ es) (first (word p v c) P) (b ∷ bs) next after h e fine =
     let inner = behind T f.0 p v in
     let w : Loaded = record { role = f.0; place = p; number = v } in
-    let both = heads w b (words_of T inner c ++ words_of T es P) (bs ++ next ∷ after) e in
+    let both = heads w b (loaded_words T inner c ++ loaded_words T es P) (bs ++ next ∷ after) e in
     let good : IsFine T H f.0 v = subst (λ (z : Loaded). IsFine T H z.role z.number) (sym both.0) (All-head (λ (z : Loaded). IsFine T H z.role z.number) b bs fine) in
     let content : IsPlaced T H inner c = ⊎_elim (λ s. s.1) (λ s. absurd (good s.0.0 s.0.1)) h.2 in
-    let order : words_of T (inner ++ es) (join c P) ≡ bs ++ next ∷ after = words_of-join T H inner es c P content ∙ both.1 in
+    let order : loaded_words T (inner ++ es) (join c P) ≡ bs ++ next ∷ after = loaded_words-join T H inner es c P content ∙ both.1 in
     let rest = leads-to-word T H (inner ++ es) (join c P) bs next after (placed-join T H inner es c P content h.3) order (All-tail (λ (z : Loaded). IsFine T H z.role z.number) b bs fine) in
     let here : LeadsTo T H (f ∷ es) ((p, v) ∷ loads_of bs) ((rest.role, next.place) ∷ rest.rest) = (h.0, h.1, good, rest.leads) in
     record {

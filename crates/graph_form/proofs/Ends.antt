@@ -21,9 +21,9 @@ use Rattle.graph_form.specs.Roles.{Role, value, presence, run_length, run_presen
 use Rattle.graph_form.specs.Roles.{count, elements_address, entry_count, entries_address, case_word, Expected, behind}
 use Rattle.graph_form.specs.Roles.{word_bytes, element_words, size_words, node_words}
 use Rattle.graph_form.specs.Placed.{Placed, nothing, first, word, LiesIn, IsFine, IsFaulty, IsPlaced}
-use Rattle.graph_form.specs.Malformed.{Loaded, words_of, loads_of, AreFine, OffendsFirst, IsMalformed, offends, too_many}
+use Rattle.graph_form.specs.Malformed.{Loaded, loaded_words, loads_of, AreFine, OffendsFirst, IsMalformed, offends, too_many}
 use Rattle.graph_form.specs.Loading.{LeadsTo}
-use Rattle.graph_form.proofs.Joined.{placed-parts, words_of-join}
+use Rattle.graph_form.proofs.Joined.{placed-parts, loaded_words-join}
 
 -- ---- some placed tree stands wherever words are expected: one of zeros
 
@@ -197,7 +197,7 @@ record Begun (T : Table) (H : ℕ) (es next : Expected) (xs : List (ℕ × ℕ))
   placed : Placed
   is_placed : IsPlaced T H es placed
   before : List Loaded
-  order : words_of T es placed ≡ before ++ words_of T next Q
+  order : loaded_words T es placed ≡ before ++ loaded_words T next Q
   loads : xs ≡ loads_of before
   fine : AreFine T H before
 
@@ -206,7 +206,7 @@ begun T H es next [] Q h q = record {
   placed = Q;
   is_placed = subst (λ z. IsPlaced T H z Q) (sym h) q;
   before = [];
-  order = ap (λ z. words_of T z Q) h;
+  order = ap (λ z. loaded_words T z Q) h;
   loads = refl;
   fine = All-nil (λ (w : Loaded). IsFine T H w.role w.number);
 }
@@ -216,8 +216,8 @@ begun T H (e ∷ es) next (x ∷ xs) Q h q =
     let rest = begun T H (inside ++ es) next xs Q h.3 q in
     let parts = placed-parts T H inside es rest.placed rest.is_placed in
     let w : Loaded = record { role = e.0; place = x.0; number = x.1 } in
-    let order : words_of T inside parts.front ++ words_of T es parts.rest ≡ rest.before ++ words_of T next Q =
-    sym (words_of-join T H inside es parts.front parts.rest parts.front_is) ∙ ap (words_of T (inside ++ es)) (sym parts.is) ∙ rest.order in
+    let order : loaded_words T inside parts.front ++ loaded_words T es parts.rest ≡ rest.before ++ loaded_words T next Q =
+    sym (loaded_words-join T H inside es parts.front parts.rest parts.front_is) ∙ ap (loaded_words T (inside ++ es)) (sym parts.is) ∙ rest.order in
     record {
       placed = first (word x.0 x.1 parts.front) parts.rest;
       is_placed = (h.0, h.1, inl (h.2, parts.front_is), parts.rest_is);
@@ -227,7 +227,7 @@ begun T H (e ∷ es) next (x ∷ xs) Q h q =
       fine = All-cons (λ (u : Loaded). IsFine T H u.role u.number) w rest.before h.2 rest.fine;
     }
 
-none-behind : (T : Table) (es : Expected) → words_of T es nothing ≡ []
+none-behind : (T : Table) (es : Expected) → loaded_words T es nothing ≡ []
 none-behind T [] = refl
 none-behind T (e ∷ es) = refl
 
@@ -246,8 +246,8 @@ ends-at-offence T H msg address limit xs e rest v reason root leads within small
     let w : Loaded = record { role = e.0; place = e.1; number = v } in
     let stands : IsPlaced T H (e ∷ rest) Q = (refl, small, inr ((reason, bad.offends), refl), left.1) in
     let b = begun T H (node_words T msg 1 address) (e ∷ rest) xs Q leads stands in
-    let after = words_of T rest left.0 in
-    let order : words_of T (node_words T msg 1 address) b.placed ≡ (b.before ++ w ∷ []) ++ after =
+    let after = loaded_words T rest left.0 in
+    let order : loaded_words T (node_words T msg 1 address) b.placed ≡ (b.before ++ w ∷ []) ++ after =
     b.order ∙ ap (λ ws. b.before ++ (w ∷ ws ++ after)) (none-behind T (behind T e.0 e.1 v)) ∙ sym (append_assoc b.before (w ∷ []) after) in
     offends b.before after w
     (record { root = root; placed = b.placed; words = b.is_placed; order = order })
@@ -288,7 +288,7 @@ ends-at-limit T H msg address limit xs x e rest root leads full =
     let stands : IsPlaced T H (e ∷ rest) Q = (refl, pow_pos 64, here.stands, left.1) in
     let b = begun T H (node_words T msg 1 address) (e ∷ rest) (xs ++ x ∷ []) Q leads stands in
     let end = ends-with b.before xs x b.loads in
-    let after = words_of T (behind T e.0 e.1 0) here.content ++ words_of T rest left.0 in
+    let after = loaded_words T (behind T e.0 e.1 0) here.content ++ loaded_words T rest left.0 in
     too_many end.front after end.last next
     (record { root = root; placed = b.placed; words = b.is_placed; order = b.order ∙ ap (λ ws. ws ++ next ∷ after) end.is })
     (subst (AreFine T H) end.is b.fine) full

@@ -4,7 +4,7 @@ use Rattle.std.proofs.lemmas.List.{append_assoc}
 use Rattle.mrpc_table.specs.declared.table.Table.{Table}
 use Rattle.graph_form.specs.Roles.{Role, Expected, behind}
 use Rattle.graph_form.specs.Placed.{Placed, nothing, first, word, loads, IsFine, IsFaulty, IsPlaced, AreSound}
-use Rattle.graph_form.specs.Malformed.{Loaded, words_of}
+use Rattle.graph_form.specs.Malformed.{Loaded, loaded_words}
 use Rattle.graph_form.specs.Loading.{LeadsTo}
 
 -- the words of one placed tree, and then those of another
@@ -39,14 +39,14 @@ placed-parts T H (e ∷ es) b (first (word p v c) P) h =
       rest_is = parts.rest_is;
     }
 
-pub words_of-join : (T : Table) (H : ℕ) (a b : Expected) (P Q : Placed) → IsPlaced T H a P → words_of T (a ++ b) (join P Q) ≡ words_of T a P ++ words_of T b Q
-words_of-join T H [] b nothing Q h = refl
-words_of-join T H [] b (first w P) Q h = absurd h
-words_of-join T H (e ∷ es) b nothing Q h = absurd h
-words_of-join T H (e ∷ es) b (first (word p v c) P) Q h =
+pub loaded_words-join : (T : Table) (H : ℕ) (a b : Expected) (P Q : Placed) → IsPlaced T H a P → loaded_words T (a ++ b) (join P Q) ≡ loaded_words T a P ++ loaded_words T b Q
+loaded_words-join T H [] b nothing Q h = refl
+loaded_words-join T H [] b (first w P) Q h = absurd h
+loaded_words-join T H (e ∷ es) b nothing Q h = absurd h
+loaded_words-join T H (e ∷ es) b (first (word p v c) P) Q h =
     let w : Loaded = record { role = e.0; place = p; number = v } in
-    let inner = words_of T (behind T e.0 p v) c in
-    ap (λ ws. w ∷ inner ++ ws) (words_of-join T H es b P Q h.3) ∙ ap (λ ws. w ∷ ws) (sym (append_assoc inner (words_of T es P) (words_of T b Q)))
+    let inner = loaded_words T (behind T e.0 p v) c in
+    ap (λ ws. w ∷ inner ++ ws) (loaded_words-join T H es b P Q h.3) ∙ ap (λ ws. w ∷ ws) (sym (append_assoc inner (loaded_words T es P) (loaded_words T b Q)))
 
 -- ---- loads determine placed trees
 

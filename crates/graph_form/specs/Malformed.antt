@@ -16,11 +16,11 @@ pub record Loaded : Type 0 where
   pub number : ℕ
 
 -- the words of a placed tree in the order of loading, each under the role that is expected of it
-abbrev pub words_of : Table → Expected → Placed → List Loaded
-words_of T [] P = []
-words_of T (e ∷ es) nothing = []
-words_of T (e ∷ es) (first (word place v content) others) =
-    record { role = e.0; place = place; number = v } ∷ words_of T (behind T e.0 place v) content ++ words_of T es others
+abbrev pub loaded_words : Table → Expected → Placed → List Loaded
+loaded_words T [] P = []
+loaded_words T (e ∷ es) nothing = []
+loaded_words T (e ∷ es) (first (word place v content) others) =
+    record { role = e.0; place = place; number = v } ∷ loaded_words T (behind T e.0 place v) content ++ loaded_words T es others
 
 abbrev pub loads_of : List Loaded → List (ℕ × ℕ)
 loads_of words = map (λ w. (w.place, w.number)) words
@@ -50,7 +50,7 @@ pub record Begins (T : Table) (H msg address : ℕ) (before after : List Loaded)
   pub root : LiesIn H address (size_words T msg)
   pub placed : Placed
   pub words : IsPlaced T H (node_words T msg 1 address) placed
-  pub order : words_of T (node_words T msg 1 address) placed ≡ before ++ after
+  pub order : loaded_words T (node_words T msg 1 address) placed ≡ before ++ after
 
 -- The graph at an address is malformed by these loads, for a reason, at the place and value of the last of them.
 pub data IsMalformed (T : Table) (H msg address limit : ℕ) (loads : List (ℕ × ℕ)) (reason : Reason)

@@ -24,6 +24,9 @@ apart_append (x ∷ xs) ys a b h = (each_append (Differs x) xs ys a.0 h.0, apart
 
 -- ---- parts of spans
 
+-- A part has its slots from a to below b and its content from c to below d. The part behind it has its slots from b to
+-- below b2 and its content from d to below d2, so both together have theirs from a to below b2 and from c to below d2.
+
 between_left : (a b b2 c d d2 p : ℕ) → b ≤ b2 → d ≤ d2 → Between a b c d p → Between a b2 c d2 p
 between_left a b b2 c d d2 p hb hd h = record { low = h.low; high = omega (arith, h.high, hd); gap = λ g. h.gap (omega (arith, g, hb)) }
 

@@ -17,61 +17,68 @@ use Rattle.graph_place.specs.Size.{content_words}
 
 -- ---- where words stand
 
--- a place from `a` to below `d`, and not from `b` to below `c`
-pub record Between (a b c d place : ℕ) : Type 0 where
-  pub low : a ≤ place
-  pub high : place < d
-  pub gap : b ≤ place → c ≤ place
+-- A part of a message has two spans of places. Its slots stand from `slots_begin` to below `slots_end`. The content
+-- that they need stands behind, from `content_begin` to below `content_end`, and has slots and content of its own. Other
+-- parts may stand in the gap from `slots_end` to below `content_begin`.
+
+-- a place lies in the two spans: from the first slot to the end of the content, and not in the gap
+pub record Between (slots_begin slots_end content_begin content_end place : ℕ) : Type 0 where
+  pub low : slots_begin ≤ place
+  pub high : place < content_end
+  pub gap : slots_end ≤ place → content_begin ≤ place
 
 -- no two words stand at one place
 abbrev pub Apart : List (ℕ × ℕ) → Type 0
 Apart [] = Unit {0}
 Apart (x ∷ xs) = AllByRecursion (λ y. x.0 ≡ y.0 → ⊥) xs × Apart xs
 
--- words of slots from `a` to below `b`, and of content from `c` to below `d`, no two at one place
-pub record Spread (a b c d : ℕ) (xs : List (ℕ × ℕ)) : Type 0 where
-  pub within : AllByRecursion (λ x. Between a b c d x.0) xs
-  pub apart : Apart xs
-  pub few : length xs + a + c ≤ b + d
+-- the words of a part stand in its two spans, no two at one place, and are no more than the spans have places
+pub record Spread (slots_begin slots_end content_begin content_end : ℕ) (words : List (ℕ × ℕ)) : Type 0 where
+  pub within : AllByRecursion (λ word. Between slots_begin slots_end content_begin content_end word.0) words
+  pub apart : Apart words
+  pub few : length words + slots_begin + content_begin ≤ slots_end + content_end
 
 -- ---- what is put
 
--- the words so far have got those of a sound placed tree of what is expected, of which something is made
-pub record Puts (T : Table) (H : ℕ) (es : Expected) (a b c d : ℕ) (before after : List (ℕ × ℕ))
-    (Made : Placed → Type 0) : Type 0 where
+-- Words were put behind those before: the loads of a sound placed tree of the expected words, in a heap of `H` words.
+-- They stand in these two spans, and the tree is one of which this is made.
+pub record Puts (T : Table) (H : ℕ) (expected : Expected) (slots_begin slots_end content_begin content_end : ℕ)
+    (before after : List (ℕ × ℕ)) (Made : Placed → Type 0) : Type 0 where
   pub placed : Placed
-  pub sound : AreSound T H es placed
+  pub sound : AreSound T H expected placed
   pub words : after ≡ before ++ loads placed
-  pub spread : Spread a b c d (loads placed)
+  pub spread : Spread slots_begin slots_end content_begin content_end (loads placed)
   pub made : Made placed
 
--- the same of one word with its content
-pub record PutsWord (T : Table) (H : ℕ) (e : Role × ℕ) (b c d : ℕ) (before after : List (ℕ × ℕ))
-    (Made : Word → Type 0) : Type 0 where
+-- One expected word, which is a role and a place, was put behind those before, with its content behind it. The span of
+-- slots begins at its place.
+pub record PutsWord (T : Table) (H : ℕ) (expected : Role × ℕ) (slots_end content_begin content_end : ℕ)
+    (before after : List (ℕ × ℕ)) (Made : Word → Type 0) : Type 0 where
   pub value : ℕ
   pub content : Placed
   pub small : value < 2 ^ 64
-  pub fine : IsFine T H e.0 value
-  pub sound : AreSound T H (behind T e.0 e.1 value) content
-  pub words : after ≡ before ++ ((e.1, value) ∷ loads content)
-  pub spread : Spread e.1 b c d ((e.1, value) ∷ loads content)
-  pub made : Made (word e.1 value content)
+  pub fine : IsFine T H expected.0 value
+  pub sound : AreSound T H (behind T expected.0 expected.1 value) content
+  pub words : after ≡ before ++ ((expected.1, value) ∷ loads content)
+  pub spread : Spread expected.1 slots_end content_begin content_end ((expected.1, value) ∷ loads content)
+  pub made : Made (word expected.1 value content)
 
--- a sound placed tree of the rest completes one of all that is expected
-pub record Completes (T : Table) (H : ℕ) (all : Expected) (own : List (ℕ × ℕ)) (Q : Placed)
+-- a sound placed tree of the rest, behind the own words that were put, makes one of all that is expected
+pub record Completes (T : Table) (H : ℕ) (all : Expected) (own : List (ℕ × ℕ)) (rest : Placed)
     (Made : Placed → Type 0) : Type 0 where
   pub placed : Placed
   pub sound : AreSound T H all placed
-  pub loaded : loads placed ≡ own ++ loads Q
+  pub loaded : loads placed ≡ own ++ loads rest
   pub made : Made placed
 
--- the words of the first of those that are expected are put, and a rest is still expected
-pub record Begun (T : Table) (H : ℕ) (all rest : Expected) (a b c d : ℕ) (before now : List (ℕ × ℕ))
-    (Made Rest : Placed → Type 0) : Type 0 where
+-- Of all expected words the first ones were put behind those before, in these two spans, and the rest is still
+-- expected: each sound placed tree of the rest of which that is made completes one of all of which this is made.
+pub record Begun (T : Table) (H : ℕ) (all rest : Expected) (slots_begin slots_end content_begin content_end : ℕ)
+    (before now : List (ℕ × ℕ)) (Made MadeOfRest : Placed → Type 0) : Type 0 where
   pub own : List (ℕ × ℕ)
   pub words : now ≡ before ++ own
-  pub spread : Spread a b c d own
-  pub on : (Q : Placed) → AreSound T H rest Q → Rest Q → Completes T H all own Q Made
+  pub spread : Spread slots_begin slots_end content_begin content_end own
+  pub on : (others : Placed) → AreSound T H rest others → MadeOfRest others → Completes T H all own others Made
 
 -- the value of a word
 abbrev pub value_of : Word → ℕ

@@ -8,7 +8,7 @@ use Rattle.link_queue.specs.declared.marks.Order.TheVariants.{Finish, Close}
 use Rattle.link_queue.specs.declared.marks.News.{News}
 use Rattle.link_queue.specs.declared.marks.News.TheVariants.{End, Failed, Memory}
 use Rattle.link_queue.specs.declared.marks.Health.TheVariants.{Working, Failed as HasFailed, Memory as LacksMemory}
-use Rattle.link_queue.specs.Known.{TellsMore, since}
+use Rattle.link_queue.specs.Known.{TellsMore, frames_since}
 use Rattle.one_way_queue.specs.Pieces.{frames_of}
 use Rattle.link_queue.specs.Marks.{Among, is_open, is_closed, has_finished, ends_once, may_hold, IsNewsOf}
 use Rattle.link_queue.specs.Marks.{QueuesUp, HearsBack, HasQueuedUp, PassesOn, BringsBack, HasBroughtBack}
@@ -36,7 +36,7 @@ still_open : is_open (Bytes (1 ∷ []) ∷ Mark Finish ∷ []) ≡ true
 still_open = refl
 
 -- the frames handed over since a link had the first
-the_second : since ((1 ∷ 2 ∷ []) ∷ []) frames ≡ (3 ∷ []) ∷ []
+the_second : frames_since ((1 ∷ 2 ∷ []) ∷ []) frames ≡ (3 ∷ []) ∷ []
 the_second = refl
 
 -- an inner link that had given 1 gave 2 and 3 since; of one that told nothing before, nothing is said

@@ -10,9 +10,9 @@ pub record Later (L : Type 0) : Type 0 where
   pub start : L
   pub now : L
 
--- the frames that were handed over since, where `old` were before and `new` are now
-abbrev pub since : List (List ℕ) → List (List ℕ) → List (List ℕ)
-since old new = drop (length old) new
+-- the frames that were handed over since, where `old` were before and `new` are all of them now
+abbrev pub frames_since : List (List ℕ) → List (List ℕ) → List (List ℕ)
+frames_since old new = drop (length old) new
 
 -- a list begins with another
 abbrev pub BeginsWith : {A : Type 0} → List A → List A → Type 0

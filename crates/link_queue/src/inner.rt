@@ -3,7 +3,7 @@
 ghost use Rattle.std.specs.Prelude.{◌≡◌, ◌≢◌, ◌≤◌, ◌++◌, true};
 ghost use Rattle.mrpc_base.specs.Faults.{raised};
 ghost use Rattle.link_queue.specs.declared.marks.Health.TheVariants.{Failed};
-ghost use Rattle.link_queue.specs.Known.{TellsMore, since};
+ghost use Rattle.link_queue.specs.Known.{TellsMore, frames_since};
 
 use crate::kept::Kept;
 use crate::marks::Health;
@@ -17,7 +17,7 @@ pub(crate) struct Inner<L: Link> {
     pub came: GivenBytes,
     pub health: Health,
     pub ended: bool,
-    ghost handed: { L.handed link.now ≡ L.handed link.start ++ since (L.handed link.start) (L.handed link.now) },
+    ghost handed: { L.handed link.now ≡ L.handed link.start ++ frames_since (L.handed link.start) (L.handed link.now) },
     ghost given: { TellsMore (L.given link.start) (L.given link.now) came.bytes },
     ghost failed: { health ≡ Failed → raised (L.faults link.start) ≤ L.faults link.now },
     ghost works: { health ≢ Failed → L.faults link.now ≡ L.faults link.start },

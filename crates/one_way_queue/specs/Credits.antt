@@ -1,4 +1,5 @@
--- The code's own: the rule of the queue through which credits go back.
+-- The code's own: the rule of the queue through which credits go back. All its credits are of one queue, and each pass
+-- to it has a desk at its port, on which that queue is named as soon as it is known.
 use Rattle.std.specs.Prelude.{◌≡◌, ℕ, true, false, List, [], ◌∷◌, ⊤}
 use mathlib.Core.Option.{some}
 use lib.ListN.{get_elem?}
@@ -7,25 +8,33 @@ use Rattle.one_way_queue.specs.declared.credit.Credit.{Credit}
 use Rattle.one_way_queue.specs.declared.credit.Desk.{Desk}
 use Rattle.one_way_queue.specs.Names.{no_queue}
 
--- a pass that knows of which queue the credits are, and the first one, which doesn't
+-- the desk of a pass that knows which queue the credits are of
 abbrev pub desk_of : TableId → Desk
 desk_of queue = record { named = true; queue = queue }
 
+-- the desk of the first pass, which doesn't know it yet
 abbrev pub unnamed : Desk
 unnamed = record { named = false; queue = no_queue }
 
--- each credit is of the queue
-abbrev pub AllOf : {T : Type 0} → TableId → List (Credit T) → Type 0
-AllOf queue [] = ⊤
-AllOf queue (credit ∷ credits) = (credit.pass.table_id ≡ queue) × AllOf queue credits
+-- each of the credits is of the queue
+abbrev pub AreAllOf : {T : Type 0} → TableId → List (Credit T) → Type 0
+AreAllOf queue [] = ⊤
+AreAllOf queue (credit ∷ credits) = (credit.pass.table_id ≡ queue) × AreAllOf queue credits
 
--- what one pass knows of the queue that all credits are of: its name; or it is the only pass, and nothing waits
-pub record Names {T : Type 0} (queue : TableId) (items : List (Credit T)) (views : List Desk) (port : ℕ)
-    (v : Desk) : Type 0 where
-  pub named : v.named ≡ true → v.queue ≡ queue
-  pub alone : v.named ≡ false → (items ≡ []) × ((other : ℕ) (u : Desk) → get_elem? views other ≡ some u → other ≡ port)
+-- no other port than this one has a desk
+abbrev pub IsOnlyPort : List Desk → ℕ → Type 0
+IsOnlyPort desks port = (other : ℕ) (desk : Desk) → get_elem? desks other ≡ some desk → other ≡ port
 
--- all credits are of one queue
-abbrev pub IsOfOne : {T : Type 0} → List (Credit T) → List Desk → Type 0
-IsOfOne items views = (queue : TableId) × AllOf queue items
-    × ((port : ℕ) (v : Desk) → get_elem? views port ≡ some v → Names queue items views port v)
+-- The desk at a port fits the queue that all credits are of: where it names a queue, it names this one; where it names
+-- none, no credit waits and there is no other desk.
+pub record DeskFits {T : Type 0} (queue : TableId) (credits : List (Credit T)) (desks : List Desk) (port : ℕ)
+    (desk : Desk) : Type 0 where
+  pub named : desk.named ≡ true → desk.queue ≡ queue
+  pub empty : desk.named ≡ false → credits ≡ []
+  pub alone : desk.named ≡ false → IsOnlyPort desks port
+
+-- the credits that wait are all of one queue, which every desk fits
+pub record AreOfOne {T : Type 0} (credits : List (Credit T)) (desks : List Desk) : Type 0 where
+  pub queue : TableId
+  pub all : AreAllOf queue credits
+  pub fits : (port : ℕ) (desk : Desk) → get_elem? desks port ≡ some desk → DeskFits queue credits desks port desk

@@ -47,9 +47,9 @@ pub struct Desk {
 pub struct OfOne;
 
 impl<T> Protocol<Credit<T>, Desk> for OfOne {
-    ghost use Rattle.one_way_queue.specs.Credits.{IsOfOne, unnamed};
+    ghost use Rattle.one_way_queue.specs.Credits.{AreOfOne, unnamed};
 
-    ghost holds = { IsOfOne };
+    ghost holds = { AreOfOne };
 
     ghost first = { unnamed };
 }

@@ -6,7 +6,8 @@ use Rattle.std.specs.Result.{result_map_both, result_ok}
 use Rattle.std.proofs.lemmas.Grind.{common_steps}
 use Rattle.mrpc_table.specs.declared.table.Table.{Table}
 use Rattle.mrpc_table.specs.PolicyLines.{order_of}
-use Rattle.policy_access.specs.Faults.{is_rule_name, is_among, reason_of, names_of, has_default, IsAgainst, out_of_form, too_many, of_part, no_name, known_name, behind_default}
+use Rattle.policy_access.specs.Faults.{is_rule_name, is_among, reason_of, names_of, has_default, IsAgainstRule, one_too_many, part_at_fault, no_rule_name, known_name}
+use Rattle.policy_access.specs.Faults.{IsAgainst, out_of_form, against_rule, behind_default}
 use Rattle.policy_access.specs.Lines.{line_of}
 use Rattle.policy_access.specs.Reading.{names_in}
 use Rattle.policy_access.specs.Rules.{about_in}
@@ -60,13 +61,10 @@ pub record IsFirstOf (T : Table) (names : List (List ℕ)) (line : List ℕ) (q 
   pub against : (ended : Bool) → IsAgainst T names ended line q
   pub first : (ended : Bool) (p : RuleReason) → order_of p < order_of q → IsAgainst T names ended line p → ⊥
 
--- ---- the ways in which a reason stands against a rule
+-- ---- the ways in which a reason stands against the line of a rule
 
 data Ways (T : Table) (names : List (List ℕ)) (ended : Bool) (r : RuleLine) (q : RuleReason) : Type 0 where
-  by_count : 64 ≤ length names → q ≡ reason.Word → Ways T names ended r q
-  by_part : (p : PartReason) → about_in T r.about ≡ Err p → q ≡ reason_of p → Ways T names ended r q
-  by_name : is_rule_name r.name ≡ false → q ≡ reason.Name → Ways T names ended r q
-  by_known : is_among r.name names ≡ true → q ≡ reason.Known → Ways T names ended r q
+  by_rule : IsAgainstRule T names r q → Ways T names ended r q
   by_default : ended ≡ true → q ≡ reason.Default → Ways T names ended r q
 
 same_rule : (l : Option Line) (r s : RuleLine) → l ≡ Some (lines.Rule r) → l ≡ Some (lines.Rule s) → s ≡ r
@@ -75,10 +73,8 @@ same_rule l r s a b = cc
 ways : (T : Table) (names : List (List ℕ)) (ended : Bool) (line : List ℕ) (r : RuleLine) (q : RuleReason)
     → line_of line ≡ Some (lines.Rule r) → IsAgainst T names ended line q → Ways T names ended r q
 ways T names ended line r q is (out_of_form e w) = let clash : Some (lines.Rule r) ≡ None = sym is ∙ e in absurd cc
-ways T names ended line r q is (too_many s e n w) = by_count n w
-ways T names ended line r q is (of_part s p e a w) = let same = same_rule (line_of line) r s is e in by_part p (subst (λ (t : RuleLine). about_in T t.about ≡ Err p) same a) w
-ways T names ended line r q is (no_name s e a w) = let same = same_rule (line_of line) r s is e in by_name (subst (λ (t : RuleLine). is_rule_name t.name ≡ false) same a) w
-ways T names ended line r q is (known_name s e a w) = let same = same_rule (line_of line) r s is e in by_known (subst (λ (t : RuleLine). is_among t.name names ≡ true) same a) w
+ways T names ended line r q is (against_rule s e a) =
+    let same = same_rule (line_of line) r s is e in by_rule (subst (λ (t : RuleLine). IsAgainstRule T names t q) same a)
 ways T names ended line r q is (behind_default l e a w) = by_default a w
 
 at_least : (p q : RuleReason) → p ≡ q → order_of p ≡ order_of q
@@ -89,10 +85,11 @@ none_earlier : (T : Table) (names : List (List ℕ)) (ended : Bool) (r : RuleLin
     → (is_rule_name r.name ≡ false → order_of q ≤ 2) → (is_among r.name names ≡ true → order_of q ≤ 3)
     → order_of q ≤ 5
     → order_of p < order_of q → Ways T names ended r p → ⊥
-none_earlier T names ended r q p few part name known all lt (by_count n w) = absurd (omega arith)
-none_earlier T names ended r q p few part name known all lt (by_part s a w) = absurd (omega (arith, at_least p (reason_of s) w, part s a))
-none_earlier T names ended r q p few part name known all lt (by_name a w) = absurd (omega (arith, at_least p reason.Name w, name a))
-none_earlier T names ended r q p few part name known all lt (by_known a w) = absurd (omega (arith, at_least p reason.Known w, known a))
+none_earlier T names ended r q p few part name known all lt (by_rule (one_too_many n w)) =
+    let many : 64 ≤ length names = n in absurd (omega (arith, few, many))
+none_earlier T names ended r q p few part name known all lt (by_rule (part_at_fault s a w)) = absurd (omega (arith, at_least p (reason_of s) w, part s a))
+none_earlier T names ended r q p few part name known all lt (by_rule (no_rule_name a w)) = absurd (omega (arith, at_least p reason.Name w, name a))
+none_earlier T names ended r q p few part name known all lt (by_rule (known_name a w)) = absurd (omega (arith, at_least p reason.Known w, known a))
 none_earlier T names ended r q p few part name known all lt (by_default a w) = absurd (omega (arith, at_least p reason.Default w))
 
 below_none : (p : RuleReason) → order_of p < 0 → ⊥
@@ -111,13 +108,17 @@ refused : (T : Table) (names : List (List ℕ)) (line : List ℕ) (r : RuleLine)
     → line_of line ≡ Some (lines.Rule r) → nat_le 64 (length names) ≡ many → about_in T r.about ≡ about → is_rule_name r.name ≡ name → is_among r.name names ≡ known
     → judged_rule many about name known r ≡ Err q → IsFirstOf T names line q
 refused T names line r q true about n k is em ea en ek e =
-    let w : q ≡ reason.Word = cc in record { against = λ ended. too_many r is (more (length names) em) w; first = λ ended p lt a. absurd (omega (arith, at_least q reason.Word w)) }
+    let w : q ≡ reason.Word = cc in
+    record {
+      against = λ ended. against_rule r is (one_too_many (more (length names) em) w);
+      first = λ ended p lt a. absurd (omega (arith, at_least q reason.Word w));
+    }
 refused T names line r q false (Err part.Word) n k is em ea en ek e =
-    let w : q ≡ reason.Word = cc in record { against = λ ended. of_part r part.Word is ea w; first = λ ended p lt a. absurd (omega (arith, at_least q reason.Word w)) }
+    let w : q ≡ reason.Word = cc in record { against = λ ended. against_rule r is (part_at_fault part.Word ea w); first = λ ended p lt a. absurd (omega (arith, at_least q reason.Word w)) }
 refused T names line r q false (Err part.Number) n k is em ea en ek e =
     let w : q ≡ reason.Number = cc in let o = at_least q reason.Number w in
     record {
-      against = λ ended. of_part r part.Number is ea w;
+      against = λ ended. against_rule r is (part_at_fault part.Number ea w);
       first = λ ended p lt a. none_earlier T names ended r q p (less (length names) em)
           (λ s d. omega (arith, o, same_part (about_in T r.about) part.Number s ea d)) (λ h. omega (arith, o))
           (λ h. omega (arith, o)) (omega (arith, o)) lt (ways T names ended line r p is a);
@@ -125,7 +126,7 @@ refused T names line r q false (Err part.Number) n k is em ea en ek e =
 refused T names line r q false (Err part.Path) false k is em ea en ek e =
     let w : q ≡ reason.Name = cc in let o = at_least q reason.Name w in
     record {
-      against = λ ended. no_name r is en w;
+      against = λ ended. against_rule r is (no_rule_name en w);
       first = λ ended p lt a. none_earlier T names ended r q p (less (length names) em)
           (λ s d. omega (arith, o, same_part (about_in T r.about) part.Path s ea d)) (λ h. omega (arith, o))
           (λ h. omega (arith, o)) (omega (arith, o)) lt (ways T names ended line r p is a);
@@ -133,7 +134,7 @@ refused T names line r q false (Err part.Path) false k is em ea en ek e =
 refused T names line r q false (Err part.Path) true true is em ea en ek e =
     let w : q ≡ reason.Known = cc in let o = at_least q reason.Known w in
     record {
-      against = λ ended. known_name r is ek w;
+      against = λ ended. against_rule r is (known_name ek w);
       first = λ ended p lt a. none_earlier T names ended r q p (less (length names) em)
           (λ s d. omega (arith, o, same_part (about_in T r.about) part.Path s ea d))
           (λ h. differ (is_rule_name r.name) (order_of q) 2 en h) (λ h. omega (arith, o)) (omega (arith, o)) lt
@@ -142,7 +143,7 @@ refused T names line r q false (Err part.Path) true true is em ea en ek e =
 refused T names line r q false (Err part.Path) true false is em ea en ek e =
     let w : q ≡ reason.Path = cc in let o = at_least q reason.Path w in
     record {
-      against = λ ended. of_part r part.Path is ea w;
+      against = λ ended. against_rule r is (part_at_fault part.Path ea w);
       first = λ ended p lt a. none_earlier T names ended r q p (less (length names) em)
           (λ s d. omega (arith, o, same_part (about_in T r.about) part.Path s ea d))
           (λ h. differ (is_rule_name r.name) (order_of q) 2 en h)
@@ -152,7 +153,7 @@ refused T names line r q false (Err part.Path) true false is em ea en ek e =
 refused T names line r q false (Ok about) false k is em ea en ek e =
     let w : q ≡ reason.Name = cc in let o = at_least q reason.Name w in
     record {
-      against = λ ended. no_name r is en w;
+      against = λ ended. against_rule r is (no_rule_name en w);
       first = λ ended p lt a. none_earlier T names ended r q p (less (length names) em)
           (λ s d. no_part (about_in T r.about) about s (order_of q) ea d) (λ h. omega (arith, o))
           (λ h. omega (arith, o)) (omega (arith, o)) lt (ways T names ended line r p is a);
@@ -160,7 +161,7 @@ refused T names line r q false (Ok about) false k is em ea en ek e =
 refused T names line r q false (Ok about) true true is em ea en ek e =
     let w : q ≡ reason.Known = cc in let o = at_least q reason.Known w in
     record {
-      against = λ ended. known_name r is ek w;
+      against = λ ended. against_rule r is (known_name ek w);
       first = λ ended p lt a. none_earlier T names ended r q p (less (length names) em)
           (λ s d. no_part (about_in T r.about) about s (order_of q) ea d)
           (λ h. differ (is_rule_name r.name) (order_of q) 2 en h) (λ h. omega (arith, o)) (omega (arith, o)) lt
@@ -189,8 +190,8 @@ refused_line T names line q (Some (lines.Rule r)) is e =
     refused T names line r q (nat_le 64 (length names)) (about_in T r.about) (is_rule_name r.name) (is_among r.name names) is refl refl refl refl
     (rule_result (judged_rule (nat_le 64 (length names)) (about_in T r.about) (is_rule_name r.name) (is_among r.name names) r) q e)
 
--- a line that is taken
-pub record IsTaken (T : Table) (names : List (List ℕ)) (line : List ℕ) (rule : Rule) : Type 0 where
+-- a line whose rule is taken, behind rules of these names
+pub record TakesRule (T : Table) (names : List (List ℕ)) (line : List ℕ) (rule : Rule) : Type 0 where
   pub spelled : RuleLine
   pub is : line_of line ≡ Some (lines.Rule spelled)
   pub good : IsGood T names spelled rule
@@ -205,7 +206,7 @@ inner_rule : (a b : Rule) → said.Rule a ≡ said.Rule b → a ≡ b
 inner_rule a b e = cc
 
 pub taken_line : (T : Table) (names : List (List ℕ)) (line : List ℕ) (rule : Rule) (l : Option Line)
-    → line_of line ≡ l → said_in T names l ≡ Ok (said.Rule rule) → IsTaken T names line rule
+    → line_of line ≡ l → said_in T names l ≡ Ok (said.Rule rule) → TakesRule T names line rule
 taken_line T names line rule None is e = absurd cc
 taken_line T names line rule (Some (lines.Default allow)) is e = absurd (default_is (Ok (said.Default allow)) allow rule refl e)
 taken_line T names line rule (Some (lines.Rule r)) is e =
@@ -230,20 +231,18 @@ default_line T names line allow (Some (lines.Rule r)) is e =
 -- against a line that says something only a default before it stands
 good_only : (T : Table) (names : List (List ℕ)) (ended : Bool) (r : RuleLine) (rule : Rule) (q : RuleReason)
     → IsGood T names r rule → Ways T names ended r q → (ended ≡ true) × (q ≡ reason.Default)
-good_only T names ended r rule q g (by_count n w) = absurd (omega (arith, g.few))
-good_only T names ended r rule q g (by_part p a w) = let clash : Ok g.about ≡ Err p = sym g.resolved ∙ a in absurd cc
-good_only T names ended r rule q g (by_name a w) = let clash : true ≡ false = sym g.name ∙ a in absurd cc
-good_only T names ended r rule q g (by_known a w) = let clash : true ≡ false = sym a ∙ g.fresh in absurd cc
+good_only T names ended r rule q g (by_rule (one_too_many n w)) =
+    let many : 64 ≤ length names = n in absurd (omega (arith, g.few, many))
+good_only T names ended r rule q g (by_rule (part_at_fault p a w)) = let clash : Ok g.about ≡ Err p = sym g.resolved ∙ a in absurd cc
+good_only T names ended r rule q g (by_rule (no_rule_name a w)) = let clash : true ≡ false = sym g.name ∙ a in absurd cc
+good_only T names ended r rule q g (by_rule (known_name a w)) = let clash : true ≡ false = sym a ∙ g.fresh in absurd cc
 good_only T names ended r rule q g (by_default a w) = (a, w)
 
 default_only : (T : Table) (names : List (List ℕ)) (ended : Bool) (line : List ℕ) (allow : Bool) (q : RuleReason)
     → line_of line ≡ Some (lines.Default allow) → IsAgainst T names ended line q
     → (ended ≡ true) × (q ≡ reason.Default)
 default_only T names ended line allow q is (out_of_form e w) = let clash : Some (lines.Default allow) ≡ None = sym is ∙ e in absurd cc
-default_only T names ended line allow q is (too_many r e n w) = let clash : lines.Default allow ≡ lines.Rule r = cc in absurd cc
-default_only T names ended line allow q is (of_part r p e a w) = let clash : lines.Default allow ≡ lines.Rule r = cc in absurd cc
-default_only T names ended line allow q is (no_name r e a w) = let clash : lines.Default allow ≡ lines.Rule r = cc in absurd cc
-default_only T names ended line allow q is (known_name r e a w) = let clash : lines.Default allow ≡ lines.Rule r = cc in absurd cc
+default_only T names ended line allow q is (against_rule r e a) = let clash : lines.Default allow ≡ lines.Rule r = cc in absurd cc
 default_only T names ended line allow q is (behind_default l e a w) = (a, w)
 
 pub only_behind : (T : Table) (names : List (List ℕ)) (ended : Bool) (line : List ℕ) (s : Said) (q : RuleReason)
@@ -271,7 +270,7 @@ says T line rule (Some (lines.Rule r)) is e = resolved (about_in T r.about) refl
     resolved (Ok about) a d = (r, about, is, a, cc)
     resolved (Err p) a d = absurd cc
 
-pub taken_says : (T : Table) (names : List (List ℕ)) (line : List ℕ) (rule : Rule) → IsTaken T names line rule → said_rule T line ≡ Some rule
+pub taken_says : (T : Table) (names : List (List ℕ)) (line : List ℕ) (rule : Rule) → TakesRule T names line rule → said_rule T line ≡ Some rule
 taken_says T names line rule t = rw (t.is, t.good.resolved) (ap Some (sym t.good.is))
 
 -- such lines name their rules, and no default is among them

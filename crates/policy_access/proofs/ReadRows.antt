@@ -6,7 +6,7 @@ use Rattle.std.proofs.lemmas.List.Elements.{All-nil, All-cons}
 use Rattle.mrpc_table.specs.declared.table.Kind.TheVariants.{Int32, Uint64, Bool as TheBool, Text}
 use Rattle.mrpc_table.specs.declared.table.Label.TheVariants.{Plain}
 use Rattle.mrpc_table.specs.declared.table.Table.{Table}
-use Rattle.policy_access.specs.Faults.{is_rule_name, IsAgainstAt, at_line, no_default, known_name}
+use Rattle.policy_access.specs.Faults.{is_rule_name, IsAgainstAt, at_line, no_default, against_rule, known_name}
 use Rattle.mrpc_table.specs.PathWords.{path_of}
 use Rattle.policy_access.specs.Lines.{line_of}
 use Rattle.policy_access.specs.Texts.{said_rule, IsTextOf}
@@ -54,7 +54,8 @@ two_lines_are_the_text_of_a_policy = record {
 
 a_name_stands_twice : IsAgainstAt small (codes "rule a deny" ∷ codes "rule a allow" ∷ default_line ∷ []) 1 reason.Known
 unfolding line_of
-a_name_stands_twice = at_line (codes "rule a allow") refl (known_name (record { name = codes "a"; allow = true; about = Every }) refl refl refl)
+a_name_stands_twice =
+    at_line (codes "rule a allow") refl (against_rule (record { name = codes "a"; allow = true; about = Every }) refl (known_name refl refl))
 
 no_default_stands : IsAgainstAt small (codes "rule a deny" ∷ []) 1 reason.Default
 unfolding line_of

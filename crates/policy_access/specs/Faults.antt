@@ -16,81 +16,97 @@ use Rattle.policy_access.specs.declared.line.Line.{Line}
 use Rattle.policy_access.specs.declared.line.Line.TheVariants.{Rule, Default}
 use Rattle.policy_access.specs.declared.line.RuleLine.{RuleLine}
 use Rattle.policy_access.specs.declared.fault.PartReason.{PartReason}
-use Rattle.policy_access.specs.declared.fault.PartReason.TheVariants as part
+use Rattle.policy_access.specs.declared.fault.PartReason.TheVariants as parts
 use Rattle.mrpc_table.specs.declared.policy_lines.RuleReason.{RuleReason}
-use Rattle.mrpc_table.specs.declared.policy_lines.RuleReason.TheVariants as reason
+use Rattle.mrpc_table.specs.declared.policy_lines.RuleReason.TheVariants as reasons
 use Rattle.mrpc_table.specs.declared.policy_lines.RuleFault.{RuleFault}
 
 -- ---- names
 
--- a rule's name: a name of at most 64 bytes, other than `default`
+-- A rule's name is a name of at most 64 bytes, other than `default`.
 abbrev pub is_rule_name : List ℕ → Bool
 is_rule_name name = (is_name_form name && is_short name) && not (bytes_eq name (codes "default"))
 
--- the name is one of these
+-- The name is one of these.
 abbrev pub is_among : List ℕ → List (List ℕ) → Bool
 is_among name names = list_any (λ other. bytes_eq name other) names
 
--- the names of the rules among some lines, and whether a default is among them
+-- The name of the rule that a line says. A default has none, nor has a line out of form.
 abbrev pub name_in : Line → Option (List ℕ)
-name_in (Rule r) = Some r.name
+name_in (Rule rule) = Some rule.name
 name_in (Default allow) = None
 
 abbrev pub named : List ℕ → Option (List ℕ)
 named line = option_and_then name_in (line_of line)
 
+-- The names of the rules among some lines, in their order.
 abbrev pub names_of : List (List ℕ) → List (List ℕ)
 names_of lines = filter_map named lines
 
+-- ---- the default
+
+-- A line says the default.
 abbrev pub is_default_line : Line → Bool
-is_default_line (Rule r) = false
+is_default_line (Rule rule) = false
 is_default_line (Default allow) = true
 
 abbrev pub is_default : List ℕ → Bool
 is_default line = option_map_or is_default_line (line_of line) false
 
+-- A default is among some lines.
 abbrev pub has_default : List (List ℕ) → Bool
 has_default lines = list_any is_default lines
 
--- ---- reasons
+-- ---- what stands against a rule, a line and a place
 
--- a reason against what a rule is about is one against its line
+-- The reason against a rule's line, from the reason against a part of what the rule is about.
 abbrev pub reason_of : PartReason → RuleReason
-reason_of part.Word = reason.Word
-reason_of part.Number = reason.Number
-reason_of part.Path = reason.Path
+reason_of parts.Word = reasons.Word
+reason_of parts.Number = reasons.Number
+reason_of parts.Path = reasons.Path
 
--- a reason stands against a line, behind lines with rules of these names, and with a default or not
-pub data IsAgainst (T : Table) (names : List (List ℕ)) (ended : Bool) (line : List ℕ) (q : RuleReason) : Type 0 where
-  -- the line is out of form
-  out_of_form : line_of line ≡ None → q ≡ reason.Word → IsAgainst T names ended line q
-  -- it is a rule behind the most that a policy has
-  too_many : (r : RuleLine) → line_of line ≡ Some (Rule r) → MAX_RULES ≤ length names → q ≡ reason.Word
-      → IsAgainst T names ended line q
-  -- what the rule is about is at fault (a value of no form counts before a method that isn't known)
-  of_part : (r : RuleLine) (p : PartReason) → line_of line ≡ Some (Rule r) → about_in T r.about ≡ Err p
-      → q ≡ reason_of p → IsAgainst T names ended line q
-  -- the rule's name is none
-  no_name : (r : RuleLine) → line_of line ≡ Some (Rule r) → is_rule_name r.name ≡ false → q ≡ reason.Name
-      → IsAgainst T names ended line q
-  -- the rule's name stands before
-  known_name : (r : RuleLine) → line_of line ≡ Some (Rule r) → is_among r.name names ≡ true → q ≡ reason.Known
-      → IsAgainst T names ended line q
-  -- the line stands behind the default
-  behind_default : (l : Line) → line_of line ≡ Some l → ended ≡ true → q ≡ reason.Default
-      → IsAgainst T names ended line q
+-- A reason stands against a rule whose line is in form. The names are those of the rules before it.
+pub data IsAgainstRule (table : Table) (names : List (List ℕ)) (rule : RuleLine) (reason : RuleReason) : Type 0 where
+  -- As many rules as a policy may have stand before it.
+  one_too_many : MAX_RULES ≤ length names → reason ≡ reasons.Word → IsAgainstRule table names rule reason
+  -- A part of what the rule is about is at fault: its index, its method, its path, its operation or its value. (A
+  -- value of no form counts before a method that isn't known.)
+  part_at_fault : (part : PartReason) → about_in table rule.about ≡ Err part → reason ≡ reason_of part
+      → IsAgainstRule table names rule reason
+  -- Its name can't be the name of a rule.
+  no_rule_name : is_rule_name rule.name ≡ false → reason ≡ reasons.Name → IsAgainstRule table names rule reason
+  -- A rule before it has its name.
+  known_name : is_among rule.name names ≡ true → reason ≡ reasons.Known → IsAgainstRule table names rule reason
 
--- a reason stands against the line at a place, or right behind the last line
-pub data IsAgainstAt (T : Table) (lines : List (List ℕ)) (i : ℕ) (q : RuleReason) : Type 0 where
-  at_line : (line : List ℕ) → slice_get lines i ≡ Some line
-      → IsAgainst T (names_of (take i lines)) (has_default (take i lines)) line q → IsAgainstAt T lines i q
-  -- there is no default
-  no_default : i ≡ length lines → has_default lines ≡ false → q ≡ reason.Default → IsAgainstAt T lines i q
+-- A reason stands against a line. The names are those of the rules before it, and `ended` says whether a default stands
+-- before it.
+pub data IsAgainst (table : Table) (names : List (List ℕ)) (ended : Bool) (line : List ℕ)
+    (reason : RuleReason) : Type 0 where
+  -- The line is out of form.
+  out_of_form : line_of line ≡ None → reason ≡ reasons.Word → IsAgainst table names ended line reason
+  -- The line says a rule, and the reason stands against the rule.
+  against_rule : (rule : RuleLine) → line_of line ≡ Some (Rule rule) → IsAgainstRule table names rule reason
+      → IsAgainst table names ended line reason
+  -- The line says a rule or a default, and stands behind the default.
+  behind_default : (content : Line) → line_of line ≡ Some content → ended ≡ true → reason ≡ reasons.Default
+      → IsAgainst table names ended line reason
 
--- the line is the first at fault, counted from 1, and this is its first reason
+-- A reason stands against a place among the lines, counted from 0: against the line there, or against the end.
+pub data IsAgainstAt (table : Table) (lines : List (List ℕ)) (place : ℕ) (reason : RuleReason) : Type 0 where
+  -- It stands against the line at the place, behind the lines before it.
+  at_line : (line : List ℕ) → slice_get lines place ≡ Some line
+      → IsAgainst table (names_of (take place lines)) (has_default (take place lines)) line reason
+      → IsAgainstAt table lines place reason
+  -- The lines end there, and none is a default.
+  no_default : place ≡ length lines → has_default lines ≡ false → reason ≡ reasons.Default
+      → IsAgainstAt table lines place reason
+
+-- ---- first faults: those of mrpc_table, of what stands against the lines of an access policy
+
+-- The line, counted from 1, is the first at fault, and this is its first reason.
 abbrev pub IsFirstFault : Table → List (List ℕ) → ℕ → RuleReason → Type 0
-IsFirstFault T lines line q = first.IsFirstFault (IsAgainstAt T lines) order_of line q
+IsFirstFault table lines line reason = first.IsFirstFault (IsAgainstAt table lines) order_of line reason
 
--- what a fault says of lines
+-- What a fault says of lines.
 abbrev pub IsFaultOf : Table → List (List ℕ) → RuleFault → Type 0
-IsFaultOf T lines fault = policy.IsFaultOf (IsAgainstAt T lines) fault
+IsFaultOf table lines fault = policy.IsFaultOf (IsAgainstAt table lines) fault

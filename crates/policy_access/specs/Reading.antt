@@ -15,7 +15,7 @@ use Rattle.mrpc_table.specs.declared.policy_lines.RuleReason.{RuleReason}
 abbrev pub names_in : List Rule → List (List ℕ)
 names_in rules = map (λ (r : Rule). r.name) rules
 
--- the lines in front of a place say these rules, and none is at fault
+-- The lines in front of a place say these rules, and none is at fault: what each step of reading an access policy knows.
 pub record AreRead (T : Table) (lines : List (List ℕ)) (i : ℕ) (rules : List Rule) : Type 0 where
   pub within : i ≤ length lines
   pub count : length rules ≡ i

@@ -36,10 +36,12 @@ pub data IsAgainstAt (T : Table) (lines : List (List ℕ)) (i : ℕ) (q : RuleRe
   -- there is no line
   no_line : lines ≡ [] → i ≡ 0 → q ≡ reason.Word → IsAgainstAt T lines i q
 
--- the line is the first at fault, counted from 1, and this is its first reason
+-- ---- first faults: those of mrpc_table, of what stands against the lines of a redacting policy
+
+-- The line, counted from 1, is the first at fault, and this is its first reason.
 abbrev pub IsFirstFault : Table → List (List ℕ) → ℕ → RuleReason → Type 0
 IsFirstFault T lines line q = first.IsFirstFault (IsAgainstAt T lines) order_of line q
 
--- what a fault says of lines
+-- What a fault says of lines.
 abbrev pub IsFaultOf : Table → List (List ℕ) → RuleFault → Type 0
 IsFaultOf T lines fault = policy.IsFaultOf (IsAgainstAt T lines) fault

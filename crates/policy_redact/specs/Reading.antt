@@ -8,7 +8,7 @@ use Rattle.policy_redact.specs.Texts.{said_clear}
 use Rattle.policy_redact.specs.declared.limits.TheConstants.{MAX_CLEARS}
 use Rattle.policy_redact.specs.declared.redact.Clear.{Clear}
 
--- the lines in front of a place say these clears, and none is at fault
+-- The lines in front of a place say these clears, and none is at fault: what each step of reading a redacting policy knows.
 pub record AreRead (T : Table) (lines : List (List ℕ)) (i : ℕ) (clears : List Clear) : Type 0 where
   pub some : 0 < length lines
   pub within : i ≤ length lines

@@ -5,7 +5,7 @@
 //! behind the texts of the earlier files. `specs/Joining.antt` says what they are together. The layer above uses that
 //! contract, and the laws that what was joined is well formed and in order ([`joined_is_ordered`]), that one file that
 //! is joined is that file alone ([`joined_alone`]), and that a place is in the text of one file ([`places_apart`]),
-//! which [`file_at`] finds.
+//! which [`file_at`] finds. It stands on `mrpc_table` and `proto_file`.
 #![tactic(auto)]
 
 mod decls;

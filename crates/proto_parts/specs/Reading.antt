@@ -1,4 +1,4 @@
--- The code's own: a part of a statement is read token by token: what a token does to it, by how far it is read. Which
+-- The readers' own, here and in `proto_schema`: what a token does to a part of a statement, by how far that is read. Which
 -- tokens are a part, and what it says, is in `Grammar`; `proto_schema` proves that what is read so is what is said there.
 use Rattle.std.specs.Prelude.{◌≡◌, ℕ, ◌+◌, ◌-◌, ◌^◌, ◌<◌, ◌≤◌, length, ◌==◌, nat_le, Bool, true, false, ◌&&◌, ◌||◌}
 use Rattle.std.specs.Prelude.{if◌then◌else◌, List, [], ◌∷◌, ◌++◌, codes, Option, Some, None, Result, Ok, Err}
@@ -60,7 +60,7 @@ use Rattle.proto_parts.specs.declared.reserved.RangeState.{RangeState}
 use Rattle.proto_parts.specs.declared.reserved.RangeState.TheVariants as ranges
 use Rattle.proto_parts.specs.declared.reserved.ReservedStep.{ReservedStep}
 use Rattle.proto_parts.specs.declared.reserved.ReservedStep.TheVariants as reserved_steps
-use Rattle.proto_parts.specs.declared.field.Head.{Head}
+use Rattle.proto_parts.specs.declared.field.FieldHead.{FieldHead}
 use Rattle.proto_parts.specs.declared.reserved.ReservedState.{ReservedState}
 
 -- ---- tokens
@@ -298,7 +298,7 @@ map_depth (maps.InnerKey outer depth s) = depth
 map_depth (maps.InnerValue outer depth s) = depth
 map_depth s = 0
 
-abbrev pub head : FieldLabel → FieldType → Word → Head
+abbrev pub head : FieldLabel → FieldType → Word → FieldHead
 head label kind name = record { label = label; kind = kind; name = name }
 
 abbrev pub named_step : FieldLabel → FieldType → Lexeme → Result FieldStep ProtoFault
@@ -315,11 +315,11 @@ of_map label (Ok (map_steps.More s)) = more_field (fields.Map label s)
 of_map label (Ok (map_steps.Done kind)) = more_field (fields.Typed label kind)
 of_map label (Err e) = Err e
 
-abbrev pub field_of : Head → Number → Option Bool → FieldDecl
+abbrev pub field_of : FieldHead → Number → Option Bool → FieldDecl
 field_of h n packed =
     record { name = h.name; number = n; kind = h.kind; label = h.label; oneof = None; packed = packed }
 
-abbrev pub of_tail : Head → Number → Result TailStep ProtoFault → Result FieldStep ProtoFault
+abbrev pub of_tail : FieldHead → Number → Result TailStep ProtoFault → Result FieldStep ProtoFault
 of_tail h n (Ok (tail_steps.More s)) = more_field (fields.Tail h n s)
 of_tail h n (Ok (tail_steps.Done packed)) = Ok (field_steps.Done (field_of h n packed))
 of_tail h n (Err e) = Err e

@@ -33,23 +33,23 @@ pub enum FieldState {
     /// Its type is read.
     Typed(FieldLabel, FieldType),
     /// Its name is read.
-    Named(Head),
+    Named(FieldHead),
     /// `=` is read.
-    Equals(Head),
+    Equals(FieldHead),
     /// Its number is read.
-    Tail(Head, Number, TailState),
+    Tail(FieldHead, Number, TailState),
 }
 
 /// What stands before a field's `=`.
-pub struct Head {
+pub struct FieldHead {
     pub label: FieldLabel,
     pub kind: FieldType,
     pub name: Word,
 }
 
-impl Drop for Head {
+impl Drop for FieldHead {
     fn drop(self) {
-        let Head {
+        let FieldHead {
             label: _,
             kind: _kind,
             name: _name,
@@ -57,12 +57,12 @@ impl Drop for Head {
     }
 }
 
-impl Head {
+impl FieldHead {
     // The field, with what stands behind the `=`.
     fn with(self, number: Number, packed: Option<bool>) -> FieldDecl
         ensures { result ≡ field_of self number packed }
     {
-        let Head { label, kind, name } = self;
+        let FieldHead { label, kind, name } = self;
         FieldDecl {
             name,
             number,
@@ -271,7 +271,7 @@ fn named(
     ensures { Gives result (named_step label kind (lexeme text.now token.now)) }
 {
     let name = identifier_of(alloc, text, token)?;
-    Ok(FieldStep::More(FieldState::Named(Head { label, kind, name })))
+    Ok(FieldStep::More(FieldState::Named(FieldHead { label, kind, name })))
 }
 
 // A token of the type, or behind it.
@@ -314,7 +314,7 @@ fn of_map(
 
 fn of_tail(
     text: &[u8],
-    head: Head,
+    head: FieldHead,
     number: Number,
     tail: TailState,
     token: &Token,
@@ -330,7 +330,7 @@ fn of_tail(
 }
 
 // A field's number.
-fn of_number(head: Head, token: &Token) -> Result<FieldStep, ProtoFault>
+fn of_number(head: FieldHead, token: &Token) -> Result<FieldStep, ProtoFault>
     ensures { (text : List ℕ) → Gives result (if_number (lexeme text token.now)
         (λ v. steps.More (states.Tail head (number_at false v (span_of_token token.now)) tails.Start))) }
 {

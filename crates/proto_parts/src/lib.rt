@@ -20,7 +20,7 @@ mod tail;
 mod value;
 
 pub use fault::{ProtoFault, ProtoReason};
-pub use field::{FieldState, FieldStep, Head, MapState, MapStep, field_step};
+pub use field::{FieldHead, FieldState, FieldStep, MapState, MapStep, field_step};
 pub use lexeme::{
     bytes_of, fault_at, identifier_of, is_mark, is_word, span_of, unexpected, word_of,
 };

@@ -5,7 +5,7 @@ use Rattle.std.specs.Prelude.{Option, Some, slice_get, Contains}
 use Rattle.std.proofs.lemmas.Option.{slice_get-get_or}
 use Rattle.proto_parts.specs.Lexemes.{Lexeme}
 use Rattle.proto_schema.specs.Files
-use Rattle.proto_schema.specs.Files.{Draft, Statement, Says, Forms, ClosesTo, nothing_said, edit_at, edit_last, first_of}
+use Rattle.proto_schema.specs.Files.{Draft, Statement, Says, Forms, ClosesTo, nothing_said, edit_open, edit_last, innermost_of}
 use Rattle.proto_schema.specs.Faults.{IsTextOf}
 use Rattle.proto_file.specs.Joined.{alone}
 use Rattle.proto_file.specs.Order
@@ -17,7 +17,7 @@ use Rattle.proto_file.specs.declared.file.EnumDecl.{EnumDecl}
 use Rattle.proto_file.specs.declared.file.ServiceDecl.{ServiceDecl}
 use Rattle.proto_file.specs.declared.file.File.{File}
 use Rattle.proto_file.specs.declared.joined.Head.{Head}
-use Rattle.proto_schema.proofs.Places.{nothing_at, all_by_place, contained, in_pushed, changed, kept, in_edited_at, in_edited_last}
+use Rattle.proto_schema.proofs.Places.{nothing_at, all_by_place, contained, in_pushed, changed, kept, in_edited_open, in_edited_last}
 use Rattle.proto_schema.proofs.Formed.{well_formed}
 use Rattle.proto_schema.proofs.Ordered.{in_order}
 
@@ -60,9 +60,9 @@ zero_service F s z k = record {
 
 -- a change that keeps the file of what it changes
 zero_in_message : (F : File) (o : Option ℕ) (f : MessageDecl → MessageDecl) → ((m : MessageDecl) → (f m).file ≡ m.file) → IsAtZero F
-    → IsAtZero (record F { messages = edit_at o f F.messages })
+    → IsAtZero (record F { messages = edit_open o f F.messages })
 zero_in_message F o f same k = record {
-  messages = λ i m h. elim (in_edited_at o f F.messages i m h) [
+  messages = λ i m h. elim (in_edited_open o f F.messages i m h) [
     | changed y g l u ↦ ap (λ (m : MessageDecl). m.file) u ∙ (same y ∙ k.messages i y g)
     | kept g l ↦ k.messages i m g
   ];
@@ -108,11 +108,11 @@ zero_statement d (Files.empty x i hx a) k = k
 zero_statement d (Files.message x y z name i hx hy hz a) k = zero_message d.file _ refl k
 zero_statement d (Files.enum x y z name i hx hy hz a) k = zero_enum d.file _ refl k
 zero_statement d (Files.service x y z name i hx hy hz a) k = zero_service d.file _ refl k
-zero_statement d (Files.oneof x y z name i hx hy hz a) k = zero_in_message d.file (first_of d.messages) _ (λ m. refl) k
-zero_statement d (Files.a_field i l t f a) k = zero_in_message d.file (first_of d.messages) _ (λ m. refl) k
-zero_statement d (Files.member i filled q t f a) k = zero_in_message d.file (first_of d.messages) _ (λ m. refl) k
-zero_statement d (Files.reserved_numbers x z i hx r hz a) k = zero_in_message d.file (first_of d.messages) _ (λ m. refl) k
-zero_statement d (Files.reserved_names x z i hx r hz a) k = zero_in_message d.file (first_of d.messages) _ (λ m. refl) k
+zero_statement d (Files.oneof x y z name i hx hy hz a) k = zero_in_message d.file (innermost_of d.messages) _ (λ m. refl) k
+zero_statement d (Files.a_field i l t f a) k = zero_in_message d.file (innermost_of d.messages) _ (λ m. refl) k
+zero_statement d (Files.member i filled q t f a) k = zero_in_message d.file (innermost_of d.messages) _ (λ m. refl) k
+zero_statement d (Files.reserved_numbers x z i hx r hz a) k = zero_in_message d.file (innermost_of d.messages) _ (λ m. refl) k
+zero_statement d (Files.reserved_names x z i hx r hz a) k = zero_in_message d.file (innermost_of d.messages) _ (λ m. refl) k
 zero_statement d (Files.reserved_values x z filled q hx r hz a) k = zero_in_enum d.file _ (λ e. refl) k
 zero_statement d (Files.reserved_value_names x z filled q hx r hz a) k = zero_in_enum d.file _ (λ e. refl) k
 zero_statement d (Files.value x y z name filled q hx w hy n o hz a) k = zero_in_enum d.file _ (λ e. refl) k

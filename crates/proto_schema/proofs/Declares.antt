@@ -15,10 +15,10 @@ use Rattle.proto_file.specs.declared.file.Import.{Import}
 use Rattle.proto_file.specs.declared.file.FieldDecl.{FieldDecl}
 use Rattle.proto_file.specs.declared.file.ValueDecl.{ValueDecl}
 use Rattle.proto_file.specs.declared.file.ServiceDecl.{ServiceDecl}
-use Rattle.proto_schema.specs.Files.{edit, edit_at, edit_last}
+use Rattle.proto_schema.specs.Files.{edit_at, edit_open, edit_last}
 use Rattle.proto_file.specs.Order.{IsPlaceBelow}
 use Rattle.proto_schema.proofs.Drafts.{edit_beyond}
-use Rattle.proto_schema.proofs.Places.{nothing_at, in_pushed, changed, kept, in_edited_at, in_edited_last}
+use Rattle.proto_schema.proofs.Places.{nothing_at, in_pushed, changed, kept, in_edited_open, in_edited_last}
 use Rattle.proto_schema.proofs.Spans.{IsWithin}
 use Rattle.proto_schema.proofs.KeptOrder.{Kept, EnumsBehind, kept_adds, InMessages, InEnums, InServices, of_messages}
 use Rattle.proto_schema.proofs.KeptOrder.{of_enums, of_services, in_messages, in_enums, in_services, IsName}
@@ -231,19 +231,19 @@ some_at [] i l = absurd (omega arith)
 some_at (y ∷ ys) zero l = (y, refl)
 some_at (y ∷ ys) (suc i) l = some_at ys i (omega arith)
 
-pub edit_cases : {X : Type 0} (n : ℕ) (f : X → X) (xs : List X) → (edit n f xs ≡ xs) ⊎ ((x : X) × (slice_get xs n ≡ Some x))
-edit_cases {X = X} n f xs = by (cases_lt n (length xs))
+pub edit_at_cases : {X : Type 0} (n : ℕ) (f : X → X) (xs : List X) → (edit_at n f xs ≡ xs) ⊎ ((x : X) × (slice_get xs n ≡ Some x))
+edit_at_cases {X = X} n f xs = by (cases_lt n (length xs))
   where
-    by : (n < length xs) ⊎ (length xs ≤ n) → (edit n f xs ≡ xs) ⊎ ((x : X) × (slice_get xs n ≡ Some x))
+    by : (n < length xs) ⊎ (length xs ≤ n) → (edit_at n f xs ≡ xs) ⊎ ((x : X) × (slice_get xs n ≡ Some x))
     by (inl l) = inr (some_at xs n l)
     by (inr l) = inl (edit_beyond n f xs l)
 
-pub edit_at_cases : {X : Type 0} (o : Option ℕ) (f : X → X) (xs : List X) → (edit_at o f xs ≡ xs) ⊎ IsEdited xs (λ i. o ≡ Some i)
-edit_at_cases None f xs = inl refl
-edit_at_cases (Some n) f xs = elim (edit_cases n f xs) [ inl e ↦ inl e | inr (x, e) ↦ inr (record { place = n; item = x; here = refl; is = e }) ]
+pub edit_open_cases : {X : Type 0} (o : Option ℕ) (f : X → X) (xs : List X) → (edit_open o f xs ≡ xs) ⊎ IsEdited xs (λ i. o ≡ Some i)
+edit_open_cases None f xs = inl refl
+edit_open_cases (Some n) f xs = elim (edit_at_cases n f xs) [ inl e ↦ inl e | inr (x, e) ↦ inr (record { place = n; item = x; here = refl; is = e }) ]
 
 pub edit_last_cases : {X : Type 0} (f : X → X) (xs : List X) → (edit_last f xs ≡ xs) ⊎ IsEdited xs (λ i. suc i ≡ length xs)
-edit_last_cases f xs = elim (edit_cases (length xs - 1) f xs) [
+edit_last_cases f xs = elim (edit_at_cases (length xs - 1) f xs) [
   | inl e ↦ inl e
   | inr (x, e) ↦ inr (record {
     place = length xs - 1;
@@ -254,9 +254,9 @@ edit_last_cases f xs = elim (edit_cases (length xs - 1) f xs) [
 ]
 
 pub enums_behind_edit : (F : File) (o : Option ℕ) (f : MessageDecl → MessageDecl) → ((m : MessageDecl) → (f m).name ≡ m.name)
-    → EnumsBehind F → EnumsBehind (record F { messages = edit_at o f F.messages })
+    → EnumsBehind F → EnumsBehind (record F { messages = edit_open o f F.messages })
 enums_behind_edit F o f same k i j m e q r t =
-    elim (in_edited_at o f F.messages i m q) [
+    elim (in_edited_open o f F.messages i m q) [
       | changed y g l u ↦ (let a : y.name.span.start < e.name.span.start = k i j y e g r t in
           let d : m.name.span.start ≡ y.name.span.start = ap (λ (m : MessageDecl). m.name.span.start) u ∙ ap (λ (w : Word). w.span.start) (same y) in omega arith)
       | kept g l ↦ k i j m e g r t
@@ -274,29 +274,29 @@ enums_behind_last F f name parent k i j m e q r t =
 -- what a message, an enum or a service keeps that is changed
 pub in_same_message : (o : Option ℕ) (f : MessageDecl → MessageDecl) (ms : List MessageDecl) → ((m : MessageDecl) → (f m).name ≡ m.name)
     → ((m : MessageDecl) → (f m).fields ≡ m.fields) → ((m : MessageDecl) → (f m).oneofs ≡ m.oneofs)
-    → {s : Span} {x : Declaration} {p : Part} → InMessages (edit_at o f ms) s x p → InMessages ms s x p
+    → {s : Span} {x : Declaration} {p : Part} → InMessages (edit_open o f ms) s x p → InMessages ms s x p
 in_same_message o f ms a b c (message_in i m e h) =
-    elim (in_edited_at o f ms i m e) [
+    elim (in_edited_open o f ms i m e) [
       | changed y g l u ↦ message_in i y g (h ∙ (ap (λ (m : MessageDecl). m.name.span) u ∙ ap (λ (w : Word). w.span) (a y)))
       | kept g l ↦ message_in i m g h
     ]
 in_same_message o f ms a b c (field_in i j m z e g h) =
-    elim (in_edited_at o f ms i m e) [
+    elim (in_edited_open o f ms i m e) [
       | changed y d l u ↦ field_in i j y z d (ap (λ (fs : List FieldDecl). slice_get fs j) (sym (b y)) ∙ (ap (λ (m : MessageDecl). slice_get m.fields j) (sym u) ∙ g)) h
       | kept d l ↦ field_in i j m z d g h
     ]
 in_same_message o f ms a b c (oneof_in i j m z e g h) =
-    elim (in_edited_at o f ms i m e) [
+    elim (in_edited_open o f ms i m e) [
       | changed y d l u ↦ oneof_in i j y z d (ap (λ (os : List Word). slice_get os j) (sym (c y)) ∙ (ap (λ (m : MessageDecl). slice_get m.oneofs j) (sym u) ∙ g)) h
       | kept d l ↦ oneof_in i j m z d g h
     ]
 
 pub kept_same_message : (F : File) (b c : ℕ) (o : Option ℕ) (f : MessageDecl → MessageDecl) → ((m : MessageDecl) → (f m).name ≡ m.name)
     → ((m : MessageDecl) → (f m).fields ≡ m.fields) → ((m : MessageDecl) → (f m).oneofs ≡ m.oneofs) → b ≤ c → Kept F b
-    → Kept (record F { messages = edit_at o f F.messages }) c
+    → Kept (record F { messages = edit_open o f F.messages }) c
 kept_same_message F b c o f x y z l k =
-    kept_back F (record F { messages = edit_at o f F.messages }) b c l
-    (λ d p s h. elim (in_messages F (edit_at o f F.messages) h) [ inl g ↦ g | inr g ↦ of_messages F (in_same_message o f F.messages x y z g) ])
+    kept_back F (record F { messages = edit_open o f F.messages }) b c l
+    (λ d p s h. elim (in_messages F (edit_open o f F.messages) h) [ inl g ↦ g | inr g ↦ of_messages F (in_same_message o f F.messages x y z g) ])
     (enums_behind_edit F o f x k.ordered.enum_behind) k
 
 pub in_same_enum : (f : EnumDecl → EnumDecl) (es : List EnumDecl) → ((e : EnumDecl) → (f e).name ≡ e.name)

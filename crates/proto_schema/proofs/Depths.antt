@@ -36,7 +36,7 @@ use Rattle.proto_parts.specs.declared.tail.TailState.{TailState}
 use Rattle.proto_parts.specs.declared.tail.TailState.TheVariants as tails
 use Rattle.proto_parts.specs.declared.tail.TailStep.{TailStep}
 use Rattle.proto_parts.specs.declared.tail.TailStep.TheVariants as tail_steps
-use Rattle.proto_parts.specs.declared.field.Head.{Head}
+use Rattle.proto_parts.specs.declared.field.FieldHead.{FieldHead}
 use Rattle.proto_file.specs.declared.file.FieldType.{FieldType}
 use Rattle.proto_file.specs.declared.file.FieldType.TheVariants as types
 use Rattle.proto_parts.specs.declared.field.FieldState.{FieldState}
@@ -245,7 +245,7 @@ of_map_within n label (Ok (map_steps.More s)) h = h
 of_map_within n label (Ok (map_steps.Done kind)) h = omega arith
 of_map_within n label (Err e) h = tt
 
-of_tail_within : (n : ℕ) (h : Head) (m : Number) (r : Result TailStep ProtoFault) → TailWithin n r
+of_tail_within : (n : ℕ) (h : FieldHead) (m : Number) (r : Result TailStep ProtoFault) → TailWithin n r
     → FieldWithin n (of_tail h m r)
 of_tail_within n h m (Ok (tail_steps.More s)) k = k
 of_tail_within n h m (Ok (tail_steps.Done packed)) k = tt

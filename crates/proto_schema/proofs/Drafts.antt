@@ -1,18 +1,18 @@
 -- Lists that are changed at one place, and the stack of open messages, whose top is the list's end.
 use Rattle.std.proofs.Common.{◌≡◌, ℕ, zero, suc, ◌-◌, ◌<◌, ◌≤◌, List, [], ◌∷◌, ◌++◌, length, length-append, take, get_or, set, refl, ap, ◌∙◌, arith}
 use Rattle.std.specs.Prelude.{slice_get}
-use Rattle.proto_schema.specs.Files.{edit, first_of}
+use Rattle.proto_schema.specs.Files.{edit_at, innermost_of}
 use Rattle.proto_schema.specs.Running.{without_first, stack}
 
 -- an element is changed
 pub edit_set : {X : Type 0} (i : ℕ) (f : X → X) (xs : List X) (d : X) → i < length xs
-    → edit i f xs ≡ set xs i (f (get_or xs i d))
+    → edit_at i f xs ≡ set xs i (f (get_or xs i d))
 edit_set i f [] d h = absurd (omega arith)
 edit_set zero f (y ∷ xs) d h = refl
 edit_set (suc i) f (y ∷ xs) d h = ap (λ zs. y ∷ zs) (edit_set i f xs d (omega arith))
 
 -- nothing is changed behind the end
-pub edit_beyond : {X : Type 0} (i : ℕ) (f : X → X) (xs : List X) → length xs ≤ i → edit i f xs ≡ xs
+pub edit_beyond : {X : Type 0} (i : ℕ) (f : X → X) (xs : List X) → length xs ≤ i → edit_at i f xs ≡ xs
 edit_beyond i f [] h = refl
 edit_beyond zero f (y ∷ xs) h = absurd (omega arith)
 edit_beyond (suc i) f (y ∷ xs) h = ap (λ zs. y ∷ zs) (edit_beyond i f xs (omega arith))
@@ -25,11 +25,11 @@ pub stack_length : (xs : List ℕ) → length (stack xs) ≡ length xs
 stack_length [] = refl
 stack_length (x ∷ xs) = simp length-append (omega (arith, stack_length xs))
 
-first_front : (xs : List ℕ) (y x : ℕ) → first_of ((xs ++ y ∷ []) ++ x ∷ []) ≡ first_of (xs ++ y ∷ [])
+first_front : (xs : List ℕ) (y x : ℕ) → innermost_of ((xs ++ y ∷ []) ++ x ∷ []) ≡ innermost_of (xs ++ y ∷ [])
 first_front [] y x = refl
 first_front (z ∷ zs) y x = refl
 
-pub stack_top : (xs : List ℕ) → first_of (stack xs) ≡ slice_get xs (length xs - 1)
+pub stack_top : (xs : List ℕ) → innermost_of (stack xs) ≡ slice_get xs (length xs - 1)
 stack_top [] = refl
 stack_top (x ∷ []) = refl
 stack_top (x ∷ y ∷ ys) =

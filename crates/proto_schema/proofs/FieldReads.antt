@@ -29,7 +29,7 @@ use Rattle.proto_parts.specs.declared.name.NameState.{NameState}
 use Rattle.proto_parts.specs.declared.name.NameState.TheVariants as names
 use Rattle.proto_parts.specs.declared.name.NameStep.{NameStep}
 use Rattle.proto_parts.specs.declared.name.NameStep.TheVariants as name_steps
-use Rattle.proto_parts.specs.declared.field.Head.{Head}
+use Rattle.proto_parts.specs.declared.field.FieldHead.{FieldHead}
 use Rattle.proto_parts.specs.declared.field.MapState.{MapState}
 use Rattle.proto_parts.specs.declared.field.MapState.TheVariants as maps
 use Rattle.proto_parts.specs.declared.field.MapStep.TheVariants as map_steps
@@ -276,21 +276,21 @@ type_reads label (map_of_maps x {k = k} m n h e) = (
   typed_ready label (types.NestedMap k),
 )
 
-pub in_tail : (h : Head) (n : Number) (s t : TailState) (x : Lexeme) → TailGoes s x t
+pub in_tail : (h : FieldHead) (n : Number) (s t : TailState) (x : Lexeme) → TailGoes s x t
     → FieldGoes (fields.Tail h n s) x (fields.Tail h n t)
 unfolding field_step
 in_tail h n s t x e = ap (of_tail h n) e
 
-pub tail_ends : (h : Head) (n : Number) (s : TailState) (x : Lexeme) (packed : Option Bool)
+pub tail_ends : (h : FieldHead) (n : Number) (s : TailState) (x : Lexeme) (packed : Option Bool)
     → tail_step s x ≡ Ok (tail_steps.Done packed) → FieldEnds (fields.Tail h n s) x (field_of h n packed)
 unfolding field_step
 tail_ends h n s x packed e = ap (of_tail h n) e
 
-equals_goes : (h : Head) (x : Lexeme) → IsMark x equals → FieldGoes (fields.Named h) x (fields.Equals h)
+equals_goes : (h : FieldHead) (x : Lexeme) → IsMark x equals → FieldGoes (fields.Named h) x (fields.Equals h)
 unfolding field_step
 equals_goes h x e = rw e refl
 
-number_goes : (h : Head) (x : Lexeme) (v : Decimal) → x.means ≡ integer v
+number_goes : (h : FieldHead) (x : Lexeme) (v : Decimal) → x.means ≡ integer v
     → FieldGoes (fields.Equals h) x (fields.Tail h (number_at false v x.span) tails.Start)
 unfolding field_step
 number_goes h x v e = ap (by_number x (λ v. steps.More (fields.Tail h (number_at false v x.span) tails.Start))) e
@@ -305,7 +305,7 @@ pub field_takes :
     → FieldTakes (fields.Type label names.Start) (ts ++ es) (field name number kind label None packed)
 field_takes label {ts = ts} {kind = kind} k (field_end x y z n {os = os} {packed = packed} hx hy (whole u v hv) o hz e) =
     let r : TypeReads label ts kind = type_reads label k in
-    let h : Head = head label kind (word_at n x.span) in
+    let h : FieldHead = head label kind (word_at n x.span) in
     let m : Number = number_at false v u.span in
     let t : (t : TailState) × Walks TailGoes tails.Start os t × (tail_step t z ≡ Ok (tail_steps.Done packed)) = tail_reads z o hz in
     rw e (walk_takes FieldGoes FieldEnds (x ∷ y ∷ u ∷ os ++ z ∷ []) r.1

@@ -27,7 +27,7 @@ use Rattle.proto_parts.specs.declared.name.NameState.{NameState}
 use Rattle.proto_parts.specs.declared.name.NameState.TheVariants as names
 use Rattle.proto_parts.specs.declared.name.NameStep.{NameStep}
 use Rattle.proto_parts.specs.declared.name.NameStep.TheVariants as name_steps
-use Rattle.proto_parts.specs.declared.field.Head.{Head}
+use Rattle.proto_parts.specs.declared.field.FieldHead.{FieldHead}
 use Rattle.proto_parts.specs.declared.field.MapState.{MapState}
 use Rattle.proto_parts.specs.declared.field.MapState.TheVariants as maps
 use Rattle.proto_parts.specs.declared.field.MapStep.{MapStep}
@@ -106,12 +106,12 @@ pub data TypedField (label : FieldLabel) (kind : FieldType) (all : List Lexeme) 
   typed_field : {name : Word} {number : Number} {packed : Option Bool} → FieldEnd all name number packed
       → field name number kind label None packed ≡ f → TypedField label kind all f
 
-pub data NamedField (h : Head) (all : List Lexeme) (f : FieldDecl) : Type 0 where
+pub data NamedField (h : FieldHead) (all : List Lexeme) (f : FieldDecl) : Type 0 where
   named_field : (y z : Lexeme) {ns os : List Lexeme} {number : Number} {packed : Option Bool} → IsMark y equals
       → NumberOf false ns number → FieldOptions os packed → IsMark z semicolon → all ≡ y ∷ ns ++ os ++ z ∷ []
       → field_of h number packed ≡ f → NamedField h all f
 
-pub data NumberedField (h : Head) (all : List Lexeme) (f : FieldDecl) : Type 0 where
+pub data NumberedField (h : FieldHead) (all : List Lexeme) (f : FieldDecl) : Type 0 where
   numbered_field : (z : Lexeme) {ns os : List Lexeme} {number : Number} {packed : Option Bool}
       → NumberOf false ns number → FieldOptions os packed → IsMark z semicolon → all ≡ ns ++ os ++ z ∷ []
       → field_of h number packed ≡ f → NumberedField h all f
@@ -177,18 +177,18 @@ of_map_back label s x (Ok (map_steps.Done kind)) b = λ ys f k. by ys f k
     by ys f (typed_field d i) = field_from {ts = x ∷ []} {kind = kind} b d refl i
 of_map_back label s x (Err e) b = tt
 
-of_tail_back : (h : Head) (n : Number) (s : TailState) (x : Lexeme) (r : Result TailStep ProtoFault) → TailBack s x r
+of_tail_back : (h : FieldHead) (n : Number) (s : TailState) (x : Lexeme) (r : Result TailStep ProtoFault) → TailBack s x r
     → FieldBack (fields.Tail h n s) x (of_tail h n r)
 of_tail_back h n s x (Ok (tail_steps.More t)) b = λ ys f k. (k.0, b ys k.0 k.1, k.2)
 of_tail_back h n s x (Ok (tail_steps.Done packed)) b = (packed, b, refl)
 of_tail_back h n s x (Err e) b = tt
 
-number_behind : (h : Head) (x : Lexeme) (v : Decimal) → x.means ≡ integer v → (ys : List Lexeme) (f : FieldDecl)
+number_behind : (h : FieldHead) (x : Lexeme) (v : Decimal) → x.means ≡ integer v → (ys : List Lexeme) (f : FieldDecl)
     → (packed : Option Bool) × OptionsEnd ys packed × (field_of h (number_at false v x.span) packed ≡ f)
     → NumberedField h (x ∷ ys) f
 number_behind h x v e ys f (packed, options_end z o s a, q) = numbered_field z (whole x v e) o s (ap (λ (l : List Lexeme). x ∷ l) a) q
 
-equals_behind : (h : Head) (x : Lexeme) → IsMark x equals → (ys : List Lexeme) (f : FieldDecl) → NumberedField h ys f
+equals_behind : (h : FieldHead) (x : Lexeme) → IsMark x equals → (ys : List Lexeme) (f : FieldDecl) → NumberedField h ys f
     → NamedField h (x ∷ ys) f
 equals_behind h x e ys f (numbered_field z n o s a q) = named_field x z e n o s (ap (λ (l : List Lexeme). x ∷ l) a) q
 

@@ -67,7 +67,7 @@ use Rattle.proto_schema.proofs.RpcReads.{RpcTypeGoes, in_input, input_ends, in_o
 use Rattle.proto_schema.proofs.ValueReads.{RangeGoes, in_tail as in_value_tail, tail_ends as value_tail_ends, in_ranges, range_ends, kept}
 use Rattle.proto_file.specs.declared.file.FieldType.TheVariants as types
 use Rattle.proto_parts.specs.declared.option.OptionState.TheVariants as option_states
-use Rattle.proto_parts.specs.declared.field.Head.{Head}
+use Rattle.proto_parts.specs.declared.field.FieldHead.{FieldHead}
 use Rattle.proto_parts.specs.declared.field.MapState.{MapState}
 use Rattle.proto_parts.specs.declared.field.MapState.TheVariants as maps
 use Rattle.proto_parts.specs.declared.tail.TailState.{TailState}
@@ -252,7 +252,7 @@ field_walk s t xs w (ys, f, k) = (xs ++ ys, f, walk_takes FieldGoes FieldEnds ys
 field_on : (s t : FieldState) (x : Lexeme) → FieldGoes s x t → FieldFinish t → FieldFinish s
 field_on s t x h (ys, f, k) = (x ∷ ys, f, next x h k)
 
-field_tail_finish : (h : Head) (n : Number) (s : TailState) → FieldFinish (fields.Tail h n s)
+field_tail_finish : (h : FieldHead) (n : Number) (s : TailState) → FieldFinish (fields.Tail h n s)
 field_tail_finish h n s = by (tail_finish s)
   where
     by : TailFinish s → FieldFinish (fields.Tail h n s)
@@ -263,12 +263,12 @@ field_tail_finish h n s = by (tail_finish s)
           (in_tail h n) (λ s b x e. tail_ends h n s x b e) t,
     )
 
-equals_field : (h : Head) → FieldFinish (fields.Equals h)
+equals_field : (h : FieldHead) → FieldFinish (fields.Equals h)
 unfolding field_step
 equals_field h = field_on (fields.Equals h) (fields.Tail h (Lexemes.number_at false (Small 1) nowhere) tails.Start)
     a_one refl (field_tail_finish h (Lexemes.number_at false (Small 1) nowhere) tails.Start)
 
-named_field : (h : Head) → FieldFinish (fields.Named h)
+named_field : (h : FieldHead) → FieldFinish (fields.Named h)
 unfolding field_step
 named_field h = field_on (fields.Named h) (fields.Equals h) (a_mark equals) refl (equals_field h)
 

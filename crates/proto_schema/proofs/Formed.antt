@@ -7,13 +7,13 @@ use Rattle.std.proofs.lemmas.Bool.{cases_lt}
 use Rattle.proto_parts.specs.Lexemes.{Lexeme, word_at}
 use Rattle.proto_schema.specs.Files
 use Rattle.proto_schema.specs.Files.{Draft, Block, no_block, a_oneof, an_enum, a_service, an_rpc, Statement, Says}
-use Rattle.proto_schema.specs.Files.{Forms, ClosesTo, nothing_said, edit_at, edit_last, first_of, with_file}
+use Rattle.proto_schema.specs.Files.{Forms, ClosesTo, nothing_said, edit_open, edit_last, innermost_of, with_file}
 use Rattle.proto_schema.specs.Files.{with_block, in_message, in_enum, in_service, open_message, open_enum}
 use Rattle.proto_schema.specs.Files.{open_service, open_oneof, add_field, add_rpc, oneofs_of, count_oneofs, field}
 use Rattle.proto_schema.specs.Faults.{IsTextOf}
 use Rattle.proto_file.specs.Order.{IsPlaceBelow, HasName, HasFullName, HasTypeNames, IsFormedField, IsFormedMessage, IsFormedEnum, IsFormedRpc, IsFormedService, IsFormed}
 use Rattle.proto_schema.proofs.Places.{nothing_at, all_by_place, contained, in_pushed, before_pushed, pushed, Changed}
-use Rattle.proto_schema.proofs.Places.{changed, kept, in_edited_at, length_edited_at, in_edited_last}
+use Rattle.proto_schema.proofs.Places.{changed, kept, in_edited_open, length_edited_open, in_edited_last}
 use Rattle.proto_schema.proofs.Places.{length_edited_last}
 use Rattle.proto_schema.proofs.Along.{Along, along_split, tokens_along}
 use Rattle.proto_schema.proofs.Spans.{NameWithin, EndWithin, RpcWithin, along_same, word_along, full_along, types_along, end_along, numbered_along, rpc_along}
@@ -56,7 +56,7 @@ pub record ServiceSoFar (s : ServiceDecl) : Type 0 where
 -- the oneof o of the message k is open and has no field, and so is the enum k, the last one
 pub record IsOpenOneof (b : Block) (unclosed : List ℕ) (k o : ℕ) : Type 0 where
   pub block : b ≡ a_oneof o false
-  pub innermost : first_of unclosed ≡ Some k
+  pub innermost : innermost_of unclosed ≡ Some k
 
 pub record IsOpenEnum (b : Block) (enums k : ℕ) : Type 0 where
   pub block : b ≡ an_enum false
@@ -72,7 +72,7 @@ pub record SoFar (d : Draft) : Type 0 where
   -- the open messages, and the open oneof
   pub unclosed : (j k : ℕ) → slice_get d.messages j ≡ Some k → k < length d.file.messages
   pub oneof : (i : ℕ) (filled : Bool) (k : ℕ) (m : MessageDecl) → d.block ≡ a_oneof i filled
-      → first_of d.messages ≡ Some k → slice_get d.file.messages k ≡ Some m → i < length m.oneofs
+      → innermost_of d.messages ≡ Some k → slice_get d.file.messages k ≡ Some m → i < length m.oneofs
 
 -- blocks in which no oneof, and no enum, waits for its first part
 abbrev IsOneofShut : Block → Type 0
@@ -171,14 +171,14 @@ message_oneof {P} {Q} k m w n h q g =
 
 -- ---- a statement keeps them
 
-first_is : (unclosed : List ℕ) (k : ℕ) → first_of unclosed ≡ Some k → slice_get unclosed 0 ≡ Some k
+first_is : (unclosed : List ℕ) (k : ℕ) → innermost_of unclosed ≡ Some k → slice_get unclosed 0 ≡ Some k
 first_is [] k e = absurd (let t : ◌≡◌ None (Some k) = e in cc)
 first_is (i ∷ is) k e = e
 
-innermost_below : (d : Draft) → SoFar d → IsPlaceBelow (length d.file.messages) (first_of d.messages)
-innermost_below d s = by (first_of d.messages) refl
+innermost_below : (d : Draft) → SoFar d → IsPlaceBelow (length d.file.messages) (innermost_of d.messages)
+innermost_below d s = by (innermost_of d.messages) refl
   where
-    by : (o : Option ℕ) → first_of d.messages ≡ o → IsPlaceBelow (length d.file.messages) o
+    by : (o : Option ℕ) → innermost_of d.messages ≡ o → IsPlaceBelow (length d.file.messages) o
     by None e = tt
     by (Some k) e = s.unclosed 0 k (first_is d.messages k e)
 
@@ -219,7 +219,7 @@ formed_message d w b n s =
     }
   where
     opened : MessageDecl
-    opened = record { name = w; file = 0; parent = first_of d.messages; fields = []; oneofs = []; ranges = []; names = [] }
+    opened = record { name = w; file = 0; parent = innermost_of d.messages; fields = []; oneofs = []; ranges = []; names = [] }
 
     new : {P : ℕ → Type 0} → MessageSoFar P (length d.file.messages) opened
     new = record {
@@ -252,7 +252,7 @@ formed_enum d w b n s =
     }
   where
     opened : EnumDecl
-    opened = record { name = w; file = 0; parent = first_of d.messages; values = []; ranges = []; names = [] }
+    opened = record { name = w; file = 0; parent = innermost_of d.messages; values = []; ranges = []; names = [] }
 
     new : (k : ℕ) → k ≡ length d.file.enums → EnumSoFar (IsOpenEnum (an_enum false) (length (d.file.enums ++ opened ∷ [])) k) (length d.file.messages) opened
     new k j = record {
@@ -286,35 +286,35 @@ formed_service d w b n s =
 
 -- ---- what is added to the innermost message
 
-messages_kept : (d : Draft) (f : MessageDecl → MessageDecl) → length (edit_at (first_of d.messages) f d.file.messages) ≡ length d.file.messages
-messages_kept d f = length_edited_at (first_of d.messages) f d.file.messages
+messages_kept : (d : Draft) (f : MessageDecl → MessageDecl) → length (edit_open (innermost_of d.messages) f d.file.messages) ≡ length d.file.messages
+messages_kept d f = length_edited_open (innermost_of d.messages) f d.file.messages
 
 formed_field : (d : Draft) (f : FieldDecl) (b : Block)
-    → ((k : ℕ) (m : MessageDecl) → first_of d.messages ≡ Some k → slice_get d.file.messages k ≡ Some m → IsFormedField (length m.oneofs) f)
-    → ((k o : ℕ) → first_of d.messages ≡ Some k → IsOpenOneof d.block d.messages k o → (f.oneof ≡ Some o) ⊎ IsOpenOneof b d.messages k o)
+    → ((k : ℕ) (m : MessageDecl) → innermost_of d.messages ≡ Some k → slice_get d.file.messages k ≡ Some m → IsFormedField (length m.oneofs) f)
+    → ((k o : ℕ) → innermost_of d.messages ≡ Some k → IsOpenOneof d.block d.messages k o → (f.oneof ≡ Some o) ⊎ IsOpenOneof b d.messages k o)
     → IsEnumShut d.block
     → ((i : ℕ) (filled : Bool) → b ≡ a_oneof i filled → (before : Bool) × (d.block ≡ a_oneof i before))
     → SoFar d → SoFar (with_block (add_field d f) b)
 formed_field d f b form unclosed enums still s =
-    let l : length (edit_at (first_of d.messages) added d.file.messages) ≡ length d.file.messages = messages_kept d added in
+    let l : length (edit_open (innermost_of d.messages) added d.file.messages) ≡ length d.file.messages = messages_kept d added in
     record {
       package_name = s.package_name;
-      messages = λ k m e. elim (in_edited_at (first_of d.messages) added d.file.messages k m e) [
+      messages = λ k m e. elim (in_edited_open (innermost_of d.messages) added d.file.messages k m e) [
         | changed x h i q ↦ subst (λ (m : MessageDecl). MessageSoFar (λ o. IsOpenOneof b d.messages k o) k m) (sym q)
             (message_field k x f (form k x i h) (λ o p. unclosed k o i p) (s.messages k x h))
         | kept h i ↦ message_open k m (λ o p. absurd (i p.innermost)) (s.messages k m h)
       ];
-      enums = enums_shut d b (length d.file.enums) (length (edit_at (first_of d.messages) added d.file.messages)) s enums (omega arith);
+      enums = enums_shut d b (length d.file.enums) (length (edit_open (innermost_of d.messages) added d.file.messages)) s enums (omega arith);
       services = s.services;
       unclosed = λ j k e. let q : k < length d.file.messages = s.unclosed j k e in omega arith;
-      oneof = λ i filled k m q h g. by i k m (still i filled q) h (in_edited_at (first_of d.messages) added d.file.messages k m g);
+      oneof = λ i filled k m q h g. by i k m (still i filled q) h (in_edited_open (innermost_of d.messages) added d.file.messages k m g);
     }
   where
     added : MessageDecl → MessageDecl
     added = λ m. record m { fields = m.fields ++ f ∷ [] }
 
-    by : (i k : ℕ) (m : MessageDecl) → (before : Bool) × (d.block ≡ a_oneof i before) → first_of d.messages ≡ Some k
-        → Changed (λ k. first_of d.messages ≡ Some k) added d.file.messages k m → i < length m.oneofs
+    by : (i k : ℕ) (m : MessageDecl) → (before : Bool) × (d.block ≡ a_oneof i before) → innermost_of d.messages ≡ Some k
+        → Changed (λ k. innermost_of d.messages ≡ Some k) added d.file.messages k m → i < length m.oneofs
     by i k m (before, q) h (changed x g l e) = subst (λ (m : MessageDecl). i < length m.oneofs) (sym e) (s.oneof i before k x q h g)
     by i k m (before, q) h (kept g l) = s.oneof i before k m q h g
 
@@ -322,34 +322,34 @@ formed_oneof : (d : Draft) (w : Word) → d.block ≡ no_block → HasName w →
 formed_oneof d w b n s =
     let oneofs : IsOneofShut d.block = subst IsOneofShut (sym b) tt in
     let enums : IsEnumShut d.block = subst IsEnumShut (sym b) tt in
-    let l : length (edit_at (first_of d.messages) added d.file.messages) ≡ length d.file.messages = messages_kept d added in
+    let l : length (edit_open (innermost_of d.messages) added d.file.messages) ≡ length d.file.messages = messages_kept d added in
     record {
       package_name = s.package_name;
-      messages = λ k m e. elim (in_edited_at (first_of d.messages) added d.file.messages k m e) [
+      messages = λ k m e. elim (in_edited_open (innermost_of d.messages) added d.file.messages k m e) [
         | changed x h i q ↦
             subst (λ (m : MessageDecl). MessageSoFar (λ o. IsOpenOneof (open_oneof d w).block d.messages k o) k m) (sym q)
             (message_oneof k x w n (λ o p. absurd (no_open_oneof oneofs p)) (record { block = ap (λ (c : ℕ). a_oneof c false) (count k x i h); innermost = i }) (s.messages k x h))
         | kept h i ↦ messages_shut d (open_oneof d w).block d.messages s oneofs k m h
       ];
-      enums = enums_shut d (open_oneof d w).block (length d.file.enums) (length (edit_at (first_of d.messages) added d.file.messages)) s enums (omega arith);
+      enums = enums_shut d (open_oneof d w).block (length d.file.enums) (length (edit_open (innermost_of d.messages) added d.file.messages)) s enums (omega arith);
       services = s.services;
       unclosed = λ j k e. let q : k < length d.file.messages = s.unclosed j k e in omega arith;
-      oneof = λ i filled k m q h g. by i filled k m q h (in_edited_at (first_of d.messages) added d.file.messages k m g);
+      oneof = λ i filled k m q h g. by i filled k m q h (in_edited_open (innermost_of d.messages) added d.file.messages k m g);
     }
   where
     added : MessageDecl → MessageDecl
     added = λ m. record m { oneofs = m.oneofs ++ w ∷ [] }
 
-    count : (k : ℕ) (m : MessageDecl) → first_of d.messages ≡ Some k → slice_get d.file.messages k ≡ Some m
-        → count_oneofs (first_of d.messages) d.file.messages ≡ length m.oneofs
+    count : (k : ℕ) (m : MessageDecl) → innermost_of d.messages ≡ Some k → slice_get d.file.messages k ≡ Some m
+        → count_oneofs (innermost_of d.messages) d.file.messages ≡ length m.oneofs
     count k m i h = ap (λ (o : Option ℕ). count_oneofs o d.file.messages) i ∙ ap oneofs_of h
 
-    by : (i : ℕ) (filled : Bool) (k : ℕ) (m : MessageDecl) → (open_oneof d w).block ≡ a_oneof i filled → first_of d.messages ≡ Some k
-        → Changed (λ k. first_of d.messages ≡ Some k) added d.file.messages k m → i < length m.oneofs
+    by : (i : ℕ) (filled : Bool) (k : ℕ) (m : MessageDecl) → (open_oneof d w).block ≡ a_oneof i filled → innermost_of d.messages ≡ Some k
+        → Changed (λ k. innermost_of d.messages ≡ Some k) added d.file.messages k m → i < length m.oneofs
     by i filled k m q h (changed x g l e) =
-        let t : a_oneof (count_oneofs (first_of d.messages) d.file.messages) false ≡ a_oneof i filled = q in
-        let u : count_oneofs (first_of d.messages) d.file.messages ≡ i = (cc) in
-        let c : count_oneofs (first_of d.messages) d.file.messages ≡ length x.oneofs = count k x l g in
+        let t : a_oneof (count_oneofs (innermost_of d.messages) d.file.messages) false ≡ a_oneof i filled = q in
+        let u : count_oneofs (innermost_of d.messages) d.file.messages ≡ i = (cc) in
+        let c : count_oneofs (innermost_of d.messages) d.file.messages ≡ length x.oneofs = count k x l g in
         subst (λ (m : MessageDecl). i < length m.oneofs) (sym e) (omega (arith, length-append x.oneofs (w ∷ [])))
     by i filled k m q h (kept g l) = absurd (l h)
 
@@ -358,15 +358,15 @@ formed_reserved : (d : Draft) (f : MessageDecl → MessageDecl) → d.block ≡ 
     → ((P : ℕ → Type 0) (k : ℕ) (m : MessageDecl) → MessageSoFar P k m → MessageSoFar P k (f m)) → SoFar d → SoFar (in_message d f)
 formed_reserved d f b same s =
     let enums : IsEnumShut d.block = subst IsEnumShut (sym b) tt in
-    let l : length (edit_at (first_of d.messages) f d.file.messages) ≡ length d.file.messages = messages_kept d f in
+    let l : length (edit_open (innermost_of d.messages) f d.file.messages) ≡ length d.file.messages = messages_kept d f in
     record {
       package_name = s.package_name;
-      messages = λ k m e. elim (in_edited_at (first_of d.messages) f d.file.messages k m e) [
+      messages = λ k m e. elim (in_edited_open (innermost_of d.messages) f d.file.messages k m e) [
         | changed x h i q ↦ subst (λ (m : MessageDecl). MessageSoFar (λ o. IsOpenOneof d.block d.messages k o) k m)
             (sym q) (same (λ o. IsOpenOneof d.block d.messages k o) k x (s.messages k x h))
         | kept h i ↦ s.messages k m h
       ];
-      enums = enums_shut d d.block (length d.file.enums) (length (edit_at (first_of d.messages) f d.file.messages)) s enums (omega arith);
+      enums = enums_shut d d.block (length d.file.enums) (length (edit_open (innermost_of d.messages) f d.file.messages)) s enums (omega arith);
       services = s.services;
       unclosed = λ j k e. let q : k < length d.file.messages = s.unclosed j k e in omega arith;
       oneof = λ i filled k m q. absurd (no_oneof i filled b q);

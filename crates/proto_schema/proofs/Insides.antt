@@ -28,21 +28,21 @@ use Rattle.proto_parts.specs.Lexemes.{Lexeme, lexeme, lexemes, span_to, word_at}
 use Rattle.proto_parts.specs.Grammar
 use Rattle.proto_parts.specs.Grammar.{FullName, TypeName, MapKey, FieldTypeOf, RpcType, NumberOf, RangeOf, RangesOf, NamesOf}
 use Rattle.proto_schema.specs.Files
-use Rattle.proto_schema.specs.Files.{Draft, Statement, Says, Forms, ClosesTo, FieldEnd, field_end, RpcHead, rpc_head, nothing_said, edit, edit_at, edit_last, first_of, add_field, field}
+use Rattle.proto_schema.specs.Files.{Draft, Statement, Says, Forms, ClosesTo, FieldEnd, field_end, RpcHead, rpc_head, nothing_said, edit_at, edit_open, edit_last, innermost_of, add_field, field}
 use Rattle.proto_schema.specs.Faults.{IsTextOf}
 use Rattle.proto_schema.proofs.Along.{token_goes}
 
 -- ---- a list of which one element is changed
 
 all_edited : {X : Type 0} (P : X → Type 0) (n : ℕ) (f : X → X) (xs : List X) → ((x : X) → P x → P (f x)) → All P xs
-    → All P (edit n f xs)
+    → All P (edit_at n f xs)
 all_edited P n f [] h a = All-nil P
 all_edited P zero f (x ∷ xs) h a = All-cons P (f x) xs (h x (All-head P x xs a)) (All-tail P x xs a)
 all_edited P (suc n) f (x ∷ xs) h a =
-    All-cons P x (edit n f xs) (All-head P x xs a) (all_edited P n f xs h (All-tail P x xs a))
+    All-cons P x (edit_at n f xs) (All-head P x xs a) (all_edited P n f xs h (All-tail P x xs a))
 
 all_edited_at : {X : Type 0} (P : X → Type 0) (o : Option ℕ) (f : X → X) (xs : List X) → ((x : X) → P x → P (f x))
-    → All P xs → All P (edit_at o f xs)
+    → All P xs → All P (edit_open o f xs)
 all_edited_at P None f xs h a = a
 all_edited_at P (Some n) f xs h a = all_edited P n f xs h a
 
@@ -207,7 +207,7 @@ module _ (size : ℕ) where
   -- a change that keeps what it changes in the text
   within_in_message : (F : File) (o : Option ℕ) (f : MessageDecl → MessageDecl)
       → ((m : MessageDecl) → IsMessageWithin size m → IsMessageWithin size (f m)) → IsWithin size F
-      → IsWithin size (record F { messages = edit_at o f F.messages })
+      → IsWithin size (record F { messages = edit_open o f F.messages })
   within_in_message F o f same k = record {
     package_name = k.package_name;
     messages = all_edited_at (IsMessageWithin size) o f F.messages same k.messages;
@@ -225,7 +225,7 @@ module _ (size : ℕ) where
   }
 
   within_field : (F : File) (o : Option ℕ) (f : FieldDecl) → IsFieldWithin size f → IsWithin size F
-      → IsWithin size (record F { messages = edit_at o (λ m. record m { fields = m.fields ++ f ∷ [] }) F.messages })
+      → IsWithin size (record F { messages = edit_open o (λ m. record m { fields = m.fields ++ f ∷ [] }) F.messages })
   within_field F o f h k = within_in_message F o (λ m. record m { fields = m.fields ++ f ∷ [] }) (λ m g. record {
     name = g.name;
     fields = All-push (IsFieldWithin size) m.fields f g.fields h;
@@ -235,7 +235,7 @@ module _ (size : ℕ) where
   }) k
 
   within_oneof : (F : File) (o : Option ℕ) (w : Word) → IsWordWithin size w → IsWithin size F
-      → IsWithin size (record F { messages = edit_at o (λ m. record m { oneofs = m.oneofs ++ w ∷ [] }) F.messages })
+      → IsWithin size (record F { messages = edit_open o (λ m. record m { oneofs = m.oneofs ++ w ∷ [] }) F.messages })
   within_oneof F o w h k = within_in_message F o (λ m. record m { oneofs = m.oneofs ++ w ∷ [] }) (λ m g. record {
     name = g.name;
     fields = g.fields;
@@ -245,7 +245,7 @@ module _ (size : ℕ) where
   }) k
 
   within_ranges : (F : File) (o : Option ℕ) (rs : List Range) → All (IsRangeWithin size) rs → IsWithin size F
-      → IsWithin size (record F { messages = edit_at o (λ m. record m { ranges = m.ranges ++ rs }) F.messages })
+      → IsWithin size (record F { messages = edit_open o (λ m. record m { ranges = m.ranges ++ rs }) F.messages })
   within_ranges F o rs h k = within_in_message F o (λ m. record m { ranges = m.ranges ++ rs }) (λ m g. record {
     name = g.name;
     fields = g.fields;
@@ -255,7 +255,7 @@ module _ (size : ℕ) where
   }) k
 
   within_names : (F : File) (o : Option ℕ) (ws : List Word) → All (IsWordWithin size) ws → IsWithin size F
-      → IsWithin size (record F { messages = edit_at o (λ m. record m { names = m.names ++ ws }) F.messages })
+      → IsWithin size (record F { messages = edit_open o (λ m. record m { names = m.names ++ ws }) F.messages })
   within_names F o ws h k = within_in_message F o (λ m. record m { names = m.names ++ ws }) (λ m g. record {
     name = g.name;
     fields = g.fields;
@@ -330,7 +330,7 @@ module _ (size : ℕ) where
       → Inside ts → Inside es → IsWithin size d.file → IsWithin size (add_field d (field name number kind label oneof packed)).file
   within_field_statement d {kind = kind} {name = name} {number = number} {packed = packed} label oneof t f h g k =
       let (a, b) = end_inside f g in
-      within_field d.file (first_of d.messages) (field name number kind label oneof packed)
+      within_field d.file (innermost_of d.messages) (field name number kind label oneof packed)
       (record { name = a; number = b; kind = kind_inside t h }) k
 
   within_statement : (d : Draft) {all : List Lexeme} {other : Draft} → Statement d all other → Inside all → IsWithin size d.file
@@ -344,13 +344,13 @@ module _ (size : ℕ) where
   within_statement d (Files.option x z hx o hz a) h k = k
   within_statement d (Files.empty x i hx a) h k = k
   within_statement d {all = all} (Files.message x y z name i hx hy hz a) h k =
-      within_message d.file (word_at name y.span) (first_of d.messages) (second_inside all x y (z ∷ []) a h) k
+      within_message d.file (word_at name y.span) (innermost_of d.messages) (second_inside all x y (z ∷ []) a h) k
   within_statement d {all = all} (Files.enum x y z name i hx hy hz a) h k =
-      within_enum d.file (word_at name y.span) (first_of d.messages) (second_inside all x y (z ∷ []) a h) k
+      within_enum d.file (word_at name y.span) (innermost_of d.messages) (second_inside all x y (z ∷ []) a h) k
   within_statement d {all = all} (Files.service x y z name i hx hy hz a) h k =
       within_service d.file (word_at name y.span) (second_inside all x y (z ∷ []) a h) k
   within_statement d {all = all} (Files.oneof x y z name i hx hy hz a) h k =
-      within_oneof d.file (first_of d.messages) (word_at name y.span) (second_inside all x y (z ∷ []) a h) k
+      within_oneof d.file (innermost_of d.messages) (word_at name y.span) (second_inside all x y (z ∷ []) a h) k
   within_statement d {all = all} (Files.a_field {ls = ls} {ts = ts} {es = es} {label = label} i l t f a) h k =
       let (p, q) = inside_split (ls ++ ts) es (inside_same all (ls ++ ts ++ es) a h) in
       let (u, v) = inside_split ls ts p in within_field_statement d label None t f v q k
@@ -358,9 +358,9 @@ module _ (size : ℕ) where
       let (p, q) = inside_split ts es (inside_same all (ts ++ es) a h) in
       within_field_statement d Plain (Some i) t f p q k
   within_statement d {all = all} (Files.reserved_numbers x z {ys = ys} {rs = rs} i hx r hz a) h k =
-      within_ranges d.file (first_of d.messages) rs (ranges_inside r (middle_inside all x z ys a h)) k
+      within_ranges d.file (innermost_of d.messages) rs (ranges_inside r (middle_inside all x z ys a h)) k
   within_statement d {all = all} (Files.reserved_names x z {ys = ys} {ws = ws} i hx r hz a) h k =
-      within_names d.file (first_of d.messages) ws (names_inside r (middle_inside all x z ys a h)) k
+      within_names d.file (innermost_of d.messages) ws (names_inside r (middle_inside all x z ys a h)) k
   within_statement d {all = all} (Files.reserved_values x z filled {ys = ys} {rs = rs} q hx r hz a) h k =
       within_value_ranges d.file rs (ranges_inside r (middle_inside all x z ys a h)) k
   within_statement d {all = all} (Files.reserved_value_names x z filled {ys = ys} {ws = ws} q hx r hz a) h k =

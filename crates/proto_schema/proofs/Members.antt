@@ -15,15 +15,15 @@ use Rattle.proto_file.specs.declared.file.FieldDecl.{FieldDecl}
 use Rattle.proto_file.specs.declared.file.ValueDecl.{ValueDecl}
 use Rattle.proto_file.specs.declared.file.RpcDecl.{RpcDecl}
 use Rattle.proto_file.specs.declared.file.ServiceDecl.{ServiceDecl}
-use Rattle.proto_schema.specs.Files.{edit_at, edit_last}
-use Rattle.proto_schema.proofs.Places.{one_at, in_pushed, changed, kept, in_edited_at, in_edited_last}
+use Rattle.proto_schema.specs.Files.{edit_open, edit_last}
+use Rattle.proto_schema.proofs.Places.{one_at, in_pushed, changed, kept, in_edited_open, in_edited_last}
 use Rattle.proto_schema.proofs.Spans.{IsWithin, TypesWithin, RpcWithin}
 use Rattle.proto_schema.proofs.KeptOrder.{Kept, kept_to, kept_adds, InMessages, InEnums, InServices, of_messages}
 use Rattle.proto_schema.proofs.KeptOrder.{of_enums, of_services, in_messages, in_enums, in_services, precedes_itself}
 use Rattle.proto_schema.proofs.KeptOrder.{IsName, adds_name, no_place, field_place, oneof_place, value_place}
 use Rattle.proto_schema.proofs.KeptOrder.{rpc_place, field_precedes, oneof_precedes, value_precedes, rpc_precedes}
 use Rattle.proto_schema.proofs.KeptOrder.{message_in, field_in, oneof_in, enum_in, value_in, service_in, rpc_in}
-use Rattle.proto_schema.proofs.Declares.{through, IsEdited, edit_at_cases, edit_last_cases, enums_behind_edit, enums_behind_last}
+use Rattle.proto_schema.proofs.Declares.{through, IsEdited, edit_open_cases, edit_last_cases, enums_behind_edit, enums_behind_last}
 
 -- ---- a new field
 
@@ -127,15 +127,15 @@ abbrev pub with_field : FieldDecl → MessageDecl → MessageDecl
 with_field f m = record m { fields = m.fields ++ f ∷ [] }
 
 pub in_new_field : (o : Option ℕ) (f : FieldDecl) (ms : List MessageDecl) (i : ℕ) (m : MessageDecl) → o ≡ Some i → slice_get ms i ≡ Some m
-    → {s : Span} {x : Declaration} {p : Part} → InMessages (edit_at o (with_field f) ms) s x p
+    → {s : Span} {x : Declaration} {p : Part} → InMessages (edit_open o (with_field f) ms) s x p
     → InMessages ms s x p ⊎ ((x ≡ field_decl i (length m.fields)) × IsOfField f s p)
 in_new_field o f ms i m oi mi (message_in k n e h) =
-    elim (in_edited_at o (with_field f) ms k n e) [
+    elim (in_edited_open o (with_field f) ms k n e) [
       | changed y g l u ↦ inl (message_in k y g (h ∙ ap (λ (m : MessageDecl). m.name.span) u))
       | kept g l ↦ inl (message_in k n g h)
     ]
 in_new_field o f ms i m oi mi {s = s} {p = p} (field_in k j n z e g h) =
-    elim (in_edited_at o (with_field f) ms k n e) [
+    elim (in_edited_open o (with_field f) ms k n e) [
       | changed y d l u ↦ by y d l (in_pushed y.fields f j z (ap (λ (m : MessageDecl). slice_get m.fields j) (sym u) ∙ g))
       | kept d l ↦ inl (field_in k j n z d g h)
     ]
@@ -150,27 +150,27 @@ in_new_field o f ms i m oi mi {s = s} {p = p} (field_in k j n z e g h) =
         let jm : j ≡ length m.fields = a ∙ ap (λ (m : MessageDecl). length m.fields) ym in
         inr ((cc), subst (λ (z : FieldDecl). IsOfField z s p) v h)
 in_new_field o f ms i m oi mi (oneof_in k j n z e g h) =
-    elim (in_edited_at o (with_field f) ms k n e) [
+    elim (in_edited_open o (with_field f) ms k n e) [
       | changed y d l u ↦ inl (oneof_in k j y z d (ap (λ (m : MessageDecl). slice_get m.oneofs j) (sym u) ∙ g) h)
       | kept d l ↦ inl (oneof_in k j n z d g h)
     ]
 
 pub kept_field : (F : File) (b g c : ℕ) (o : Option ℕ) (f : FieldDecl) → b ≤ g → g ≤ c → FieldWithin b g c f → Kept F b
-    → Kept (record F { messages = edit_at o (with_field f) F.messages }) c
-kept_field F b g c o f l m w k = by (edit_at_cases o (with_field f) F.messages)
+    → Kept (record F { messages = edit_open o (with_field f) F.messages }) c
+kept_field F b g c o f l m w k = by (edit_open_cases o (with_field f) F.messages)
   where
     G : File
-    G = record F { messages = edit_at o (with_field f) F.messages }
+    G = record F { messages = edit_open o (with_field f) F.messages }
 
     bc : b ≤ c
     bc = omega arith
 
-    by : (edit_at o (with_field f) F.messages ≡ F.messages) ⊎ IsEdited F.messages (λ i. o ≡ Some i) → Kept G c
+    by : (edit_open o (with_field f) F.messages ≡ F.messages) ⊎ IsEdited F.messages (λ i. o ≡ Some i) → Kept G c
     by (inl e) = subst (λ (ms : List MessageDecl). Kept (record F { messages = ms }) c) (sym e) (kept_to F b c bc k)
     by (inr d) =
         kept_adds F G b c (field_decl d.place (length d.item.fields)) (IsOfField f) k bc
         (record {
-          old = λ x p s h. elim (in_messages F (edit_at o (with_field f) F.messages) h) [
+          old = λ x p s h. elim (in_messages F (edit_open o (with_field f) F.messages) h) [
             | inl u ↦ inl u
             | inr u ↦ through (of_messages F) (in_new_field o f F.messages d.place d.item d.here d.is u)
           ];
@@ -190,20 +190,20 @@ abbrev pub with_oneof : Word → MessageDecl → MessageDecl
 with_oneof w m = record m { oneofs = m.oneofs ++ w ∷ [] }
 
 pub in_new_oneof : (o : Option ℕ) (w : Word) (ms : List MessageDecl) (i : ℕ) (m : MessageDecl) → o ≡ Some i → slice_get ms i ≡ Some m
-    → {s : Span} {x : Declaration} {p : Part} → InMessages (edit_at o (with_oneof w) ms) s x p
+    → {s : Span} {x : Declaration} {p : Part} → InMessages (edit_open o (with_oneof w) ms) s x p
     → InMessages ms s x p ⊎ ((x ≡ oneof_decl i (length m.oneofs)) × IsName w.span s p)
 in_new_oneof o w ms i m oi mi (message_in k n e h) =
-    elim (in_edited_at o (with_oneof w) ms k n e) [
+    elim (in_edited_open o (with_oneof w) ms k n e) [
       | changed y g l u ↦ inl (message_in k y g (h ∙ ap (λ (m : MessageDecl). m.name.span) u))
       | kept g l ↦ inl (message_in k n g h)
     ]
 in_new_oneof o w ms i m oi mi (field_in k j n z e g h) =
-    elim (in_edited_at o (with_oneof w) ms k n e) [
+    elim (in_edited_open o (with_oneof w) ms k n e) [
       | changed y d l u ↦ inl (field_in k j y z d (ap (λ (m : MessageDecl). slice_get m.fields j) (sym u) ∙ g) h)
       | kept d l ↦ inl (field_in k j n z d g h)
     ]
 in_new_oneof o w ms i m oi mi {s = s} (oneof_in k j n z e g h) =
-    elim (in_edited_at o (with_oneof w) ms k n e) [
+    elim (in_edited_open o (with_oneof w) ms k n e) [
       | changed y d l u ↦ by y d l (in_pushed y.oneofs w j z (ap (λ (m : MessageDecl). slice_get m.oneofs j) (sym u) ∙ g))
       | kept d l ↦ inl (oneof_in k j n z d g h)
     ]
@@ -219,18 +219,18 @@ in_new_oneof o w ms i m oi mi {s = s} (oneof_in k j n z e g h) =
         inr ((cc), (refl, h ∙ ap (λ (w : Word). w.span) v))
 
 pub kept_oneof : (F : File) (b c : ℕ) (o : Option ℕ) (w : Word) → b ≤ c → IsWithin b c w.span.start → Kept F b
-    → Kept (record F { messages = edit_at o (with_oneof w) F.messages }) c
-kept_oneof F b c o w l i k = by (edit_at_cases o (with_oneof w) F.messages)
+    → Kept (record F { messages = edit_open o (with_oneof w) F.messages }) c
+kept_oneof F b c o w l i k = by (edit_open_cases o (with_oneof w) F.messages)
   where
     G : File
-    G = record F { messages = edit_at o (with_oneof w) F.messages }
+    G = record F { messages = edit_open o (with_oneof w) F.messages }
 
-    by : (edit_at o (with_oneof w) F.messages ≡ F.messages) ⊎ IsEdited F.messages (λ i. o ≡ Some i) → Kept G c
+    by : (edit_open o (with_oneof w) F.messages ≡ F.messages) ⊎ IsEdited F.messages (λ i. o ≡ Some i) → Kept G c
     by (inl e) = subst (λ (ms : List MessageDecl). Kept (record F { messages = ms }) c) (sym e) (kept_to F b c l k)
     by (inr d) =
         kept_adds F G b c (oneof_decl d.place (length d.item.oneofs)) (IsName w.span) k l
         (adds_name w.span F G b c (oneof_decl d.place (length d.item.oneofs))
-        (λ x p s h. elim (in_messages F (edit_at o (with_oneof w) F.messages) h) [
+        (λ x p s h. elim (in_messages F (edit_open o (with_oneof w) F.messages) h) [
           | inl u ↦ inl u
           | inr u ↦ through (of_messages F) (in_new_oneof o w F.messages d.place d.item d.here d.is u)
         ])

@@ -13,7 +13,7 @@ use Rattle.std.proofs.lemmas.List.{append_assoc}
 use Rattle.proto_parts.specs.Lexemes.{Lexeme, word_at}
 use Rattle.proto_parts.specs.Grammar.{FieldTypeOf}
 use Rattle.proto_schema.specs.Files
-use Rattle.proto_schema.specs.Files.{Draft, Statement, Says, Forms, ClosesTo, FieldEnd, nothing_said, first_of, add_field, add_rpc, field}
+use Rattle.proto_schema.specs.Files.{Draft, Statement, Says, Forms, ClosesTo, FieldEnd, nothing_said, innermost_of, add_field, add_rpc, field}
 use Rattle.proto_schema.specs.Faults.{IsTextOf}
 use Rattle.proto_file.specs.Order.{HasFullName}
 use Rattle.proto_file.specs.declared.file.FieldLabel.{FieldLabel}
@@ -37,7 +37,7 @@ kept_field_statement b e d {ts = ts} {es = es} {kind = kind} {name = name} {numb
     let ends : EndWithin g e name number = end_along g e f v in
     let l : b ≤ g = along_ends b ts g u in
     let m : g ≤ e = along_ends g es e v in
-    kept_field d.file b g e (first_of d.messages) (field name number kind label oneof packed) l m
+    kept_field d.file b g e (innermost_of d.messages) (field name number kind label oneof packed) l m
     (record { types = types; name = ends.name.within; number = ends.number; ordered = ends.ordered }) k
 
 -- a name behind a first token
@@ -68,16 +68,16 @@ kept_statement b e d {all = all} (Files.public_import x p y z path i hx hp hy hz
 kept_statement b e d {all = all} (Files.option x z hx o hz a) h s k = kept_to d.file b e (along_ends b all e h) k
 kept_statement b e d {all = all} (Files.empty x i hx a) h s k = kept_to d.file b e (along_ends b all e h) k
 kept_statement b e d {all = all} (Files.message x y z name i hx hy hz a) h s k =
-    kept_message d.file b e (first_of d.messages) (word_at name y.span) (λ j c q. (s.enums j c q).parent) (along_ends b all e h)
+    kept_message d.file b e (innermost_of d.messages) (word_at name y.span) (λ j c q. (s.enums j c q).parent) (along_ends b all e h)
     (second_within b e x y (z ∷ []) (along_same b e all (x ∷ y ∷ z ∷ []) a h)) k
 kept_statement b e d {all = all} (Files.enum x y z name i hx hy hz a) h s k =
-    kept_enum d.file b e (first_of d.messages) (word_at name y.span) (along_ends b all e h)
+    kept_enum d.file b e (innermost_of d.messages) (word_at name y.span) (along_ends b all e h)
     (second_within b e x y (z ∷ []) (along_same b e all (x ∷ y ∷ z ∷ []) a h)) k
 kept_statement b e d {all = all} (Files.service x y z name i hx hy hz a) h s k =
     kept_service d.file b e (word_at name y.span) (along_ends b all e h)
     (second_within b e x y (z ∷ []) (along_same b e all (x ∷ y ∷ z ∷ []) a h)) k
 kept_statement b e d {all = all} (Files.oneof x y z name i hx hy hz a) h s k =
-    kept_oneof d.file b e (first_of d.messages) (word_at name y.span) (along_ends b all e h)
+    kept_oneof d.file b e (innermost_of d.messages) (word_at name y.span) (along_ends b all e h)
     (second_within b e x y (z ∷ []) (along_same b e all (x ∷ y ∷ z ∷ []) a h)) k
 kept_statement b e d {all = all} (Files.a_field {ls = ls} {ts = ts} {es = es} {label = label} i l t f a) h s k =
     let q : Along b (ls ++ (ts ++ es)) e = along_same b e all (ls ++ (ts ++ es)) (a ∙ append_assoc ls ts es) h in
@@ -86,9 +86,9 @@ kept_statement b e d {all = all} (Files.a_field {ls = ls} {ts = ts} {es = es} {l
 kept_statement b e d {all = all} (Files.member i filled {ts = ts} {es = es} q t f a) h s k =
     kept_field_statement b e d Plain (Some i) t f (along_same b e all (ts ++ es) a h) k
 kept_statement b e d {all = all} (Files.reserved_numbers x z {rs = rs} i hx r hz a) h s k =
-    kept_same_message d.file b e (first_of d.messages) (λ m. record m { ranges = m.ranges ++ rs }) (λ m. refl) (λ m. refl) (λ m. refl) (along_ends b all e h) k
+    kept_same_message d.file b e (innermost_of d.messages) (λ m. record m { ranges = m.ranges ++ rs }) (λ m. refl) (λ m. refl) (λ m. refl) (along_ends b all e h) k
 kept_statement b e d {all = all} (Files.reserved_names x z {ws = ws} i hx r hz a) h s k =
-    kept_same_message d.file b e (first_of d.messages) (λ m. record m { names = m.names ++ ws }) (λ m. refl) (λ m. refl) (λ m. refl) (along_ends b all e h) k
+    kept_same_message d.file b e (innermost_of d.messages) (λ m. record m { names = m.names ++ ws }) (λ m. refl) (λ m. refl) (λ m. refl) (along_ends b all e h) k
 kept_statement b e d {all = all} (Files.reserved_values x z filled {rs = rs} q hx r hz a) h s k =
     kept_same_enum d.file b e (λ c. record c { ranges = c.ranges ++ rs }) (λ c. refl) (λ c. refl) (λ c. refl) (along_ends b all e h) k
 kept_statement b e d {all = all} (Files.reserved_value_names x z filled {ws = ws} q hx r hz a) h s k =

@@ -2,7 +2,7 @@
 use Rattle.std.proofs.Common.{◌≡◌, ◌⊎◌, inl, inr, ℕ, zero, suc, ◌-◌, ◌<◌, List, [], ◌∷◌, ◌++◌, length, get_or, refl, ap, sym, ◌∙◌, arith}
 use Rattle.std.specs.Prelude.{Option, Some, None, slice_get, All, Contains}
 use Rattle.std.proofs.lemmas.Option.{slice_get_within, slice_get-get_or, get_or_from_slice_get}
-use Rattle.proto_schema.specs.Files.{edit, edit_last, edit_at}
+use Rattle.proto_schema.specs.Files.{edit_at, edit_last, edit_open}
 
 pub nothing_at : {X : Type 0} (i : ℕ) (x : X) → slice_get [] i ≡ Some x → ⊥
 nothing_at i x e = let t : ◌≡◌ None (Some x) = e in cc
@@ -43,7 +43,7 @@ pub data Changed {X : Type 0} (at : ℕ → Type 0) (f : X → X) (xs : List X) 
   changed : (x : X) → slice_get xs i ≡ Some x → at i → y ≡ f x → Changed at f xs i y
   kept : slice_get xs i ≡ Some y → (at i → ⊥) → Changed at f xs i y
 
-pub in_edited : {X : Type 0} (n : ℕ) (f : X → X) (xs : List X) (i : ℕ) (y : X) → slice_get (edit n f xs) i ≡ Some y
+pub in_edited : {X : Type 0} (n : ℕ) (f : X → X) (xs : List X) (i : ℕ) (y : X) → slice_get (edit_at n f xs) i ≡ Some y
     → Changed (λ i. i ≡ n) f xs i y
 in_edited n f [] i y e = absurd (nothing_at i y e)
 in_edited zero f (x ∷ xs) zero y e = changed x refl refl (let t : ◌≡◌ (Some (f x)) (Some y) = e in cc)
@@ -55,23 +55,23 @@ in_edited (suc n) f (x ∷ xs) (suc i) y e =
       | kept h l ↦ kept h (λ q. l (omega arith))
     ]
 
-pub length_edited : {X : Type 0} (n : ℕ) (f : X → X) (xs : List X) → length (edit n f xs) ≡ length xs
+pub length_edited : {X : Type 0} (n : ℕ) (f : X → X) (xs : List X) → length (edit_at n f xs) ≡ length xs
 length_edited n f [] = refl
 length_edited zero f (x ∷ xs) = refl
 length_edited (suc n) f (x ∷ xs) = ap suc (length_edited n f xs)
 
-pub in_edited_at : {X : Type 0} (o : Option ℕ) (f : X → X) (xs : List X) (i : ℕ) (y : X)
-    → slice_get (edit_at o f xs) i ≡ Some y → Changed (λ i. o ≡ Some i) f xs i y
-in_edited_at None f xs i y e = kept e (λ h. let t : ◌≡◌ None (Some i) = h in cc)
-in_edited_at (Some n) f xs i y e =
+pub in_edited_open : {X : Type 0} (o : Option ℕ) (f : X → X) (xs : List X) (i : ℕ) (y : X)
+    → slice_get (edit_open o f xs) i ≡ Some y → Changed (λ i. o ≡ Some i) f xs i y
+in_edited_open None f xs i y e = kept e (λ h. let t : ◌≡◌ None (Some i) = h in cc)
+in_edited_open (Some n) f xs i y e =
     elim (in_edited n f xs i y e) [
       | changed z h l q ↦ changed z h (ap Some (sym l)) q
       | kept h l ↦ kept h (λ q. l (let t : ◌≡◌ (Some n) (Some i) = q in cc))
     ]
 
-pub length_edited_at : {X : Type 0} (o : Option ℕ) (f : X → X) (xs : List X) → length (edit_at o f xs) ≡ length xs
-length_edited_at None f xs = refl
-length_edited_at (Some n) f xs = length_edited n f xs
+pub length_edited_open : {X : Type 0} (o : Option ℕ) (f : X → X) (xs : List X) → length (edit_open o f xs) ≡ length xs
+length_edited_open None f xs = refl
+length_edited_open (Some n) f xs = length_edited n f xs
 
 pub in_edited_last : {X : Type 0} (f : X → X) (xs : List X) (i : ℕ) (y : X) → slice_get (edit_last f xs) i ≡ Some y
     → Changed (λ i. suc i ≡ length xs) f xs i y

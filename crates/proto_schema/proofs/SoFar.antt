@@ -51,7 +51,7 @@ use Rattle.proto_parts.specs.declared.option.OptionStep.TheVariants as option_st
 use Rattle.proto_parts.specs.declared.tail.TailState.TheVariants as tails
 use Rattle.proto_parts.specs.declared.tail.TailStep.{TailStep}
 use Rattle.proto_parts.specs.declared.tail.TailStep.TheVariants as tail_steps
-use Rattle.proto_parts.specs.declared.field.Head.{Head}
+use Rattle.proto_parts.specs.declared.field.FieldHead.{FieldHead}
 use Rattle.proto_parts.specs.declared.field.MapState.{MapState}
 use Rattle.proto_parts.specs.declared.field.MapState.TheVariants as maps
 use Rattle.proto_parts.specs.declared.field.MapStep.{MapStep}
@@ -85,25 +85,25 @@ use Rattle.proto_schema.proofs.SoFarWords.{map_unlike, map_group, MapOn, map_on}
 -- ---- fields
 
 -- what stands before a field's type
-pub data FieldHead (d : Draft) (ls : List Lexeme) : Type 0 where
-  in_message : {label : FieldLabel} {words : List (List ℕ)} → InMessage d → LabelOf ls label words → FieldHead d ls
-  in_oneof : (i : ℕ) (filled : Bool) → d.block ≡ a_oneof i filled → ls ≡ [] → FieldHead d ls
+pub data LabelSoFar (d : Draft) (ls : List Lexeme) : Type 0 where
+  in_message : {label : FieldLabel} {words : List (List ℕ)} → InMessage d → LabelOf ls label words → LabelSoFar d ls
+  in_oneof : (i : ℕ) (filled : Bool) → d.block ≡ a_oneof i filled → ls ≡ [] → LabelSoFar d ls
 
-head_type : {d : Draft} {ls : List Lexeme} → FieldHead d ls → BeforeType d ls
+head_type : {d : Draft} {ls : List Lexeme} → LabelSoFar d ls → BeforeType d ls
 head_type (in_message i l) = Faults.of_field i l
 head_type (in_oneof i filled b e) = Faults.of_member i filled b e
 
-head_map : {d : Draft} {ls ms : List Lexeme} → FieldHead d ls → BeforeMapPart ms → BeforeType d (ls ++ ms)
+head_map : {d : Draft} {ls ms : List Lexeme} → LabelSoFar d ls → BeforeMapPart ms → BeforeType d (ls ++ ms)
 head_map (in_message i l) b = Faults.of_map i l b refl
 head_map {d = d} {ms = ms} (in_oneof i filled h e) b =
     subst (λ (l : List Lexeme). BeforeType d (l ++ ms)) (sym e) (Faults.of_member_map i filled h b)
 
 pub data TypeSoFar (d : Draft) (s : NameState) (all : List Lexeme) : Type 0 where
-  type_so_far : {ls : List Lexeme} (ns : List Lexeme) → FieldHead d ls → OnlyWord (codes "map") s ns → all ≡ ls ++ ns
+  type_so_far : {ls : List Lexeme} (ns : List Lexeme) → LabelSoFar d ls → OnlyWord (codes "map") s ns → all ≡ ls ++ ns
       → TypeSoFar d s all
 
 pub data MapFieldSoFar (d : Draft) (s : MapState) (all : List Lexeme) : Type 0 where
-  map_field_so_far : {ls : List Lexeme} (ms : List Lexeme) → FieldHead d ls → MapSoFar s ms → all ≡ ls ++ ms
+  map_field_so_far : {ls : List Lexeme} (ms : List Lexeme) → LabelSoFar d ls → MapSoFar s ms → all ≡ ls ++ ms
       → MapFieldSoFar d s all
 
 abbrev pub FieldSoFar : Draft → FieldState → List Lexeme → Type 0
@@ -163,7 +163,7 @@ of_map_on d label s ys x (map_field_so_far {ls = ls} ms q k a) = by (map_step s 
     by (Ok (map_steps.Done kind)) p = tt
     by (Err e) p = fault p
 
-of_tail_on : (d : Draft) (h : Head) (n : Number) (ys : List Lexeme) (x : Lexeme) (r : Result TailStep ProtoFault)
+of_tail_on : (d : Draft) (h : FieldHead) (n : Number) (ys : List Lexeme) (x : Lexeme) (r : Result TailStep ProtoFault)
     → Quiet x r → FieldOn d ys x (of_tail h n r)
 of_tail_on d h n ys x (Ok (tail_steps.More t)) q = tt
 of_tail_on d h n ys x (Ok (tail_steps.Done packed)) q = tt
@@ -467,7 +467,7 @@ extend_said x n h e = rw h (by (bytes_eq n (codes "extend")) (bytes_eq n (codes 
     by false true e = refl
     by false false e = e
 
-field_begins_on : (d : Draft) (x : Lexeme) → FieldHead d [] → BeginOn d x (field_begins x)
+field_begins_on : (d : Draft) (x : Lexeme) → LabelSoFar d [] → BeginOn d x (field_begins x)
 field_begins_on d x h =
     of_field_on d [] x (field_step (fields.Type labels.Plain names.Start) x) (field_on d (fields.Type labels.Plain names.Start) [] x (type_so_far [] h refl refl))
 

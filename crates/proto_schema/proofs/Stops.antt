@@ -31,7 +31,7 @@ use Rattle.proto_parts.specs.declared.option.OptionStep.TheVariants as option_st
 use Rattle.proto_parts.specs.declared.tail.TailState.{TailState}
 use Rattle.proto_parts.specs.declared.tail.TailState.TheVariants as tails
 use Rattle.proto_parts.specs.declared.tail.TailStep.{TailStep}
-use Rattle.proto_parts.specs.declared.field.Head.{Head}
+use Rattle.proto_parts.specs.declared.field.FieldHead.{FieldHead}
 use Rattle.proto_parts.specs.declared.field.FieldState.{FieldState}
 use Rattle.proto_parts.specs.declared.field.FieldState.TheVariants as fields
 use Rattle.proto_parts.specs.declared.field.FieldStep.{FieldStep}
@@ -162,7 +162,7 @@ of_map_stops : (label : FieldLabel) (r : Result MapStep ProtoFault) → Stops r 
 of_map_stops label (Ok s) h = absurd h
 of_map_stops label (Err e) h = tt
 
-of_tail_stops : (h : Head) (n : Number) (r : Result TailStep ProtoFault) → Stops r → Stops (of_tail h n r)
+of_tail_stops : (h : FieldHead) (n : Number) (r : Result TailStep ProtoFault) → Stops r → Stops (of_tail h n r)
 of_tail_stops h n (Ok s) k = absurd k
 of_tail_stops h n (Err e) k = tt
 

@@ -22,136 +22,161 @@ use Rattle.proto_file.specs.declared.file.File.{File}
 
 -- ---- what the statements so far say, and what is open
 
--- the block that is open in the file or in the innermost open message: none, a oneof (its place among those of the
--- message, and whether it has a field), an enum (whether it has a value), a service, or an rpc's options
+-- The block that is open in the innermost open message, or in the file where no message is open.
 pub data Block : Type 0 where
+  -- There is none.
   no_block : Block
-  a_oneof : ℕ → Bool → Block
-  an_enum : Bool → Block
+  -- A oneof: its place among the oneofs of its message, and whether it has a field.
+  a_oneof : (place : ℕ) (has_field : Bool) → Block
+  -- An enum, the last one of the file, and whether it has a value.
+  an_enum : (has_value : Bool) → Block
+  -- A service, the last one of the file.
   a_service : Block
+  -- The options of an rpc, in a service.
   an_rpc : Block
 
+-- What the statements so far say, and what is open behind them.
 pub record Draft : Type 0 where
+  -- What they declare; what is open has what was said of it so far.
   pub file : File
-  -- the places of the messages that are open, the innermost first
+  -- The messages that are open, by their places among those of the file: the innermost first.
   pub messages : List ℕ
+  -- The block that is open.
   pub block : Block
 
--- where a statement stands
+-- A statement stands in the file itself: nothing is open.
 abbrev pub InFile : Draft → Type 0
-InFile d = (d.block ≡ no_block) × (d.messages ≡ [])
+InFile draft = (draft.block ≡ no_block) × (draft.messages ≡ [])
 
+-- A statement stands in a message: one is open, and no block in it.
 abbrev pub InMessage : Draft → Type 0
-InMessage d = (d.block ≡ no_block) × (d.messages ≢ [])
+InMessage draft = (draft.block ≡ no_block) × (draft.messages ≢ [])
 
+-- A statement stands in the file or in a message.
 abbrev pub InBody : Draft → Type 0
-InBody d = d.block ≡ no_block
+InBody draft = draft.block ≡ no_block
+
+-- The place of the innermost open message, if one is open.
+abbrev pub innermost_of : List ℕ → Option ℕ
+innermost_of [] = None
+innermost_of (place ∷ outer) = Some place
+
+-- ---- a list in which one element is changed
+
+-- The element at a place is changed. A list without an element there stays as it is.
+abbrev pub edit_at : {X : Type 0} → ℕ → (X → X) → List X → List X
+edit_at place change [] = []
+edit_at zero change (first ∷ others) = change first ∷ others
+edit_at (suc place) change (first ∷ others) = first ∷ edit_at place change others
+
+-- The last element is changed.
+abbrev pub edit_last : {X : Type 0} → (X → X) → List X → List X
+edit_last change list = edit_at (length list - 1) change list
+
+-- The element that is open is changed, given its place. Where none is open, the list stays as it is.
+abbrev pub edit_open : {X : Type 0} → Option ℕ → (X → X) → List X → List X
+edit_open None change list = list
+edit_open (Some place) change list = edit_at place change list
 
 -- ---- what a statement adds
 
--- one of a list is changed
-abbrev pub edit : {X : Type 0} → ℕ → (X → X) → List X → List X
-edit n f [] = []
-edit zero f (x ∷ xs) = f x ∷ xs
-edit (suc n) f (x ∷ xs) = x ∷ edit n f xs
-
-abbrev pub edit_last : {X : Type 0} → (X → X) → List X → List X
-edit_last f xs = edit (length xs - 1) f xs
-
-abbrev pub first_of : List ℕ → Option ℕ
-first_of [] = None
-first_of (i ∷ is) = Some i
-
-abbrev pub edit_at : {X : Type 0} → Option ℕ → (X → X) → List X → List X
-edit_at None f xs = xs
-edit_at (Some i) f xs = edit i f xs
-
+-- The draft with another file, or with another block.
 abbrev pub with_file : Draft → File → Draft
-with_file d file = record { file = file; messages = d.messages; block = d.block }
+with_file draft file = record { file = file; messages = draft.messages; block = draft.block }
 
 abbrev pub with_block : Draft → Block → Draft
-with_block d block = record { file = d.file; messages = d.messages; block = block }
+with_block draft block = record { file = draft.file; messages = draft.messages; block = block }
 
+-- The draft with a change in its innermost open message, in its last enum, or in its last service.
 abbrev pub in_message : Draft → (MessageDecl → MessageDecl) → Draft
-in_message d f = with_file d (record d.file { messages = edit_at (first_of d.messages) f d.file.messages })
+in_message draft change =
+    with_file draft
+    (record draft.file { messages = edit_open (innermost_of draft.messages) change draft.file.messages })
 
 abbrev pub in_enum : Draft → (EnumDecl → EnumDecl) → Draft
-in_enum d f = with_file d (record d.file { enums = edit_last f d.file.enums })
+in_enum draft change = with_file draft (record draft.file { enums = edit_last change draft.file.enums })
 
 abbrev pub in_service : Draft → (ServiceDecl → ServiceDecl) → Draft
-in_service d f = with_file d (record d.file { services = edit_last f d.file.services })
+in_service draft change = with_file draft (record draft.file { services = edit_last change draft.file.services })
 
+-- A message is added, without anything in it, and is the innermost open one.
 abbrev pub open_message : Draft → Word → Draft
-open_message d name = record {
-  file = record d.file {
-    messages = d.file.messages ++ record {
+open_message draft name = record {
+  file = record draft.file {
+    messages = draft.file.messages ++ record {
       name = name;
       file = 0;
-      parent = first_of d.messages;
+      parent = innermost_of draft.messages;
       fields = [];
       oneofs = [];
       ranges = [];
       names = [];
     } ∷ [];
   };
-  messages = length d.file.messages ∷ d.messages;
+  messages = length draft.file.messages ∷ draft.messages;
   block = no_block;
 }
 
+-- An enum is added, without a value, and is open.
 abbrev pub open_enum : Draft → Word → Draft
-open_enum d name = record {
-  file = record d.file {
-    enums = d.file.enums ++ record {
+open_enum draft name = record {
+  file = record draft.file {
+    enums = draft.file.enums ++ record {
       name = name;
       file = 0;
-      parent = first_of d.messages;
+      parent = innermost_of draft.messages;
       values = [];
       ranges = [];
       names = [];
     } ∷ [];
   };
-  messages = d.messages;
+  messages = draft.messages;
   block = an_enum false;
 }
 
+-- A service is added, without an rpc, and is open.
 abbrev pub open_service : Draft → Word → Draft
-open_service d name = record {
-  file = record d.file { services = d.file.services ++ record { name = name; file = 0; rpcs = [] } ∷ [] };
-  messages = d.messages;
+open_service draft name = record {
+  file = record draft.file { services = draft.file.services ++ record { name = name; file = 0; rpcs = [] } ∷ [] };
+  messages = draft.messages;
   block = a_service;
 }
 
--- how many oneofs the message has
+-- How many oneofs a message has, and how many the message at a place, if there is one.
 abbrev pub oneofs_of : Option MessageDecl → ℕ
 oneofs_of None = 0
 oneofs_of (Some m) = length m.oneofs
 
 abbrev pub count_oneofs : Option ℕ → List MessageDecl → ℕ
-count_oneofs None ms = 0
-count_oneofs (Some i) ms = oneofs_of (slice_get ms i)
+count_oneofs None messages = 0
+count_oneofs (Some place) messages = oneofs_of (slice_get messages place)
 
+-- A oneof is added to the innermost open message, behind those that it has, and is open without a field.
 abbrev pub open_oneof : Draft → Word → Draft
-open_oneof d name =
-    with_block (in_message d (λ m. record m { oneofs = m.oneofs ++ name ∷ [] }))
-    (a_oneof (count_oneofs (first_of d.messages) d.file.messages) false)
+open_oneof draft name =
+    with_block (in_message draft (λ m. record m { oneofs = m.oneofs ++ name ∷ [] }))
+    (a_oneof (count_oneofs (innermost_of draft.messages) draft.file.messages) false)
 
+-- A field is added to the innermost open message, and an rpc to the last service.
 abbrev pub add_field : Draft → FieldDecl → Draft
-add_field d f = in_message d (λ m. record m { fields = m.fields ++ f ∷ [] })
+add_field draft f = in_message draft (λ m. record m { fields = m.fields ++ f ∷ [] })
 
 abbrev pub add_rpc : Draft → RpcDecl → Draft
-add_rpc d r = in_service d (λ s. record s { rpcs = s.rpcs ++ r ∷ [] })
+add_rpc draft r = in_service draft (λ s. record s { rpcs = s.rpcs ++ r ∷ [] })
 
--- `}` closes what is open
-pub data ClosesTo (d : Draft) : Draft → Type 0 where
-  message_ends : (i : ℕ) (is : List ℕ) → d.block ≡ no_block → d.messages ≡ i ∷ is
-      → ClosesTo d (record { file = d.file; messages = is; block = no_block })
-  oneof_ends : (i : ℕ) → d.block ≡ a_oneof i true → ClosesTo d (with_block d no_block)
-  enum_ends : d.block ≡ an_enum true → ClosesTo d (with_block d no_block)
-  service_ends : d.block ≡ a_service → ClosesTo d (with_block d no_block)
-  rpc_ends : d.block ≡ an_rpc → ClosesTo d (with_block d a_service)
+-- `}` closes what is open: a block, where one is open, or else the innermost message. A oneof has a field by then, and
+-- an enum a value.
+pub data ClosesTo (draft : Draft) : Draft → Type 0 where
+  message_ends : (place : ℕ) (outer : List ℕ) → draft.block ≡ no_block → draft.messages ≡ place ∷ outer
+      → ClosesTo draft (record { file = draft.file; messages = outer; block = no_block })
+  oneof_ends : (place : ℕ) → draft.block ≡ a_oneof place true → ClosesTo draft (with_block draft no_block)
+  enum_ends : draft.block ≡ an_enum true → ClosesTo draft (with_block draft no_block)
+  service_ends : draft.block ≡ a_service → ClosesTo draft (with_block draft no_block)
+  rpc_ends : draft.block ≡ an_rpc → ClosesTo draft (with_block draft a_service)
 
 -- ---- fields
 
+-- A field, by its parts in the order in which a statement says them; its oneof by its place in the message.
 abbrev pub field : Word → Number → FieldType → FieldLabel → Option ℕ → Option Bool → FieldDecl
 field name number kind label oneof packed =
     record { name = name; number = number; kind = kind; label = label; oneof = oneof; packed = packed }
@@ -180,7 +205,7 @@ pub data RpcHead : List Lexeme → RpcDecl → Type 0 where
 
 -- ---- statements
 
--- these tokens are one statement where d stands, which leads to another draft
+-- These tokens are one statement. It stands behind those that say the draft d, and with it they say another draft.
 pub data Statement (d : Draft) (all : List Lexeme) : Draft → Type 0 where
   -- package FULLNAME;
   package_name : (x z : Lexeme) {ys : List Lexeme} {w : Word} → InFile d → d.file.package ≡ None
@@ -256,6 +281,7 @@ pub data Statement (d : Draft) (all : List Lexeme) : Draft → Type 0 where
 
 -- ---- texts
 
+-- What the syntax statement alone says.
 abbrev pub nothing_said : Draft
 nothing_said = record {
   file = record { «package» = None; imports = []; messages = []; enums = []; services = [] };
@@ -268,16 +294,16 @@ pub data Syntax : List Lexeme → Type 0 where
   proto3 : (w x y z : Lexeme) → IsWord w (codes "syntax") → IsMark x equals → y.means ≡ string (codes "proto3")
       → IsMark z semicolon → Syntax (w ∷ x ∷ y ∷ z ∷ [])
 
--- the tokens are the syntax statement and statements, which say this
+-- The tokens are the syntax statement and statements behind it, and say this.
 pub data Says : List Lexeme → Draft → Type 0 where
   start : {xs : List Lexeme} → Syntax xs → Says xs nothing_said
   another : {xs ys all : List Lexeme} {c d : Draft} → Says xs c → Statement c ys d → all ≡ xs ++ ys → Says all d
 
--- nothing is open
+-- A text may end here: nothing is open.
 abbrev pub IsWhole : Draft → Type 0
-IsWhole d = InFile d
+IsWhole draft = InFile draft
 
--- the tokens are those of a whole text, with its end, whatever the depth of messages
+-- The tokens are those of a whole text, with its end, and say this file, however deep its messages lie.
 pub data Forms : List Lexeme → File → Type 0 where
   whole : (x : Lexeme) {xs all : List Lexeme} {d : Draft} → Says xs d → IsWhole d → x.means ≡ the_end
       → all ≡ xs ++ x ∷ [] → Forms all d.file

@@ -1,7 +1,7 @@
 //! What the statements so far say.
 
 ghost use Rattle.std.specs.Prelude.{◌≡◌, ◌∷◌, ◌++◌, [], OnOk, length, nat_le, slice_get};
-ghost use Rattle.proto_schema.specs.Files.{edit, first_of, oneofs_of, nothing_said};
+ghost use Rattle.proto_schema.specs.Files.{edit_at, innermost_of, oneofs_of, nothing_said};
 ghost use Rattle.proto_schema.specs.Running.{draft_of, place_of, added};
 ghost use Rattle.proto_schema.specs.declared.limits.TheConstants.{MAX_OPEN};
 ghost use Rattle.proto_schema.specs.declared.statement.Opening.TheVariants as openings;
@@ -72,7 +72,7 @@ fn append<T: Drop>(alloc: Global, items: &mut Sequence<T>, more: Sequence<T>) ->
 }
 
 fn push_field(messages: &mut [MessageDecl], place: usize, field: FieldDecl) -> Result<(), Memory>
-    ensures { OnOk result (messages.new ≡ edit place (λ m. record m { fields = m.fields ++ field ∷ [] }) messages.old) }
+    ensures { OnOk result (messages.new ≡ edit_at place (λ m. record m { fields = m.fields ++ field ∷ [] }) messages.old) }
 {
     if place < messages.len() {
         let message = &mut messages[place];
@@ -82,7 +82,7 @@ fn push_field(messages: &mut [MessageDecl], place: usize, field: FieldDecl) -> R
 }
 
 fn push_oneof(messages: &mut [MessageDecl], place: usize, name: Word) -> Result<(), Memory>
-    ensures { OnOk result (messages.new ≡ edit place (λ m. record m { oneofs = m.oneofs ++ name ∷ [] }) messages.old) }
+    ensures { OnOk result (messages.new ≡ edit_at place (λ m. record m { oneofs = m.oneofs ++ name ∷ [] }) messages.old) }
 {
     if place < messages.len() {
         let message = &mut messages[place];
@@ -97,7 +97,7 @@ fn push_ranges(
     place: usize,
     ranges: Ranges,
 ) -> Result<(), Memory>
-    ensures { OnOk result (messages.new ≡ edit place (λ m. record m { ranges = m.ranges ++ ranges }) messages.old) }
+    ensures { OnOk result (messages.new ≡ edit_at place (λ m. record m { ranges = m.ranges ++ ranges }) messages.old) }
 {
     if place < messages.len() {
         let message = &mut messages[place];
@@ -112,7 +112,7 @@ fn push_names(
     place: usize,
     names: Words,
 ) -> Result<(), Memory>
-    ensures { OnOk result (messages.new ≡ edit place (λ m. record m { names = m.names ++ names }) messages.old) }
+    ensures { OnOk result (messages.new ≡ edit_at place (λ m. record m { names = m.names ++ names }) messages.old) }
 {
     if place < messages.len() {
         let message = &mut messages[place];
@@ -122,7 +122,7 @@ fn push_names(
 }
 
 fn push_value(enums: &mut [EnumDecl], place: usize, value: ValueDecl) -> Result<(), Memory>
-    ensures { OnOk result (enums.new ≡ edit place (λ e. record e { values = e.values ++ value ∷ [] }) enums.old) }
+    ensures { OnOk result (enums.new ≡ edit_at place (λ e. record e { values = e.values ++ value ∷ [] }) enums.old) }
 {
     if place < enums.len() {
         let last = &mut enums[place];
@@ -137,7 +137,7 @@ fn push_value_ranges(
     place: usize,
     ranges: Ranges,
 ) -> Result<(), Memory>
-    ensures { OnOk result (enums.new ≡ edit place (λ e. record e { ranges = e.ranges ++ ranges }) enums.old) }
+    ensures { OnOk result (enums.new ≡ edit_at place (λ e. record e { ranges = e.ranges ++ ranges }) enums.old) }
 {
     if place < enums.len() {
         let last = &mut enums[place];
@@ -152,7 +152,7 @@ fn push_value_names(
     place: usize,
     names: Words,
 ) -> Result<(), Memory>
-    ensures { OnOk result (enums.new ≡ edit place (λ e. record e { names = e.names ++ names }) enums.old) }
+    ensures { OnOk result (enums.new ≡ edit_at place (λ e. record e { names = e.names ++ names }) enums.old) }
 {
     if place < enums.len() {
         let last = &mut enums[place];
@@ -162,7 +162,7 @@ fn push_value_names(
 }
 
 fn push_rpc(services: &mut [ServiceDecl], place: usize, rpc: RpcDecl) -> Result<(), Memory>
-    ensures { OnOk result (services.new ≡ edit place (λ s. record s { rpcs = s.rpcs ++ rpc ∷ [] }) services.old) }
+    ensures { OnOk result (services.new ≡ edit_at place (λ s. record s { rpcs = s.rpcs ++ rpc ∷ [] }) services.old) }
 {
     if place < services.len() {
         let last = &mut services[place];
@@ -245,7 +245,7 @@ impl Draft {
 
     // The place of the innermost message.
     fn innermost(&self) -> Option<usize>
-        ensures { result ≡ first_of (draft_of self.now).messages }
+        ensures { result ≡ innermost_of (draft_of self.now).messages }
     {
         self.nested.last().copied()
     }

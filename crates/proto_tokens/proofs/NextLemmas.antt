@@ -13,7 +13,7 @@ use Rattle.proto_tokens.specs.Tokens.{another}
 use Rattle.proto_tokens.specs.declared.token.Kind.{Kind}
 use Rattle.proto_tokens.specs.declared.token.Kind.TheVariants.{End, Bad}
 use Rattle.proto_tokens.specs.declared.token.Token.{Token}
-use Rattle.proto_tokens.specs.declared.word.Word.{Word}
+use Rattle.proto_tokens.specs.declared.word.Scanned.{Scanned}
 use Rattle.proto_tokens.proofs.GapLemmas.{gap_walk, walk_gap, still_gap, walk_still}
 use Rattle.proto_tokens.proofs.WordLemmas.{stands_word, word_stands, stands_still, stands_long}
 use Rattle.proto_tokens.proofs.LineLemmas.{stands_clean, line_same}
@@ -24,7 +24,7 @@ pub stuck_at : (bytes : List ℕ) → walk between bytes ≡ bytes → bytes ≢
 stuck_at bytes still more none = record {
   more = more;
   no_gap = λ rest g. still_gap bytes rest still g;
-  no_token = λ kind literal rest is s. let t : ◌≡◌ {A = Option Word} None (Some (record { kind = kind; len = length literal })) = sym none ∙ ap word_at is ∙ stands_word s in cc;
+  no_token = λ kind literal rest is s. let t : ◌≡◌ {A = Option Scanned} None (Some (record { kind = kind; len = length literal })) = sym none ∙ ap word_at is ∙ stands_word s in cc;
 }
 
 gap_to : (text : List ℕ) (place start : ℕ) → walk between (drop place text) ≡ drop start text → Gap (drop place text) (drop start text)
@@ -53,7 +53,7 @@ next_bad text place start line behind gap l some none =
       here = no_word refl refl (stuck_at (drop start text) (still_at text place start gap) (λ e. some (ap length e)) none);
     }
 
-pub next_word : (text : List ℕ) (place start line : ℕ) (w : Word) → place ≤ start → start ≤ length text
+pub next_word : (text : List ℕ) (place start line : ℕ) (w : Scanned) → place ≤ start → start ≤ length text
     → walk between (drop place text) ≡ drop start text → line ≡ line_at text start
     → word_at (drop start text) ≡ Some w
     → IsNext text place (record { kind = w.kind; start = start; end = start + w.len; line = line })
@@ -99,14 +99,14 @@ here_word : (text : List ℕ) (t : Token) → t.start ≤ t.end → t.end ≤ le
     → word_at (drop t.start text) ≡ Some (record { kind = t.kind; len = t.end - t.start })
 here_word text t le within s = ap word_at (parts_of text t le) ∙ stands_word s ∙ ap (λ k. Some (record { kind = t.kind; len = k })) (literal_long text t le within)
 
-no_word_at_end : (bytes : List ℕ) (w : Word) → bytes ≡ [] → word_at bytes ≡ Some w → ⊥
+no_word_at_end : (bytes : List ℕ) (w : Scanned) → bytes ≡ [] → word_at bytes ≡ Some w → ⊥
 unfolding word_at
-no_word_at_end bytes w e h = let t : ◌≡◌ {A = Option Word} None (Some w) = rw e at h in cc
+no_word_at_end bytes w e h = let t : ◌≡◌ {A = Option Scanned} None (Some w) = rw e at h in cc
 
-some_word : (j k : Kind) (m n : ℕ) → ◌≡◌ {A = Option Word} (Some (record { kind = j; len = m })) (Some (record { kind = k; len = n })) → (j ≡ k) × (m ≡ n)
+some_word : (j k : Kind) (m n : ℕ) → ◌≡◌ {A = Option Scanned} (Some (record { kind = j; len = m })) (Some (record { kind = k; len = n })) → (j ≡ k) × (m ≡ n)
 some_word j k m n e =
-    let r : ◌≡◌ {A = Word} (record { kind = j; len = m }) (record { kind = k; len = n }) = cc in
-    (ap (λ (w : Word). w.kind) r, ap (λ (w : Word). w.len) r)
+    let r : ◌≡◌ {A = Scanned} (record { kind = j; len = m }) (record { kind = k; len = n }) = cc in
+    (ap (λ (w : Scanned). w.kind) r, ap (λ (w : Scanned). w.len) r)
 
 same_here : (text : List ℕ) (t u : Token) → t.start ≡ u.start → t.end ≤ length text → u.end ≤ length text
     → IsHere text t → IsHere text u → (t.kind ≡ u.kind) × (t.end ≡ u.end)
@@ -169,7 +169,7 @@ gap_place text place within =
     (place + length f.0, omega arith, omega (arith, n, long), sym d)
 
 next_from : (text : List ℕ) (place start : ℕ) → place ≤ start → start ≤ length text
-    → walk between (drop place text) ≡ drop start text → (o : Option Word) → word_at (drop start text) ≡ o
+    → walk between (drop place text) ≡ drop start text → (o : Option Scanned) → word_at (drop start text) ≡ o
     → (t : Token) × IsNext text place t
 next_from text place start behind within gap o w = elim (cases_eq (length (drop start text)) 0) [
   | inl none ↦ (record { kind = End; start = start; end = start; line = line_at text start }, next_end text place start (line_at text start) behind within gap refl none)

@@ -19,7 +19,7 @@ use Rattle.proto_tokens.specs.Scanning.{exponent_len, decimal_of, decimal_at, is
 use Rattle.proto_tokens.specs.Scanning.{if_split, number_at}
 use Rattle.proto_tokens.specs.declared.token.Kind.{Kind}
 use Rattle.proto_tokens.specs.declared.token.Kind.TheVariants.{Integer, Number}
-use Rattle.proto_tokens.specs.declared.word.Word.{Word}
+use Rattle.proto_tokens.specs.declared.word.Scanned.{Scanned}
 use Rattle.proto_tokens.proofs.Runs.{run_len, Run, run_of, list_all_weaker, begins_weaker}
 
 -- ---- bytes
@@ -202,14 +202,14 @@ unsplit_decimal (c ∷ d ∷ ds) tail h digit x =
     rw (a, b) refl
 
 -- a number is read where nothing is glued to it
-split_ok : (literal rest : List ℕ) (w : Word) → unsplit_number_at (literal ++ rest) ≡ Some w → w.len ≡ length literal
+split_ok : (literal rest : List ℕ) (w : Scanned) → unsplit_number_at (literal ++ rest) ≡ Some w → w.len ≡ length literal
     → begins is_glue rest ≡ false → number_at (literal ++ rest) ≡ Some w
 unfolding number_at
 split_ok literal rest w e long stops =
     let d : drop w.len (literal ++ rest) ≡ rest = drop_at literal rest w.len (sym long) in
     rw (e, d, stops) refl
 
-word_is : (kind : Kind) (m n : ℕ) → m ≡ n → ◌≡◌ {A = Option Word} (Some (record { kind = kind; len = m })) (Some (record { kind = kind; len = n }))
+word_is : (kind : Kind) (m n : ℕ) → m ≡ n → ◌≡◌ {A = Option Scanned} (Some (record { kind = kind; len = m })) (Some (record { kind = kind; len = n }))
 word_is kind m n e = ap (λ (k : ℕ). Some (record { kind = kind; len = k })) e
 
 number_of_parts : (bytes : List ℕ) (whole part power : ℕ) → 0 < part + power → decimal_of bytes whole part power ≡ record { kind = Number; len = (whole + part) + power }
@@ -339,7 +339,7 @@ read_number rest (exponent whole power is h p) stops = rw is (read_exponent whol
 
 -- ---- what is read is a number
 
-pub record Front (bytes : List ℕ) (w : Word) : Type 0 where
+pub record Front (bytes : List ℕ) (w : Scanned) : Type 0 where
   pub literal : List ℕ
   pub rest : List ℕ
   pub is : bytes ≡ literal ++ rest
@@ -350,7 +350,7 @@ none_some : {X : Type 0} (x : X) (o : Option X) → o ≡ None → o ≡ Some x 
 none_some x o a b = cc
 
 -- digits of a base at the front, behind other bytes
-integer_front : (base : ℕ) (p : ℕ → Bool) (bytes : List ℕ) (before : ℕ) (w : Word) → integer_of base bytes before (prefix_len p bytes) ≡ Some w
+integer_front : (base : ℕ) (p : ℕ → Bool) (bytes : List ℕ) (before : ℕ) (w : Scanned) → integer_of base bytes before (prefix_len p bytes) ≡ Some w
     → (digits rest : List ℕ) × (bytes ≡ digits ++ rest) × (w.len ≡ length digits + before)
     × (w.kind ≡ Integer (in_64_bits (digits_value base digits))) × (is_some digits ≡ true)
     × (list_all p digits ≡ true)
@@ -361,7 +361,7 @@ integer_front base p bytes before w e =
       | inl z ↦ absurd (none_some w _ (let n : (prefix_len p bytes == 0) ≡ true = eq-eqb _ _ (sym r.long ∙ z) in rw n refl) e)
       | inr n ↦
           let b : (length r.front == 0) ≡ false = ne_eqb _ _ n in
-          let is : ◌≡◌ {A = Option Word}
+          let is : ◌≡◌ {A = Option Scanned}
           (Some (record {
             kind = Integer (in_64_bits (digits_value base r.front));
             len = length r.front + before;
@@ -574,8 +574,8 @@ decimal_front c cs leads =
             literal = p.whole;
             rest = p.rest;
             is = is;
-            long = ap (λ (u : Word). u.len) at;
-            what = inl (digits_value 10 p.whole, ap (λ (u : Word). u.kind) at ∙ ap (λ (x : List ℕ). Integer (in_64_bits (digits_value 10 x))) t, decimal w refl);
+            long = ap (λ (u : Scanned). u.len) at;
+            what = inl (digits_value 10 p.whole, ap (λ (u : Scanned). u.kind) at ∙ ap (λ (x : List ℕ). Integer (in_64_bits (digits_value 10 x))) t, decimal w refl);
           }
       | inr (some, n) ↦
           let at : decimal_at (c ∷ cs) ≡ record {
@@ -587,15 +587,15 @@ decimal_front c cs leads =
             literal = p.whole ++ (p.part ++ p.power);
             rest = p.rest;
             is = p.is ∙ sym (assoc_parts p.whole p.part p.power p.rest);
-            long = ap (λ (u : Word). u.len) at ∙ length_parts p.whole p.part p.power;
-            what = inr (ap (λ (u : Word). u.kind) at, n);
+            long = ap (λ (u : Scanned). u.len) at ∙ length_parts p.whole p.part p.power;
+            what = inr (ap (λ (u : Scanned). u.kind) at, n);
           }
     ]
 
 some_same : {X : Type 0} (x y : X) → Some x ≡ Some y → x ≡ y
 some_same x y e = cc
 
-hexadecimal_front : (a b : ℕ) (cs : List ℕ) (w : Word) → is_hexadecimal a b ≡ true → hexadecimal_behind cs ≡ Some w → Front (a ∷ b ∷ cs) w
+hexadecimal_front : (a b : ℕ) (cs : List ℕ) (w : Scanned) → is_hexadecimal a b ≡ true → hexadecimal_behind cs ≡ Some w → Front (a ∷ b ∷ cs) w
 hexadecimal_front a b cs w h e =
     let parts = and_parts (a == 48) (is_x b) h in
     let zero : a ≡ 48 = eqb-true a 48 parts.0 in
@@ -611,7 +611,7 @@ hexadecimal_front a b cs w h e =
       what = inl (digits_value 16 digits, f.4, hexadecimal b digits refl (x_cases b parts.1) f.5 f.6 refl);
     }
 
-octal_front : (a : ℕ) (cs : List ℕ) (w : Word) → a ≡ 48 → octal_behind cs ≡ Some w → Front (a ∷ cs) w
+octal_front : (a : ℕ) (cs : List ℕ) (w : Scanned) → a ≡ 48 → octal_behind cs ≡ Some w → Front (a ∷ cs) w
 octal_front a cs w zero e =
     let f = integer_front 8 is_octal_digit cs 1 w e in
     let digits = f.0 in
@@ -643,7 +643,7 @@ leads_other a b cs n (inl h) = inl (
 )
 leads_other a b cs n (inr (e, h)) = inr (e, h)
 
-unsplit_front : (c : ℕ) (cs : List ℕ) (w : Word) → Begins c cs → unsplit_number_at (c ∷ cs) ≡ Some w → Front (c ∷ cs) w
+unsplit_front : (c : ℕ) (cs : List ℕ) (w : Scanned) → Begins c cs → unsplit_number_at (c ∷ cs) ≡ Some w → Front (c ∷ cs) w
 unsplit_front c [] w b e = rw (some_same _ _ e) at (decimal_front c [] (leads_alone c b))
 unsplit_front a (b ∷ cs) w beginning e = elim (cases_Bool (is_hexadecimal a b)) [
   | inl h ↦ hexadecimal_front a b cs w h (rw h at e)
@@ -651,21 +651,21 @@ unsplit_front a (b ∷ cs) w beginning e = elim (cases_Bool (is_hexadecimal a b)
     | inl o ↦ octal_front a (b ∷ cs) w (eqb-true a 48 (and_parts _ _ o).0) (rw (no_x, o) at e)
     | inr no_zero ↦
         let same : decimal_at (a ∷ b ∷ cs) ≡ w = some_same _ _ (rw (no_x, no_zero) at e) in
-        subst (λ (u : Word). Front (a ∷ b ∷ cs) u) same (decimal_front a (b ∷ cs) (leads_other a b cs no_zero beginning))
+        subst (λ (u : Scanned). Front (a ∷ b ∷ cs) u) same (decimal_front a (b ∷ cs) (leads_other a b cs no_zero beginning))
   ]
 ]
 
-split_front : (bytes : List ℕ) (o : Option Word) (w : Word) → if_split bytes o ≡ Some w → (o ≡ Some w) × (begins is_glue (drop w.len bytes) ≡ false)
+split_front : (bytes : List ℕ) (o : Option Scanned) (w : Scanned) → if_split bytes o ≡ Some w → (o ≡ Some w) × (begins is_glue (drop w.len bytes) ≡ false)
 split_front bytes None w e = absurd (none_some w None refl e)
 split_front bytes (Some u) w e = elim (cases_Bool (begins is_glue (drop u.len bytes))) [
   | inl g ↦ absurd (none_some w _ refl (rw g at e))
   | inr g ↦
       let same : u ≡ w = some_same _ _ (rw g at e) in
-      (ap Some same, ap (λ (v : Word). begins is_glue (drop v.len bytes)) (sym same) ∙ g)
+      (ap Some same, ap (λ (v : Scanned). begins is_glue (drop v.len bytes)) (sym same) ∙ g)
 ]
 
 -- a number that is read stands at the front, and nothing is glued to it
-pub number_front : (c : ℕ) (cs : List ℕ) (w : Word) → Begins c cs → number_at (c ∷ cs) ≡ Some w → (f : Front (c ∷ cs) w) × (begins is_glue f.rest ≡ false)
+pub number_front : (c : ℕ) (cs : List ℕ) (w : Scanned) → Begins c cs → number_at (c ∷ cs) ≡ Some w → (f : Front (c ∷ cs) w) × (begins is_glue f.rest ≡ false)
 unfolding number_at
 number_front c cs w b e =
     let s = split_front (c ∷ cs) (unsplit_number_at (c ∷ cs)) w e in

@@ -14,12 +14,12 @@ use Rattle.proto_tokens.specs.Scanning.{between, walk, closes, text_of, mark_at,
 use Rattle.proto_tokens.specs.Tokens.{Stands, identifier, integer, number, string, mark}
 use Rattle.proto_tokens.specs.declared.token.Kind.{Kind}
 use Rattle.proto_tokens.specs.declared.token.Kind.TheVariants.{Text, Mark}
-use Rattle.proto_tokens.specs.declared.word.Word.{Word}
+use Rattle.proto_tokens.specs.declared.word.Scanned.{Scanned}
 use Rattle.proto_tokens.proofs.Runs.{run_len, run_of, one_of}
 use Rattle.proto_tokens.proofs.TextLemmas.{body_of, closes_body}
 use Rattle.proto_tokens.proofs.NumberLemmas.{digit_range, Begins, number_front, read_integer, read_number, decimal_digits}
 
-word_is : {j k : Kind} (m n : ℕ) → j ≡ k → m ≡ n → ◌≡◌ {A = Option Word} (Some (record { kind = j; len = m })) (Some (record { kind = k; len = n }))
+word_is : {j k : Kind} (m n : ℕ) → j ≡ k → m ≡ n → ◌≡◌ {A = Option Scanned} (Some (record { kind = j; len = m })) (Some (record { kind = k; len = n }))
 word_is m n e f = cc
 
 -- ---- the first byte of a number
@@ -145,14 +145,14 @@ stands_word {rest = rest} (mark c k is h stops) = rw is (read_mark c rest h stop
 
 -- ---- what is read stands
 
-pub record Found (bytes : List ℕ) (w : Word) : Type 0 where
+pub record Found (bytes : List ℕ) (w : Scanned) : Type 0 where
   pub literal : List ℕ
   pub rest : List ℕ
   pub is : bytes ≡ literal ++ rest
   pub long : w.len ≡ length literal
   pub stands : Stands w.kind literal rest
 
-found_name : (c : ℕ) (cs : List ℕ) (w : Word) → is_name_start c ≡ true → Some (name_of (1 + prefix_len is_name_byte cs)) ≡ Some w → Found (c ∷ cs) w
+found_name : (c : ℕ) (cs : List ℕ) (w : Scanned) → is_name_start c ≡ true → Some (name_of (1 + prefix_len is_name_byte cs)) ≡ Some w → Found (c ∷ cs) w
 found_name c cs w start e =
     let r = run_of is_name_byte cs in
     let n : 1 + prefix_len is_name_byte cs ≡ length (c ∷ r.front) = omega (arith, r.long) in
@@ -161,11 +161,11 @@ found_name c cs w start e =
       literal = c ∷ r.front;
       rest = r.rest;
       is = ap (λ (x : List ℕ). c ∷ x) r.is;
-      long = sym (ap (λ (u : Word). u.len) same) ∙ n;
-      stands = identifier (sym (ap (λ (u : Word). u.kind) same)) (and_from _ _ start r.all) r.stops;
+      long = sym (ap (λ (u : Scanned). u.len) same) ∙ n;
+      stands = identifier (sym (ap (λ (u : Scanned). u.kind) same)) (and_from _ _ start r.all) r.stops;
     }
 
-found_number : (c : ℕ) (cs : List ℕ) (w : Word) → Begins c cs → number_at (c ∷ cs) ≡ Some w → Found (c ∷ cs) w
+found_number : (c : ℕ) (cs : List ℕ) (w : Scanned) → Begins c cs → number_at (c ∷ cs) ≡ Some w → Found (c ∷ cs) w
 found_number c cs w b e =
     let f = number_front c cs w b e in
     let front = f.0 in
@@ -174,11 +174,11 @@ found_number c cs w b e =
       | inr (kind, n) ↦ record { literal = front.literal; rest = front.rest; is = front.is; long = front.long; stands = number kind n f.1 }
     ]
 
-text_some : (o : Option ℕ) (w : Word) → text_of o ≡ Some w → (n : ℕ) × (o ≡ Some n) × (record { kind = Text; len = n + 1 } ≡ w)
+text_some : (o : Option ℕ) (w : Scanned) → text_of o ≡ Some w → (n : ℕ) × (o ≡ Some n) × (record { kind = Text; len = n + 1 } ≡ w)
 text_some None w e = absurd cc
 text_some (Some n) w e = (n, refl, cc)
 
-found_text : (q : ℕ) (cs : List ℕ) (w : Word) → is_quote q ≡ true → text_of (closes q cs) ≡ Some w → Found (q ∷ cs) w
+found_text : (q : ℕ) (cs : List ℕ) (w : Scanned) → is_quote q ≡ true → text_of (closes q cs) ≡ Some w → Found (q ∷ cs) w
 found_text q cs w h e =
     let t = text_some (closes q cs) w e in
     let b = body_of q h cs t.0 t.1 in
@@ -187,28 +187,28 @@ found_text q cs w h e =
       literal = q ∷ b.body ++ q ∷ [];
       rest = b.rest;
       is = ap (λ (x : List ℕ). q ∷ x) (b.is ∙ sym (append_assoc b.body (q ∷ []) b.rest));
-      long = sym (ap (λ (u : Word). u.len) t.2) ∙ n;
-      stands = string q b.body (sym (ap (λ (u : Word). u.kind) t.2)) h refl b.reads;
+      long = sym (ap (λ (u : Scanned). u.len) t.2) ∙ n;
+      stands = string q b.body (sym (ap (λ (u : Scanned). u.kind) t.2)) h refl b.reads;
     }
 
-found_mark : (c : ℕ) (cs : List ℕ) (w : Word) → mark_at c cs ≡ Some w → Found (c ∷ cs) w
+found_mark : (c : ℕ) (cs : List ℕ) (w : Scanned) → mark_at c cs ≡ Some w → Found (c ∷ cs) w
 found_mark c cs w e = elim (cases_Bool (is_mark c && not (goes_on c cs))) [
   | inl h ↦
       let parts = and_parts (is_mark c) (not (goes_on c cs)) h in
-      let same : record { kind = Mark c; len = 1 } ≡ w = (let t : ◌≡◌ {A = Option Word} (Some (record { kind = Mark c; len = 1 })) (Some w) = rw h at e in cc) in
+      let same : record { kind = Mark c; len = 1 } ≡ w = (let t : ◌≡◌ {A = Option Scanned} (Some (record { kind = Mark c; len = 1 })) (Some w) = rw h at e in cc) in
       record {
         literal = c ∷ [];
         rest = cs;
         is = refl;
-        long = sym (ap (λ (u : Word). u.len) same);
-        stands = mark c (sym (ap (λ (u : Word). u.kind) same)) refl parts.0 (not-true _ parts.1);
+        long = sym (ap (λ (u : Scanned). u.len) same);
+        stands = mark c (sym (ap (λ (u : Scanned). u.kind) same)) refl parts.0 (not-true _ parts.1);
       }
-  | inr h ↦ absurd (let t : ◌≡◌ {A = Option Word} None (Some w) = rw h at e in cc)
+  | inr h ↦ absurd (let t : ◌≡◌ {A = Option Scanned} None (Some w) = rw h at e in cc)
 ]
 
-pub word_stands : (bytes : List ℕ) (w : Word) → word_at bytes ≡ Some w → Found bytes w
+pub word_stands : (bytes : List ℕ) (w : Scanned) → word_at bytes ≡ Some w → Found bytes w
 unfolding word_at
-word_stands [] w e = absurd (let t : ◌≡◌ {A = Option Word} None (Some w) = e in cc)
+word_stands [] w e = absurd (let t : ◌≡◌ {A = Option Scanned} None (Some w) = e in cc)
 word_stands (c ∷ cs) w e = elim (cases_Bool (is_name_start c)) [
   | inl h ↦ found_name c cs w h (rw h at e)
   | inr no_name ↦ elim (cases_Bool (begins_number c cs)) [

@@ -10,7 +10,7 @@ use Rattle.proto_tokens.specs.Literals.{is_decimal_digit, is_octal_digit, is_hex
 use Rattle.proto_tokens.specs.Literals.{is_sign, is_glue, is_quote, is_simple_escape, has_digits, is_wide, is_mark}
 use Rattle.proto_tokens.specs.Literals.{goes_on}
 use Rattle.proto_tokens.specs.declared.token.Kind.TheVariants.{Identifier, Integer, Number, Text, Mark}
-use Rattle.proto_tokens.specs.declared.word.Word.{Word}
+use Rattle.proto_tokens.specs.declared.word.Scanned.{Scanned}
 
 -- ---- blanks and comments
 
@@ -39,15 +39,15 @@ walk (star start) (c ∷ cs) =
 
 -- ---- numbers
 
-abbrev pub integer_of : ℕ → List ℕ → ℕ → ℕ → Option Word
+abbrev pub integer_of : ℕ → List ℕ → ℕ → ℕ → Option Scanned
 integer_of base digits before n =
     if n == 0 then None
     else Some (record { kind = Integer (in_64_bits (digits_value base (take n digits))); len = n + before })
 
-abbrev pub hexadecimal_behind : List ℕ → Option Word
+abbrev pub hexadecimal_behind : List ℕ → Option Scanned
 hexadecimal_behind digits = integer_of 16 digits 2 (prefix_len is_hexadecimal_digit digits)
 
-abbrev pub octal_behind : List ℕ → Option Word
+abbrev pub octal_behind : List ℕ → Option Scanned
 octal_behind digits = integer_of 8 digits 1 (prefix_len is_octal_digit digits)
 
 abbrev pub fraction_len : List ℕ → ℕ
@@ -66,13 +66,13 @@ exponent_len (e ∷ sign ∷ cs) =
     else 0
 exponent_len _ = 0
 
-abbrev pub decimal_of : List ℕ → ℕ → ℕ → ℕ → Word
+abbrev pub decimal_of : List ℕ → ℕ → ℕ → ℕ → Scanned
 decimal_of bytes whole part power =
     if part == 0 && power == 0
     then record { kind = Integer (in_64_bits (digits_value 10 (take whole bytes))); len = whole }
     else record { kind = Number; len = (whole + part) + power }
 
-abbrev pub decimal_at : List ℕ → Word
+abbrev pub decimal_at : List ℕ → Scanned
 decimal_at bytes =
     let whole = prefix_len is_decimal_digit bytes in
     let part = fraction_len (drop whole bytes) in
@@ -81,18 +81,18 @@ decimal_at bytes =
 abbrev pub is_hexadecimal : ℕ → ℕ → Bool
 is_hexadecimal a b = a == 48 && (b == 120 || b == 88)
 
-abbrev pub unsplit_number_at : List ℕ → Option Word
+abbrev pub unsplit_number_at : List ℕ → Option Scanned
 unsplit_number_at (a ∷ b ∷ cs) =
     if is_hexadecimal a b then hexadecimal_behind cs
     else if a == 48 && is_decimal_digit b then octal_behind (b ∷ cs)
     else Some (decimal_at (a ∷ b ∷ cs))
 unsplit_number_at bytes = Some (decimal_at bytes)
 
-abbrev pub if_split : List ℕ → Option Word → Option Word
+abbrev pub if_split : List ℕ → Option Scanned → Option Scanned
 if_split bytes None = None
 if_split bytes (Some w) = if begins is_glue (drop w.len bytes) then None else Some w
 
-unfoldable pub number_at : List ℕ → Option Word
+unfoldable pub number_at : List ℕ → Option Scanned
 number_at bytes = if_split bytes (unsplit_number_at bytes)
 
 -- ---- strings
@@ -112,22 +112,22 @@ closes quote (c ∷ d ∷ cs) =
     else if c == 10 || c == 0 then None
     else option_map (λ n. n + 1) (closes quote (d ∷ cs))
 
-abbrev pub text_of : Option ℕ → Option Word
+abbrev pub text_of : Option ℕ → Option Scanned
 text_of None = None
 text_of (Some n) = Some (record { kind = Text; len = n + 1 })
 
 -- ---- the front
 
-abbrev pub mark_at : ℕ → List ℕ → Option Word
+abbrev pub mark_at : ℕ → List ℕ → Option Scanned
 mark_at c cs = if is_mark c && not (goes_on c cs) then Some (record { kind = Mark c; len = 1 }) else None
 
-abbrev pub name_of : ℕ → Word
+abbrev pub name_of : ℕ → Scanned
 name_of n = record { kind = Identifier; len = n }
 
 abbrev pub begins_number : ℕ → List ℕ → Bool
 begins_number c cs = is_decimal_digit c || (c == 46 && begins is_decimal_digit cs)
 
-unfoldable pub word_at : List ℕ → Option Word
+unfoldable pub word_at : List ℕ → Option Scanned
 word_at [] = None
 word_at (c ∷ cs) =
     if is_name_start c then Some (name_of (prefix_len is_name_byte (c ∷ cs)))

@@ -15,9 +15,9 @@ ghost use Rattle.proto_tokens.specs.Scanning.{begins_number, mark_at, number_at,
 use crate::token::Kind;
 use mrpc_table::{decimal_of, digit_value, is_name_byte, is_name_start};
 
-/// A token at the front of bytes: its sort and how many bytes it has.
+/// A token that was scanned at the front of bytes: its sort and how many bytes it has.
 #[derive(Clone, Copy)]
-pub struct Word {
+pub struct Scanned {
     pub kind: Kind,
     pub len: usize,
 }
@@ -53,7 +53,7 @@ pub fn digits_len(bytes: &[u8], base: u8) -> usize
 }
 
 // The integer whose digits stand behind `0x`.
-fn hexadecimal_behind(digits: &[u8]) -> Option<Word>
+fn hexadecimal_behind(digits: &[u8]) -> Option<Scanned>
     requires { length digits.now < 2 ^ 63 }
     ensures value { result ≡ hexadecimal_behind digits.now }
     ensures bound { IfSome result (λ w. w.len ≤ length digits.now + 2) }
@@ -62,14 +62,14 @@ fn hexadecimal_behind(digits: &[u8]) -> Option<Word>
     if len == 0 {
         return None;
     }
-    Some(Word {
+    Some(Scanned {
         kind: Kind::Integer(decimal_of(&digits[..len], 16)),
         len: len + 2,
     })
 }
 
 // The integer whose digits stand behind `0`.
-fn octal_behind(digits: &[u8]) -> Option<Word>
+fn octal_behind(digits: &[u8]) -> Option<Scanned>
     requires { length digits.now < 2 ^ 63 }
     ensures value { result ≡ octal_behind digits.now }
     ensures bound { IfSome result (λ w. w.len ≤ length digits.now + 1) }
@@ -78,7 +78,7 @@ fn octal_behind(digits: &[u8]) -> Option<Word>
     if len == 0 {
         return None;
     }
-    Some(Word {
+    Some(Scanned {
         kind: Kind::Integer(decimal_of(&digits[..len], 8)),
         len: len + 1,
     })
@@ -121,7 +121,7 @@ fn is_hexadecimal(first: u8, second: u8) -> bool
 }
 
 // The number at the front, without a look behind it.
-fn decimal_at(bytes: &[u8]) -> Word
+fn decimal_at(bytes: &[u8]) -> Scanned
     requires { length bytes.now < 2 ^ 63 }
     ensures value { result ≡ decimal_at bytes.now }
     ensures bound { result.len ≤ length bytes.now }
@@ -130,19 +130,19 @@ fn decimal_at(bytes: &[u8]) -> Word
     let part = fraction_len(&bytes[whole..]);
     let power = exponent_len(&bytes[whole..][part..]);
     if part == 0 && power == 0 {
-        Word {
+        Scanned {
             kind: Kind::Integer(decimal_of(&bytes[..whole], 10)),
             len: whole,
         }
     } else {
-        Word {
+        Scanned {
             kind: Kind::Number,
             len: whole + part + power,
         }
     }
 }
 
-fn unsplit_number_at(bytes: &[u8]) -> Option<Word>
+fn unsplit_number_at(bytes: &[u8]) -> Option<Scanned>
     requires { length bytes.now < 2 ^ 63 }
     ensures value { result ≡ unsplit_number_at bytes.now }
     ensures bound { IfSome result (λ w. w.len ≤ length bytes.now) }
@@ -169,7 +169,7 @@ fn is_glue(byte: u8) -> bool
 
 #[tactic(auto, unfolding(crate::specs::Scanning::number_at))]
 // The number at the front, unless a letter, a digit, `_` or a point stands right behind it.
-fn number_at(bytes: &[u8]) -> Option<Word>
+fn number_at(bytes: &[u8]) -> Option<Scanned>
     requires { length bytes.now < 2 ^ 63 }
     ensures value { result ≡ number_at bytes.now }
     ensures bound { IfSome result (λ w. w.len ≤ length bytes.now) }
@@ -294,11 +294,11 @@ fn begins_number(first: u8, behind: &[u8]) -> bool
     is_digit(first, 10) || (first == b'.' && begins_digit(behind))
 }
 
-fn mark_at(first: u8, behind: &[u8]) -> Option<Word>
+fn mark_at(first: u8, behind: &[u8]) -> Option<Scanned>
     ensures { result ≡ mark_at first behind.now }
 {
     if is_mark(first) && !goes_on(first, behind) {
-        Some(Word {
+        Some(Scanned {
             kind: Kind::Mark(first),
             len: 1,
         })
@@ -315,7 +315,7 @@ fn is_quote(byte: u8) -> bool
 
 /// The token at the front of bytes, if one stands there. It takes time in proportion to the token.
 #[tactic(auto, unfolding(crate::specs::Scanning::word_at))]
-pub fn word_at(bytes: &[u8]) -> Option<Word>
+pub fn word_at(bytes: &[u8]) -> Option<Scanned>
     requires { length bytes.now < 2 ^ 63 }
     ensures value { result ≡ word_at bytes.now }
     ensures bound { IfSome result (λ w. w.len ≤ length bytes.now) }
@@ -325,7 +325,7 @@ pub fn word_at(bytes: &[u8]) -> Option<Word>
     };
     let first = *first;
     if is_name_start(first) {
-        Some(Word {
+        Some(Scanned {
             kind: Kind::Identifier,
             len: name_len(bytes),
         })
@@ -333,7 +333,7 @@ pub fn word_at(bytes: &[u8]) -> Option<Word>
         number_at(bytes)
     } else if is_quote(first) {
         let len = closes(first, behind)?;
-        Some(Word {
+        Some(Scanned {
             kind: Kind::Text,
             len: len + 1,
         })

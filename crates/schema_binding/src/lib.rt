@@ -2,7 +2,8 @@
 //!
 //! [`hello`] writes the frame that opens a connection, with the service and the table of its sender, and
 //! [`on_hello`] reads such a payload. [`agree`] compares two tables on a service, under the version of the
-//! other side's hello. It stands on `mrpc_table`, `table_text` and `frame_transport`. The layers above use
+//! other side's hello. It stands on `mrpc_table` for tables, on `table_lines` and `table_text`, which write and
+//! read their text, on `frame_transport` for the frame, and on `thiserror` for its fault. The layers above use
 //! two contracts: what is read of a payload is what it says, or its first line at fault; and two tables
 //! agree on a service, or there is one first difference.
 #![tactic(auto)]

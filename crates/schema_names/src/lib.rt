@@ -6,7 +6,8 @@
 //! it answers the first message or enum that a reference names among those that its file sees, or that it names none,
 //! of [`Scopes::number`], that scopes have one number exactly where they have one full name ([`one_number`]), and of
 //! [`Scopes::is_package`], that it tells a package's name. They take time by the length of what is asked, by how deep
-//! it stands in messages, by the number of files, and by the logarithm of the number of types.
+//! it stands in messages, by the number of files, and by the logarithm of the number of types. The crate stands on
+//! `mrpc_table` and `proto_file`.
 #![tactic(auto)]
 
 mod below;

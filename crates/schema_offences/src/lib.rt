@@ -3,10 +3,10 @@
 //!
 //! `specs/Members.antt` says what stands against messages, enums and services by themselves, `specs/Lines.antt` which
 //! lines the names have in a table's text, and `specs/Offences.antt` all that stands against files, and which offence
-//! comes first. `schema_names` says which full name a declaration has and which one a reference means. The layer above
-//! uses the contracts of [`first_offence`] and, for a file alone, [`with_import`], and those of [`form_of`],
-//! [`message_of`], [`field_number`] and [`enum_number`], which say what a field, an rpc's type and a number are in a
-//! table.
+//! comes first. `schema_names` says which full name a declaration has and which one a reference means. It stands on that
+//! crate, on `proto_file` and on `mrpc_table`. The layer above uses the contracts of [`first_offence`] and, for a file
+//! alone, [`with_import`], and those of [`form_of`], [`message_of`], [`field_number`] and [`enum_number`], which say what a
+//! field, an rpc's type and a number are in a table.
 #![tactic(auto)]
 
 mod enums;

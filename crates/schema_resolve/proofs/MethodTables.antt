@@ -30,7 +30,7 @@ use Rattle.schema_offences.specs.declared.reason.ResolveReason.TheVariants.{Unkn
 use Rattle.schema_resolve.specs.Resolving.{IsClean}
 use Rattle.schema_resolve.specs.Placing.{behind, name_at, IsPlan, IsPlaced, HasNames, names_in_order}
 use Rattle.schema_resolve.specs.InOrder.{IsPlaceNamed, IsMethodIn, AreMethods}
-use Rattle.schema_resolve.specs.declared.placed.Placed.{Placed}
+use Rattle.schema_resolve.specs.declared.placed.PlacedNames.{PlacedNames}
 use Rattle.schema_resolve.specs.declared.plan.Plan.{Plan}
 use Rattle.schema_resolve.proofs.FullNames.{package_names, names_more, behind_text}
 use Rattle.schema_resolve.proofs.CleanFiles.{at_in}
@@ -38,18 +38,18 @@ use Rattle.schema_resolve.proofs.EnumTables.{short_from, full_valid, scope_short
 
 -- ---- places of names
 
-pub record IsAt (p : Placed) (i place : ℕ) : Type 0 where
+pub record IsAt (p : PlacedNames) (i place : ℕ) : Type 0 where
   pub order : slice_get p.order.items place ≡ Some i
   pub back : slice_get p.places.items i ≡ Some place
 
-pub placed_at : (names : List (List ℕ)) (p : Placed) (i : ℕ) → IsPlaced names p → i < length names
+pub placed_at : (names : List (List ℕ)) (p : PlacedNames) (i : ℕ) → IsPlaced names p → i < length names
     → (place : ℕ) × IsAt p i place
 placed_at names p i h l =
     let c = h.order.each i l in
     let at : slice_get p.order.items c.0 ≡ Some i = at_in p.order.items i c in
     (c.0, record { order = at; back = h.places.back c.0 i at })
 
-pub name_read : {X : Type 0} (name : X → List ℕ) (xs : List X) (p : Placed) (i place : ℕ)
+pub name_read : {X : Type 0} (name : X → List ℕ) (xs : List X) (p : PlacedNames) (i place : ℕ)
     → map name xs ≡ names_in_order p → IsAt p i place
     → (option_map name (slice_get xs place) ≡ Some (name_at p.names.items i)) × (place < length xs)
 name_read name xs p i place e at =

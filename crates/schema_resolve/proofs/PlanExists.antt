@@ -12,7 +12,7 @@ use Rattle.proto_file.specs.Joined.{Joined, home_of, enum_home_of, package_parts
 use Rattle.schema_names.specs.Scopes.{text_of}
 use Rattle.schema_resolve.specs.Resolving.{IsClean}
 use Rattle.schema_resolve.specs.Placing.{behind, front_of, name_at, AreFronts, IsOrder, AreAll, IsPlaced, AreMessageNames, AreEnumNames, IsPlan}
-use Rattle.schema_resolve.specs.declared.placed.Placed.{Placed}
+use Rattle.schema_resolve.specs.declared.placed.PlacedNames.{PlacedNames}
 use Rattle.schema_resolve.specs.declared.plan.Plan.{Plan}
 use Rattle.schema_resolve.proofs.Orders.{AreKnown, known_none, known_more, number_of, pair_cmp, order_of, order_all, ArePut, put_more, places_of}
 use Rattle.schema_resolve.proofs.CleanFiles.{some_at, AreFirstFronts, fronts_none, fronts_more, fronts_all}
@@ -74,7 +74,7 @@ places_put order all (suc n) l =
     )
 
 -- names with their order and their places in it
-placed_made : (names : List (List ℕ)) → length names < 2 ^ 63 → AreDistinct names → (p : Placed) × IsPlaced names p
+placed_made : (names : List (List ℕ)) → length names < 2 ^ 63 → AreDistinct names → (p : PlacedNames) × IsPlaced names p
 placed_made names few distinct =
     let order = order_made names distinct in
     let all = order_all names order.0 order.1 in
@@ -138,10 +138,10 @@ enum_names F fronts messages formed fronts_are count known (suc n) l =
     )
 
 -- what is said of a plan's places says nothing of its names of packages
-abbrev plan_with : Placed → Placed → Plan
+abbrev plan_with : PlacedNames → PlacedNames → Plan
 plan_with messages enums = record { fronts = vec_of [] (omega arith); messages = messages; enums = enums }
 
-plan_from : (F : Joined) (messages enums : List (List ℕ)) (mp ep : Placed) → length messages ≡ length F.messages
+plan_from : (F : Joined) (messages enums : List (List ℕ)) (mp ep : PlacedNames) → length messages ≡ length F.messages
     → length enums ≡ length F.enums → AreMessageNames F messages → AreEnumNames F enums → IsPlaced messages mp
     → IsPlaced enums ep → IsPlan F (plan_with mp ep)
 plan_from F messages enums mp ep all_messages all_enums message_names enum_names placed also = record {

@@ -8,7 +8,7 @@ use Rattle.proto_file.specs.Joined.{Joined, enum_home_of, package_at}
 use Rattle.proto_file.specs.declared.joined.Home.{Home}
 use Rattle.proto_file.specs.declared.joined.Home.TheVariants as home
 use Rattle.schema_names.specs.Scopes.{IsScope, text_of}
-use Rattle.schema_resolve.specs.declared.placed.Placed.{Placed}
+use Rattle.schema_resolve.specs.declared.placed.PlacedNames.{PlacedNames}
 use Rattle.schema_resolve.specs.declared.plan.Plan.{Plan}
 
 -- a name behind the full name of what it stands in, which is empty where there is none
@@ -52,7 +52,7 @@ pub record ArePlaces (order places : List ℕ) : Type 0 where
   pub back : (place i : ℕ) → slice_get order place ≡ Some i → slice_get places i ≡ Some place
 
 -- names are kept with their order and places
-pub record IsPlaced (names : List (List ℕ)) (p : Placed) : Type 0 where
+pub record IsPlaced (names : List (List ℕ)) (p : PlacedNames) : Type 0 where
   pub kept : p.names.items ≡ names
   pub order : IsOrder names p.order.items
   pub places : ArePlaces p.order.items p.places.items
@@ -74,7 +74,7 @@ pub record IsPlan (F : Joined) (p : Plan) : Type 0 where
   pub message_places : IsPlaced p.messages.names.items p.messages
   pub enum_places : IsPlaced p.enums.names.items p.enums
 
-abbrev pub names_in_order : Placed → List (List ℕ)
+abbrev pub names_in_order : PlacedNames → List (List ℕ)
 names_in_order p = map (name_at p.names.items) p.order.items
 
 -- a table's messages and enums have these names

@@ -9,7 +9,7 @@ use std::alloc::Global;
 
 /// Names, and the places that they have by ascending name.
 #[derive(Drop)]
-pub struct Placed {
+pub struct PlacedNames {
     pub names: Vec<Name>,
     /// What stands at each place.
     pub order: Vec<usize>,
@@ -62,16 +62,16 @@ fn places(alloc: Global, order: &[usize]) -> Result<Vec<u32>, Memory>
     Ok(places)
 }
 
-impl Placed {
+impl PlacedNames {
     /// Names with their order and their places in it.
-    pub fn new(alloc: Global, names: Vec<Name>) -> Result<Placed, Memory>
+    pub fn new(alloc: Global, names: Vec<Name>) -> Result<PlacedNames, Memory>
         requires few { length names.items < 2 ^ 32 }
         requires distinct { AreDistinct names.items }
         ensures { IfOk result (IsPlaced names.items) }
     {
         let order = order(alloc, names.as_slice())?;
         let places = places(alloc, order.as_slice())?;
-        Ok(Placed {
+        Ok(PlacedNames {
             names,
             order,
             places,

@@ -7,7 +7,7 @@ ghost use Rattle.schema_names.specs.Scopes.{text_of};
 ghost use Rattle.schema_resolve.specs.Resolving.{IsClean};
 ghost use Rattle.schema_resolve.specs.Placing.{behind, front_of, AreFronts, IsPlaceAmong, AreMessageNames, AreEnumNames, IsPlan};
 
-use crate::placed::Placed;
+use crate::placed::PlacedNames;
 use mrpc_table::{Memory, Name};
 use proto_file::{Head, Home, Joined, Word};
 use std::alloc::Global;
@@ -17,8 +17,8 @@ use std::alloc::Global;
 pub struct Plan {
     /// The names of the files' packages.
     pub fronts: Vec<Name>,
-    pub messages: Placed,
-    pub enums: Placed,
+    pub messages: PlacedNames,
+    pub enums: PlacedNames,
 }
 
 /// A name behind what stands in front of it.
@@ -123,7 +123,7 @@ pub fn plan_of(alloc: Global, files: &Joined<'_>) -> Result<Plan, Memory>
     let enums = enum_names(alloc, files, fronts.as_slice(), messages.as_slice())?;
     Ok(Plan {
         fronts,
-        messages: Placed::new(alloc, messages)?,
-        enums: Placed::new(alloc, enums)?,
+        messages: PlacedNames::new(alloc, messages)?,
+        enums: PlacedNames::new(alloc, enums)?,
     })
 }

@@ -9,7 +9,7 @@ ghost use Rattle.script_head.specs.Fronts.{IsHead, IsFront, IsFaultOf, line_behi
 ghost use Rattle.script_head.specs.Limits.{IsTableFault};
 ghost use Rattle.script_words.specs.declared.fault.ScriptFault.TheVariants.{Memory as OutOfMemory};
 
-use crate::head::{Head, read_head};
+use crate::head::{ScriptHead, read_head};
 use crate::laws::one_front;
 use mrpc_table::{Table, line_count};
 use script_words::{ScriptFault, ScriptReason};
@@ -90,7 +90,7 @@ fn table_of(alloc: Global, head: &[u8], text: &[u8]) -> Result<Table, ScriptFaul
 }
 
 // The fault of a text that has no line `end` behind its head.
-fn endless_fault(alloc: Global, text: &[u8], first: &[u8], head: Head<'_>) -> ScriptFault
+fn endless_fault(alloc: Global, text: &[u8], first: &[u8], head: ScriptHead<'_>) -> ScriptFault
     requires head { IsHead first.now head.front.now head.loads }
     requires endless { IsEndless head.front.now text.now head.behind.now }
     ensures { IsFaultOf first.now text.now result }

@@ -16,7 +16,7 @@ const LOADS: &[u8] = b"loads ";
 
 /// What stands in front of the table's text.
 #[derive(Clone, Copy)]
-pub(crate) struct Head<'a> {
+pub(crate) struct ScriptHead<'a> {
     /// How many words are loaded for a call at most.
     pub loads: u64,
     /// These lines.
@@ -26,7 +26,7 @@ pub(crate) struct Head<'a> {
 }
 
 /// The lines in front of the text of the table, the first of which is this one, with its line feed.
-pub(crate) fn read_head<'a>(text: &'a [u8], first: &[u8]) -> Result<Head<'a>, ScriptFault>
+pub(crate) fn read_head<'a>(text: &'a [u8], first: &[u8]) -> Result<ScriptHead<'a>, ScriptFault>
     ensures head { IfOk result (λ h. IsHead first.now h.front.now h.loads
         × (text.now ≡ h.front.now ++ h.behind.now)) }
     ensures fault { IfErr result (IsFaultOf first.now text.now) }
@@ -48,13 +48,13 @@ pub(crate) fn read_head<'a>(text: &'a [u8], first: &[u8]) -> Result<Head<'a>, Sc
 }
 
 // The head of a text that has this behind it.
-fn head_before<'a>(text: &'a [u8], loads: u64, behind: &'a [u8]) -> Head<'a>
+fn head_before<'a>(text: &'a [u8], loads: u64, behind: &'a [u8]) -> ScriptHead<'a>
     requires { length behind.now ≤ length text.now }
     ensures front { (front : List ℕ) → text.now ≡ front ++ behind.now → result.front.now ≡ front }
     ensures behind { result.behind.now ≡ behind.now }
     ensures loads { result.loads ≡ loads }
 {
-    Head {
+    ScriptHead {
         loads,
         front: &text[..text.len() - behind.len()],
         behind,

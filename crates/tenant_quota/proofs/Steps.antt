@@ -15,7 +15,7 @@ use Rattle.atomic_table.specs.Table.{State, keeps, step, Allows, Splits, Joins, 
 use Rattle.atomic_table.proofs.Lists.{at_set, at_snoc, set_else, set_again}
 use Rattle.tenant_quota.specs.declared.view.View.{View}
 use Rattle.tenant_quota.specs.Drawing.{tickets_in}
-use Rattle.tenant_quota.specs.Rule.{Counts, tickets_out, shares_out, Fits, IsQuota, Seated, Told, drew, Drawn, Settled, opener, kept_half, new_half, together, nobody}
+use Rattle.tenant_quota.specs.Rule.{Counts, tickets_out, shares_out, Fits, IsQuota, Seated, OnceWithAllShares, drew, Drawn, Settled, opener, kept_half, new_half, together, nobody}
 use Rattle.tenant_quota.proofs.Lists.{out_more, out_alone, sum_set, others_none}
 use Rattle.tenant_quota.proofs.Tickets.{tickets-append, ticket_here, ticket_elsewhere, counts_none, counts_moved, counts_more}
 
@@ -40,8 +40,8 @@ begins words n zeros = record {
     one (suc seat) v e = absurd (some-ne-none v (sym e))
 
 -- what a seat with all shares knows
-pub told : (windows id : ℕ) (s : State (Unit {0}) View) → IsQuota windows s → (v : View) → get_elem? s.views id ≡ some v → Told v
-told windows id s h v at = λ all window inside few.
+pub once_with_all_shares : (windows id : ℕ) (s : State (Unit {0}) View) → IsQuota windows s → (v : View) → get_elem? s.views id ≡ some v → OnceWithAllShares v
+once_with_all_shares windows id s h v at = λ all window inside few.
     let positive : 0 < v.share = omega (arith, all) in
     let within : window < windows = subst (λ n. window < n) ((h.seats id v at).knows positive) inside in
     let alone : tickets_out window s.views ≡ tickets_in window v.draws
@@ -127,7 +127,7 @@ module _ (windows slots id i : ℕ) (me : Seated) (shares : 1 ≤ me.0.share) (i
         keeps,
         tt,
         kept,
-        record { view = refl; slots = refl; told = told windows id (draw_state s n) kept w (there s.views id me.0 w at) },
+        record { view = refl; slots = refl; once = once_with_all_shares windows id (draw_state s n) kept w (there s.views id me.0 w at) },
       )
 
 half_less : (n : ℕ) → (n - n / 2) + n / 2 ≡ n
@@ -201,7 +201,7 @@ settles_it windows slots id i me s h sized at fits =
       shares = h.shares;
       seats = h.seats;
     }) in
-    (me.0, keeps, tt, kept, record { same = refl; told = told windows id s h me.0 at })
+    (me.0, keeps, tt, kept, record { same = refl; once = once_with_all_shares windows id s h me.0 at })
 
-pub told_nothing : (windows share : ℕ) → Told (record { windows = windows; draws = []; share = share })
-told_nothing windows share = λ all window inside few. IsPermutation-refl []
+pub nothing_drawn_once : (windows share : ℕ) → OnceWithAllShares (record { windows = windows; draws = []; share = share })
+nothing_drawn_once windows share = λ all window inside few. IsPermutation-refl []

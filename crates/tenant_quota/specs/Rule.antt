@@ -38,9 +38,10 @@ pub record IsQuota (windows : ℕ) (s : State (Unit {0}) View) : Type 0 where
 abbrev pub Seated : Type 0
 Seated = Me (Unit {0}) View
 
--- the draws of a seat that has all shares
-abbrev pub Told : View → Type 0
-Told v = v.share ≡ all_shares → AllOnce v.windows v.draws
+-- where a seat has all shares, its tickets of each window are the numbers from 0 on, each once, if they are fewer than
+-- 2^64; of a seat with fewer shares this says nothing
+abbrev pub OnceWithAllShares : View → Type 0
+OnceWithAllShares v = v.share ≡ all_shares → AllOnce v.windows v.draws
 
 abbrev pub drew : View → ℕ → ℕ → View
 drew v window ticket = record { windows = v.windows; draws = v.draws ++ (window, ticket) ∷ []; share = v.share }
@@ -49,12 +50,12 @@ drew v window ticket = record { windows = v.windows; draws = v.draws ++ (window,
 pub record Drawn (st : Step (Unit {0})) (m : Seated) (n : ℕ) (m' : Seated) : Type 0 where
   pub view : m'.0 ≡ drew m.0 st.word n
   pub slots : m'.1 ≡ m.1
-  pub told : Told m'.0
+  pub once : OnceWithAllShares m'.0
 
--- a load that leaves the seat as it is
+-- a load that leaves the seat as it is; it tells that with all shares each ticket of a window was drawn once
 pub record Settled (st : Step (Unit {0})) (m : Seated) (n : ℕ) (m' : Seated) : Type 0 where
   pub same : m' ≡ m
-  pub told : Told m'.0
+  pub once : OnceWithAllShares m'.0
 
 -- what a seat keeps when it is split
 abbrev pub kept_half : View → View
@@ -80,4 +81,4 @@ pub record IsSeat (of table : TableId) (windows : ℕ) (me : Seated) : Type 0 wh
   pub knows : me.0.windows ≡ of.words
   pub empty : me.1 ≡ []
   pub shares : 1 ≤ me.0.share
-  pub told : Told me.0
+  pub once : OnceWithAllShares me.0

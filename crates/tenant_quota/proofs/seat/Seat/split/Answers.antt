@@ -38,5 +38,5 @@ invariant_of-self c =
       knows = ap (λ (m : Seated). m.0.windows) me ∙ i.knows ∙ sym words;
       empty = ap (λ (m : Seated). m.1) me ∙ i.empty;
       shares = omega (arith, two, share);
-      told = l.told;
+      once = l.once;
     }

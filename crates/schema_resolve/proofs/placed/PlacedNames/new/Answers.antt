@@ -1,7 +1,7 @@
 use Rattle.std.proofs.Common.{sym, subst}
 use Rattle.schema_resolve.specs.Placing.{AreAll}
 use Rattle.schema_resolve.proofs.Orders.{order_all}
-use Rattle.schema_resolve.proofs.placed.Placed.new.Goals as goal
+use Rattle.schema_resolve.proofs.placed.PlacedNames.new.Goals as goal
 
 pub places-requires-clause-all : goal.places-requires-clause-all
 places-requires-clause-all c =
