@@ -49,7 +49,7 @@ pub fn append_arrival(
         } => {
             let encoding = encoded(alloc, table, *kind, *method, tree)?;
             append_call(out, b"arrived", conn, *kind, *method, *number)?;
-            append_hex_word(alloc, out, encoding.as_slice())?;
+            append_hex_word(out, encoding.as_slice())?;
         }
         ArrivalLine::Dropped {
             kind,

@@ -4,11 +4,12 @@ use Rattle.mrpc_table.specs.declared.table.Table.{Table}
 use Rattle.policy_blocks.specs.Declarations.{Declared}
 use Rattle.audit_text.specs.declared.reading.AuditFault.{AuditFault}
 use Rattle.audit_text.specs.declared.reading.AuditFault.TheVariants.{Bad, Memory}
-use Rattle.audit_check.specs.Checking.{FaultsAt, IsChecked, IsFirstBad}
+use Rattle.audit_text.specs.Faults.{FaultsAs}
+use Rattle.audit_check.specs.Checking.{IsChecked, IsFirstBad}
 use Rattle.audit_check.specs.declared.checked.Checked.{Checked}
 
 pub only_checked : (T : Table) (declared : Declared) (limit : ℕ) (text : List ℕ) (r : Result Checked AuditFault) {checked : Checked}
-    → IfOk r (IsChecked T declared limit text) → IfErr r (FaultsAt (IsFirstBad T declared text))
+    → IfOk r (IsChecked T declared limit text) → IfErr r (FaultsAs (IsFirstBad T declared text))
     → ((k : Checked) → IsChecked T declared limit text k → k ≡ checked) → ((line : ℕ) → IsFirstBad T declared text line → ⊥)
     → MatchResult r (λ c. c ≡ checked) (λ fault. fault ≡ Memory)
 only_checked T declared limit text (Ok k) is bad one none = one k is
@@ -16,7 +17,7 @@ only_checked T declared limit text (Err (Bad line)) is bad one none = absurd (no
 only_checked T declared limit text (Err Memory) is bad one none = refl
 
 pub only_bad : (T : Table) (declared : Declared) (limit : ℕ) (text : List ℕ) (r : Result Checked AuditFault)
-    → IfOk r (IsChecked T declared limit text) → IfErr r (FaultsAt (IsFirstBad T declared text)) → (line : ℕ)
+    → IfOk r (IsChecked T declared limit text) → IfErr r (FaultsAs (IsFirstBad T declared text)) → (line : ℕ)
     → ((other : ℕ) → IsFirstBad T declared text other → other ≡ line) → ((k : Checked) → IsChecked T declared limit text k → ⊥)
     → MatchResult r (λ _. ⊥) (λ fault. (fault ≡ Bad line) ⊎ (fault ≡ Memory))
 only_bad T declared limit text (Ok k) is bad line one none = none k is

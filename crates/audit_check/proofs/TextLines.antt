@@ -23,14 +23,15 @@ use Rattle.call_history.specs.declared.happening.TookCopy.TheVariants.{Copy, Mal
 use Rattle.policy_blocks.specs.Declarations.{Declared}
 use Rattle.policy_blocks.specs.declared.item.NamedPolicy.{NamedPolicy}
 use Rattle.audit_text.specs.Lines.{IsCutInto, audit, audit_line, happening_words, standing_words, stands_line}
-use Rattle.audit_text.specs.Writable.{CanBeTold, IsStanding, IsTaken, IsWritable}
+use Rattle.audit_text.specs.Writable.{CanBeTold, IsStanding, IsCopyTaken, IsWritable}
 use Rattle.audit_text.specs.declared.holding.Holding.{Holding}
 use Rattle.audit_text.specs.declared.reading.AuditFault.{AuditFault}
 use Rattle.audit_text.specs.Told.{IsLine, bytes_of}
 use Rattle.audit_text.specs.declared.line.AuditLine.{AuditLine}
 use Rattle.audit_text.specs.declared.line.AuditLine.TheVariants.{Happened, Stands}
 use Rattle.audit_rules.specs.Knowing.{IsCopyBy, IsReadable}
-use Rattle.audit_check.specs.Checking.{FaultsAt, IsFirstBad, IsStandsLine, StandsLine, Tells, line_of, lines_of}
+use Rattle.audit_text.specs.Faults.{FaultsAs}
+use Rattle.audit_check.specs.Checking.{IsFirstBad, IsStandsLine, StandsLine, Tells, line_of, lines_of}
 use Rattle.audit_check.specs.Reading.{FailsOn, IsRead, IsReadableLine, TakesOn}
 use Rattle.audit_check.specs.declared.progress.Progress.{Progress}
 use Rattle.audit_check.specs.States.{EndsLine, IsFirstLine}
@@ -183,7 +184,7 @@ found_here : (label : List ℕ) (p : NamedPolicy) (policies : List NamedPolicy) 
 found_here label p policies policy true all later e = let same : p.policy ≡ policy = cc in subst IsPolicy same (All-head (λ p. IsPolicy p.policy) p policies all)
 found_here label p policies policy false all later e = later e
 
-copy_by : (T : Table) (call : Taken) (copy : TookCopy) → IsTaken T call copy → IsCopyBy T call copy
+copy_by : (T : Table) (call : Taken) (copy : TookCopy) → IsCopyTaken T call copy → IsCopyBy T call copy
 copy_by T call (Copy tree) h = (h.method, h.normal)
 copy_by T call (Malformed reason place value) h = tt
 
@@ -227,14 +228,14 @@ few_lines T declared limit text rest p r =
 
 pub fails_as : StandsCut → AreApart → (T : Table) (declared : Declared) (limit : ℕ) (text rest first others : List ℕ) (p : Progress) (x : AuditLine) (fault : AuditFault)
     → (r : IsRead T declared limit text rest p) → 0 < length rest → IsFirstLine rest first others → first ≡ bytes_of T x → FailsOn r.history r.told x fault
-    → FaultsAt (IsFirstBad T declared text) fault
+    → FaultsAs (IsFirstBad T declared text) fault
 fails_as cut apart T declared limit text rest first others p (Happened x) fault r some is e (inl late) =
-    let F : AuditFault → Type 0 = FaultsAt (IsFirstBad T declared text) in
+    let F : AuditFault → Type 0 = FaultsAs (IsFirstBad T declared text) in
     subst F (sym late.1) (late_happening cut apart T declared text r.front rest first others r.history r.told x r.is_text r.tells some is late.0 e)
 fails_as cut apart T declared limit text rest first others p (Happened x) fault r some is e (inr memory) =
-    let F : AuditFault → Type 0 = FaultsAt (IsFirstBad T declared text) in subst F (sym memory) tt
+    let F : AuditFault → Type 0 = FaultsAs (IsFirstBad T declared text) in subst F (sym memory) tt
 fails_as cut apart T declared limit text rest first others p (Stands conn seq position name holding) fault r some is e memory =
-    let F : AuditFault → Type 0 = FaultsAt (IsFirstBad T declared text) in subst F (sym memory) tt
+    let F : AuditFault → Type 0 = FaultsAs (IsFirstBad T declared text) in subst F (sym memory) tt
 
 joined_more : (text front rest first others : List ℕ) → text ≡ front ++ rest → rest ≡ first ++ others → text ≡ (front ++ first) ++ others
 joined_more text front rest first others e f = e ∙ ap (λ (l : List ℕ). front ++ l) f ∙ sym (append_assoc front first others)
@@ -271,6 +272,6 @@ read_whole T declared limit text rest p r none =
 pub taken_on : StandsCut → AreApart → (T : Table) (declared : Declared) (limit : ℕ) (text rest first others : List ℕ) (p p' : Progress) (x : AuditLine) (result : Result (Unit {0}) AuditFault)
     → (r : IsRead T declared limit text rest p) → 0 < length rest → IsFirstLine rest first others → IsLine T declared x → first ≡ bytes_of T x
     → MatchResult result (λ _. TakesOn T limit r.history r.told x p') (FailsOn r.history r.told x)
-    → MatchResult result (λ _. IsRead T declared limit text others p') (FaultsAt (IsFirstBad T declared text))
+    → MatchResult result (λ _. IsRead T declared limit text others p') (FaultsAs (IsFirstBad T declared text))
 taken_on cut apart T declared limit text rest first others p p' x (Ok u) r some is in' e takes = read_more T declared limit text rest first others p p' x r is.joined in' e takes
 taken_on cut apart T declared limit text rest first others p p' x (Err fault) r some is in' e fails = fails_as cut apart T declared limit text rest first others p x fault r some is e fails

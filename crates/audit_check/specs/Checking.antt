@@ -11,8 +11,6 @@ use Rattle.policy_blocks.specs.Declarations.{Declared}
 use Rattle.audit_text.specs.Lines.{audit, audit_line, stands_line}
 use Rattle.audit_text.specs.Writable.{IsStanding, IsWritable}
 use Rattle.audit_text.specs.declared.holding.Holding.{Holding}
-use Rattle.audit_text.specs.declared.reading.AuditFault.{AuditFault}
-use Rattle.audit_text.specs.declared.reading.AuditFault.TheVariants.{Bad, Memory}
 use Rattle.audit_rules.specs.First.{Awaits, BreaksFirst, order_of}
 use Rattle.audit_rules.specs.Telling.{TellsNext}
 use Rattle.audit_rules.specs.declared.rule.Rule.{Rule}
@@ -68,11 +66,6 @@ pub record IsFirstBad (T : Table) (declared : Declared) (text : List ℕ) (line 
   pub no_happening : stands ≡ [] → (x : Happened) → IsWritable T declared x → Begins rest (audit_line T x) → ⊥
   pub no_stands : (s : StandsLine) → IsStandsLine s → Begins rest (line_of s) → ⊥
   pub counted : line ≡ length history + length stands + 1
-
--- a fault is this, or that no memory was found
-abbrev pub FaultsAt : (ℕ → Type 0) → AuditFault → Type 0
-FaultsAt IsAt (Bad line) = IsAt line
-FaultsAt IsAt Memory = Unit {0}
 
 -- ---- the calls that stand
 

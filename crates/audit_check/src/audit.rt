@@ -4,7 +4,8 @@ ghost use Rattle.std.specs.Prelude.{◌≡◌, ◌+◌, ◌<◌, ◌≤◌, ◌^
 ghost use Rattle.mrpc_table.specs.Valid.{IsValid};
 ghost use Rattle.engine_core.specs.Policies.{IsPolicy};
 ghost use Rattle.audit_text.specs.declared.reading.AuditFault.{AuditFault};
-ghost use Rattle.audit_check.specs.Checking.{FaultsAt, IsChecked, IsFirstBad};
+ghost use Rattle.audit_text.specs.Faults.{FaultsAs};
+ghost use Rattle.audit_check.specs.Checking.{IsChecked, IsFirstBad};
 ghost use Rattle.audit_check.specs.Reading.{IsFamiliar, IsRead};
 ghost use Rattle.audit_check.specs.States.{IsFirstLine};
 ghost use Rattle.audit_check.specs.declared.checked.Checked.{Checked};
@@ -40,7 +41,7 @@ pub fn check_audit(
     requires policies { All (λ p. IsPolicy p.policy) declared.now.policies }
     requires short { length text.now ≤ 16777216 }
     ensures checked { IfOk result (IsChecked table.now declared.now loads text.now) }
-    ensures bad { IfErr result (FaultsAt (IsFirstBad table.now declared.now text.now)) }
+    ensures bad { IfErr result (FaultsAs (IsFirstBad table.now declared.now text.now)) }
     ensures only_checked { (checked : Checked) → IsChecked table.now declared.now loads text.now checked
         → MatchResult result (λ c. c ≡ checked) (λ fault. fault ≡ AuditFault.Memory) }
     ensures only_bad { (line : ℕ) → IsFirstBad table.now declared.now text.now line
@@ -62,7 +63,7 @@ fn read_text(
     requires policies { All (λ p. IsPolicy p.policy) declared.now.policies }
     requires short { length text.now ≤ 16777216 }
     ensures checked { IfOk result (IsChecked table.now declared.now loads text.now) }
-    ensures bad { IfErr result (FaultsAt (IsFirstBad table.now declared.now text.now)) }
+    ensures bad { IfErr result (FaultsAs (IsFirstBad table.now declared.now text.now)) }
 {
     let mut progress = Progress::new(alloc, loads)?;
     let mut encoding = Output::new(alloc)?;
@@ -91,7 +92,7 @@ fn take_front<'a>(
     requires some { 0 < length rest.now }
     ensures takes { (limit : ℕ) (text : List ℕ) → IsRead table.now declared.now limit text rest.now progress.old
         → MatchResult result (λ others. IsRead table.now declared.now limit text others.now progress.new)
-        (FaultsAt (IsFirstBad table.now declared.now text)) }
+        (FaultsAs (IsFirstBad table.now declared.now text)) }
     ensures shorter { IfOk result (λ others. length others.now < length rest.now) }
 {
     a_line_is_cut_into_its_words();
@@ -121,7 +122,7 @@ fn take_line(
     ensures { (limit : ℕ) (text rest others : List ℕ) → IsRead table.now declared.now limit text rest progress.old
         → 0 < length rest → IsFirstLine rest line.now others
         → MatchResult result (λ _. IsRead table.now declared.now limit text others progress.new)
-        (FaultsAt (IsFirstBad table.now declared.now text)) }
+        (FaultsAs (IsFirstBad table.now declared.now text)) }
 {
     a_line_is_cut_into_its_words();
     a_stands_line_tells_one_call();

@@ -12,17 +12,17 @@ use Rattle.call_history.specs.declared.happening.Taken.{Taken}
 use Rattle.call_history.specs.declared.happening.TookCopy.{TookCopy}
 use Rattle.call_history.specs.declared.happening.TookCopy.TheVariants.{Copy, Malformed}
 use Rattle.audit_text.specs.Lines.{Words, copy_words}
-use Rattle.audit_text.specs.Writable.{IsAcceptance, IsTaken}
+use Rattle.audit_text.specs.Writable.{IsAcceptance, IsCopyTaken}
 use Rattle.audit_text.specs.Copies.{head_said, malformed_said, reason_said, taken_words}
 use Rattle.audit_text.specs.Reading.{Reads, first_said, last_said, number_said}
-use Rattle.audit_text.specs.declared.copy.Head.{Head}
+use Rattle.audit_text.specs.declared.copy.CallNumbers.{CallNumbers}
 use Rattle.audit_text.proofs.Causes.{first-said}
 use Rattle.audit_text.proofs.Said.{by-word, chained, last-read, last-said, number-read, number-said, unsome}
 use Rattle.audit_text.proofs.WordsOfLines.{not-some, some-pair}
 
 -- ---- numbers
 
-pub record IsHead (ws : Words) (h : Head) (rest : Words) : Type 0 where
+pub record IsHead (ws : Words) (h : CallNumbers) (rest : Words) : Type 0 where
   pub seq : h.seq < 2 ^ 32
   pub method : h.method < 2 ^ 16
   pub number : h.number < 2 ^ 32
@@ -31,7 +31,7 @@ pub record IsHead (ws : Words) (h : Head) (rest : Words) : Type 0 where
   pub count : h.count < 2 ^ 64
   pub words : ws ≡ decimal h.seq ∷ decimal h.method ∷ decimal h.number ∷ decimal h.addr ∷ decimal h.after ∷ decimal h.count ∷ rest
 
-pub head-said : (ws : Words) (p : Head × Words) → head_said ws ≡ Some p → IsHead ws p.0 p.1
+pub head-said : (ws : Words) (p : CallNumbers × Words) → head_said ws ≡ Some p → IsHead ws p.0 p.1
 unfolding head_said
 head-said ws p e =
     let a = chained _ (number_said (2 ^ 32) ws) p e in
@@ -46,7 +46,7 @@ head-said ws p e =
     let hd = number-said (2 ^ 64) c.0.1 d.0 (omega arith) d.1 in
     let hf = number-said (2 ^ 64) d.0.1 f.0 (omega arith) f.1 in
     let hg = number-said (2 ^ 64) f.0.1 g.0 (omega arith) g.1 in
-    let P : Head × Words → Type 0 = λ p. IsHead ws p.0 p.1 in
+    let P : CallNumbers × Words → Type 0 = λ p. IsHead ws p.0 p.1 in
     subst P (unsome (record { seq = a.0.0; method = b.0.0; number = c.0.0; addr = d.0.0; after = f.0.0; count = g.0.0 }, g.0.1) p g.2) (record {
       seq = ha.0;
       method = hb.0;
@@ -60,7 +60,7 @@ head-said ws p e =
           (hd.1 ∙ ap (λ r. decimal d.0.0 ∷ r) (hf.1 ∙ ap (λ r. decimal f.0.0 ∷ r) hg.1))));
     })
 
-pub head-read : (h : Head) (rest : Words) → h.seq < 2 ^ 32 → h.method < 2 ^ 16 → h.number < 2 ^ 32 → h.addr < 2 ^ 64 → h.after < 2 ^ 64 → h.count < 2 ^ 64
+pub head-read : (h : CallNumbers) (rest : Words) → h.seq < 2 ^ 32 → h.method < 2 ^ 16 → h.number < 2 ^ 32 → h.addr < 2 ^ 64 → h.after < 2 ^ 64 → h.count < 2 ^ 64
     → head_said (decimal h.seq ∷ decimal h.method ∷ decimal h.number ∷ decimal h.addr ∷ decimal h.after ∷ decimal h.count ∷ rest) ≡ Some (h, rest)
 unfolding head_said
 head-read h rest seq method number addr after count =
@@ -118,7 +118,7 @@ reason-is w r e =
     ]
 
 pub malformed-said : (T : Table) (call : Taken) (msg : ℕ) (ws : Words) (copy : TookCopy)
-    → malformed_said ws ≡ Some copy → IsTaken T call copy × (codes "malformed" ∷ ws ≡ copy_words T msg copy)
+    → malformed_said ws ≡ Some copy → IsCopyTaken T call copy × (codes "malformed" ∷ ws ≡ copy_words T msg copy)
 unfolding malformed_said
 malformed-said T call msg ws copy e =
     let a = chained _ (first_said ws) copy e in
@@ -127,7 +127,7 @@ malformed-said T call msg ws copy e =
     let d = chained _ (last_said (2 ^ 64) c.0.1) copy c.2 in
     let h = number-said (2 ^ 64) a.0.1 c.0 (omega arith) c.1 in
     let k = last-said (2 ^ 64) c.0.1 d.0 (omega arith) d.1 in
-    let P : TookCopy → Type 0 = λ x. IsTaken T call x × (codes "malformed" ∷ ws ≡ copy_words T msg x) in
+    let P : TookCopy → Type 0 = λ x. IsCopyTaken T call x × (codes "malformed" ∷ ws ≡ copy_words T msg x) in
     subst P (unsome (Malformed b.0 c.0.0 d.0) copy d.2) (
       (h.0, k.0),
       ap (λ r. codes "malformed" ∷ r) (first-said ws a.0 a.1 ∙ ap (λ w. w ∷ a.0.1) (reason-is a.0.0 b.0 b.1)
@@ -145,14 +145,14 @@ first-same : {X : Type 0} (x y : X) (xs ys : List X) → x ∷ xs ≡ y ∷ ys �
 first-same x y xs ys e = (cc, cc)
 
 abbrev pub ReadsCopy : Table → Taken → ℕ → Words → Result (Option TookCopy) Memory → Type 0
-ReadsCopy T call msg ws r = Reads (IsTaken T call) (copy_words T msg) ws r
+ReadsCopy T call msg ws r = Reads (IsCopyTaken T call) (copy_words T msg) ws r
 
 abbrev first_of : Words → List ℕ
 first_of [] = []
 first_of (w ∷ ws) = w
 
 malformed-lost : (T : Table) (call : Taken) (msg : ℕ) (ws : Words) → malformed_said ws ≡ None → (x : TookCopy)
-    → IsTaken T call x → codes "malformed" ∷ ws ≡ copy_words T msg x → ⊥
+    → IsCopyTaken T call x → codes "malformed" ∷ ws ≡ copy_words T msg x → ⊥
 malformed-lost T call msg ws none (Copy tree) h e = omega (arith, ap (λ (l : Words). get_or (first_of l) 0 0) e)
 malformed-lost T call msg ws none (Malformed reason place value) h e =
     let same = first-same (codes "malformed") (codes "malformed") ws (reason_word reason ∷ decimal place ∷ decimal value ∷ []) e in
@@ -165,7 +165,7 @@ malformed-reads T call msg all ws (Some copy) is h = let said = malformed-said T
 
 -- ---- acceptances
 
-abbrev head_of : Taken → Head
+abbrev head_of : Taken → CallNumbers
 head_of x = record { seq = x.seq; method = x.method; number = x.number; addr = x.addr; after = x.after; count = x.count }
 
 head-told : (x : Taken) (T : Table) → IsAcceptance T x → head_said (taken_words T x) ≡ Some (head_of x, copy_words T (message_at T x.method x.number) x.copy)
@@ -175,10 +175,10 @@ pub no-head : (T : Table) (ws : Words) → head_said ws ≡ None → (x : Taken)
 no-head T ws none x h e = not-some (head_of x, copy_words T (message_at T x.method x.number) x.copy) (sym (head-told x T h) ∙ ap head_said (sym e) ∙ none)
 
 -- the copy is read behind the numbers, for a call of these numbers
-abbrev pub ReadsFor : Table → Head → Words → Result (Option TookCopy) Memory → Type 0
-ReadsFor T h rest r = (call : Taken) → call.method ≡ h.method → call.number ≡ h.number → Reads (IsTaken T call) (copy_words T (message_at T h.method h.number)) rest r
+abbrev pub ReadsFor : Table → CallNumbers → Words → Result (Option TookCopy) Memory → Type 0
+ReadsFor T h rest r = (call : Taken) → call.method ≡ h.method → call.number ≡ h.number → Reads (IsCopyTaken T call) (copy_words T (message_at T h.method h.number)) rest r
 
-pub no-copy : (T : Table) (ws rest : Words) (h : Head) (r : Result (Option TookCopy) Memory)
+pub no-copy : (T : Table) (ws rest : Words) (h : CallNumbers) (r : Result (Option TookCopy) Memory)
     → head_said ws ≡ Some (h, rest) → ReadsFor T h rest r → r ≡ Ok None → (x : Taken) → IsAcceptance T x
     → ws ≡ taken_words T x → ⊥
 no-copy T ws rest h r head reads is x holds e =
@@ -186,11 +186,11 @@ no-copy T ws rest h r head reads is x holds e =
     let same = some-pair h (head_of x) rest (copy_words T (message_at T x.method x.number) x.copy) both in
     let method : x.method ≡ h.method = sym (ap (λ k. k.method) same.0) in
     let number : x.number ≡ h.number = sym (ap (λ k. k.number) same.0) in
-    let P : Result (Option TookCopy) Memory → Type 0 = λ r. Reads (IsTaken T x) (copy_words T (message_at T h.method h.number)) rest r in
-    let none : (copy : TookCopy) → IsTaken T x copy → rest ≡ copy_words T (message_at T h.method h.number) copy → ⊥ = subst P is (reads x method number) in
+    let P : Result (Option TookCopy) Memory → Type 0 = λ r. Reads (IsCopyTaken T x) (copy_words T (message_at T h.method h.number)) rest r in
+    let none : (copy : TookCopy) → IsCopyTaken T x copy → rest ≡ copy_words T (message_at T h.method h.number) copy → ⊥ = subst P is (reads x method number) in
     none x.copy holds.copy (same.1 ∙ ap (λ k. copy_words T (message_at T k.method k.number) x.copy) (sym same.0))
 
-pub some-copy : (T : Table) (ws rest : Words) (h : Head) (copy : TookCopy) (r : Result (Option TookCopy) Memory)
+pub some-copy : (T : Table) (ws rest : Words) (h : CallNumbers) (copy : TookCopy) (r : Result (Option TookCopy) Memory)
     → head_said ws ≡ Some (h, rest) → ReadsFor T h rest r → r ≡ Ok (Some copy)
     → (let call : Taken = record {
       seq = h.seq;
@@ -204,8 +204,8 @@ pub some-copy : (T : Table) (ws rest : Words) (h : Head) (copy : TookCopy) (r : 
 some-copy T ws rest h copy r head reads is =
     let call : Taken = record { seq = h.seq; method = h.method; number = h.number; addr = h.addr; after = h.after; count = h.count; copy = copy } in
     let parts = head-said ws (h, rest) head in
-    let P : Result (Option TookCopy) Memory → Type 0 = λ r. Reads (IsTaken T call) (copy_words T (message_at T h.method h.number)) rest r in
-    let read : IsTaken T call copy × (rest ≡ copy_words T (message_at T h.method h.number) copy) = subst P is (reads call refl refl) in (
+    let P : Result (Option TookCopy) Memory → Type 0 = λ r. Reads (IsCopyTaken T call) (copy_words T (message_at T h.method h.number)) rest r in
+    let read : IsCopyTaken T call copy × (rest ≡ copy_words T (message_at T h.method h.number) copy) = subst P is (reads call refl refl) in (
       record { seq = parts.seq; method = parts.method; number = parts.number; addr = parts.addr; after = parts.after; count = parts.count; copy = read.0 },
       parts.words ∙ ap (λ r. decimal h.seq ∷ decimal h.method ∷ decimal h.number ∷ decimal h.addr ∷ decimal h.after ∷ decimal h.count ∷ r) read.1,
     )

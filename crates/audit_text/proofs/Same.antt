@@ -33,7 +33,7 @@ use Rattle.call_history.specs.declared.happening.TookCopy.TheVariants.{Copy, Mal
 use Rattle.policy_blocks.specs.Declarations.{Declared}
 use Rattle.audit_text.specs.Labels.{policy_under}
 use Rattle.audit_text.specs.Lines.{Words, hex_word, copy_words, step_words, cause_words, happening_words}
-use Rattle.audit_text.specs.Writable.{IsDeclared, IsStep, IsTaken, IsAcceptance, IsCause, CanBeTold, IsWritable}
+use Rattle.audit_text.specs.Writable.{IsDeclared, IsStep, IsCopyTaken, IsAcceptance, IsCause, CanBeTold, IsWritable}
 use Rattle.audit_text.proofs.Bytes.{bytes-each}
 use Rattle.audit_text.proofs.Digits.{digits-tell}
 use Rattle.audit_text.proofs.EncodedBytes.{encoding-bytes}
@@ -122,7 +122,7 @@ IsTakenAt : Table → ℕ → TookCopy → Type 0
 IsTakenAt T msg (Copy tree) = (msg < length T.messages) × IsNormal T msg tree × (length (encoding T msg tree) < 2 ^ 64)
 IsTakenAt T msg (Malformed reason place value) = (place < 2 ^ 64) × (value < 2 ^ 64)
 
-taken-at : (T : Table) → IsValid T → (call : Taken) (copy : TookCopy) → IsTaken T call copy → IsTakenAt T (message_at T call.method call.number) copy
+taken-at : (T : Table) → IsValid T → (call : Taken) (copy : TookCopy) → IsCopyTaken T call copy → IsTakenAt T (message_at T call.method call.number) copy
 unfolding IsTakenAt
 taken-at T valid call (Copy tree) h = (known-message T valid call.method call.number h.method, h.normal, h.short)
 taken-at T valid call (Malformed reason place value) h = h

@@ -20,7 +20,7 @@ use Rattle.call_history.specs.declared.happening.TookCopy.{TookCopy}
 use Rattle.call_history.specs.declared.happening.TookCopy.TheVariants.{Copy, Malformed}
 use Rattle.policy_blocks.specs.Declarations.{Declared}
 use Rattle.audit_text.specs.Lines.{hex_word, copy_words, step_words, cause_words, happening_words}
-use Rattle.audit_text.specs.Writable.{IsStep, IsTaken, IsCause, CanBeTold}
+use Rattle.audit_text.specs.Writable.{IsStep, IsCopyTaken, IsCause, CanBeTold}
 use Rattle.audit_text.proofs.Bytes.{AreBytes}
 use Rattle.audit_text.proofs.EncodedBytes.{encoding-bytes}
 use Rattle.audit_text.proofs.Words.{IsWord, AreWords, decimal-word, name-word, literal, lt-from, both-left, both-right}
@@ -67,7 +67,7 @@ word16 n h = decimal-word n (low16 n h)
 pub word32 : (n : ℕ) → n < 2 ^ 32 → IsWord (decimal n)
 word32 n h = decimal-word n (low32 n h)
 
-copy-are_words : (T : Table) → IsValid T → (call : Taken) (copy : TookCopy) → IsTaken T call copy → AreWords (copy_words T (message_at T call.method call.number) copy)
+copy-are_words : (T : Table) → IsValid T → (call : Taken) (copy : TookCopy) → IsCopyTaken T call copy → AreWords (copy_words T (message_at T call.method call.number) copy)
 copy-are_words T valid call (Copy tree) h = (literal (codes "copy") refl, (hex-word _ (encoding-bytes T _ tree valid h.normal h.short), tt))
 copy-are_words T valid call (Malformed reason place value) h = (literal (codes "malformed") refl, (reason-words reason, (decimal-word place h.0, (decimal-word value h.1, tt))))
 

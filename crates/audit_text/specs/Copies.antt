@@ -14,7 +14,7 @@ use Rattle.call_history.specs.declared.happening.TookCopy.{TookCopy}
 use Rattle.call_history.specs.declared.happening.TookCopy.TheVariants.{Malformed}
 use Rattle.audit_text.specs.Lines.{Words, copy_words}
 use Rattle.audit_text.specs.Reading.{◌>>=◌, first_said, last_said, number_said}
-use Rattle.audit_text.specs.declared.copy.Head.{Head}
+use Rattle.audit_text.specs.declared.copy.CallNumbers.{CallNumbers}
 
 -- a normal tree of a message, whose encoding has a length of 64 bits
 pub record IsCopied (T : Table) (msg : ℕ) (tree : Node) : Type 0 where
@@ -27,11 +27,11 @@ taken_words T call =
     decimal call.seq ∷ decimal call.method ∷ decimal call.number ∷ decimal call.addr ∷ decimal call.after
     ∷ decimal call.count ∷ copy_words T (message_at T call.method call.number) call.copy
 
-abbrev pub made_head : ℕ → ℕ → ℕ → ℕ → ℕ → ℕ → Head
+abbrev pub made_head : ℕ → ℕ → ℕ → ℕ → ℕ → ℕ → CallNumbers
 made_head seq method number addr after count =
     record { seq = seq; method = method; number = number; addr = addr; after = after; count = count }
 
-unfoldable pub head_said : Words → Option (Head × Words)
+unfoldable pub head_said : Words → Option (CallNumbers × Words)
 head_said words = do
   seq ← number_said (2 ^ 32) words
   method ← number_said (2 ^ 16) seq.1

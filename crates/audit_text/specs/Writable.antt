@@ -48,9 +48,9 @@ pub record IsCopy (T : Table) (call : Taken) (tree : Node) : Type 0 where
   pub normal : IsNormal T (message_at T call.method call.number) tree
   pub short : length (encoding T (message_at T call.method call.number) tree) < 2 ^ 64
 
-abbrev pub IsTaken : Table → Taken → TookCopy → Type 0
-IsTaken T call (Copy tree) = IsCopy T call tree
-IsTaken T call (Malformed reason place value) = (place < 2 ^ 64) × (value < 2 ^ 64)
+abbrev pub IsCopyTaken : Table → Taken → TookCopy → Type 0
+IsCopyTaken T call (Copy tree) = IsCopy T call tree
+IsCopyTaken T call (Malformed reason place value) = (place < 2 ^ 64) × (value < 2 ^ 64)
 
 pub record IsAcceptance (T : Table) (call : Taken) : Type 0 where
   pub seq : call.seq < 2 ^ 32
@@ -59,7 +59,7 @@ pub record IsAcceptance (T : Table) (call : Taken) : Type 0 where
   pub addr : call.addr < 2 ^ 64
   pub after : call.after < 2 ^ 64
   pub count : call.count < 2 ^ 64
-  pub copy : IsTaken T call call.copy
+  pub copy : IsCopyTaken T call call.copy
 
 -- ---- a refusal
 

@@ -9,7 +9,7 @@ ghost use Rattle.mrpc_table.specs.Valid.{IsValid};
 ghost use Rattle.wire_base.specs.Encoding.{encoding};
 ghost use Rattle.call_history.specs.declared.happening.Taken.{Taken};
 ghost use Rattle.audit_text.specs.Lines.{copy_words, hex_word};
-ghost use Rattle.audit_text.specs.Writable.{IsAcceptance, IsTaken};
+ghost use Rattle.audit_text.specs.Writable.{IsAcceptance, IsCopyTaken};
 ghost use Rattle.audit_text.specs.Copies.{head_said, malformed_said, reason_said, taken_words, IsCopied};
 ghost use Rattle.audit_text.specs.Reading.{words_in, Reads};
 
@@ -27,7 +27,7 @@ const ROOM: usize = 128;
 
 /// The numbers of an accepted call, as its line has them before the copy.
 #[derive(Clone, Copy)]
-pub(crate) struct Head {
+pub(crate) struct CallNumbers {
     pub seq: u32,
     pub method: u16,
     pub number: u32,
@@ -38,7 +38,7 @@ pub(crate) struct Head {
 
 // `SEQ METHOD NUMBER ADDR AFTER COUNT`, and what is left.
 #[tactic(auto, unfolding(crate::specs::Copies::head_said))]
-fn numbers(rest: Rest<'_>) -> Option<(Head, Rest<'_>)>
+fn numbers(rest: Rest<'_>) -> Option<(CallNumbers, Rest<'_>)>
     ensures { option_map (λ p. (p.0, words_in p.1)) result ≡ head_said (words_in rest.entry) }
 {
     let (seq, rest) = number32(rest)?;
@@ -47,7 +47,7 @@ fn numbers(rest: Rest<'_>) -> Option<(Head, Rest<'_>)>
     let (addr, rest) = number64(rest)?;
     let (after, rest) = number64(rest)?;
     let (count, rest) = number64(rest)?;
-    let head = Head {
+    let head = CallNumbers {
         seq,
         method,
         number,
@@ -229,7 +229,7 @@ fn copy(
 ) -> Result<Option<TookCopy>, Memory>
     requires { IsValid table.now }
     ensures { (call : Taken) → call.method ≡ method → call.number ≡ number
-        → Reads (IsTaken table.now call) (copy_words table.now (message_at table.now method number))
+        → Reads (IsCopyTaken table.now call) (copy_words table.now (message_at table.now method number))
         (words_in rest.entry) result }
 {
     let Some((word, rest)) = next(rest) else {

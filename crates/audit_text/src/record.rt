@@ -16,13 +16,11 @@ use crate::writing::{
 use call_history::{History, Record, Refusal};
 use engine_core::{Op, Policy};
 use mrpc_table::{Bytes, Memory, Table};
-use std::alloc::Global;
 use wire_encode::Output;
 
 /// Appends the audit line of what happened at a place, from 0, of the history of a connection, with its line feed. No
 /// name is copied, and a copy is encoded into `encoding`, whose room is used again. The only error is `Memory`.
 pub fn append_record(
-    alloc: Global,
     out: &mut Bytes,
     encoding: &mut Output,
     conn: u32,
@@ -36,20 +34,11 @@ pub fn append_record(
     ensures { (what : Happening) → slice_get history.now.happenings place ≡ Some what
         → OnOk result (out.new ≡ out.old ++ audit_line table.now (record { conn = conn; what = what })) }
 {
-    append_kept(
-        alloc,
-        out,
-        encoding,
-        conn,
-        history,
-        history.at(place),
-        table,
-    )
+    append_kept(out, encoding, conn, history, history.at(place), table)
 }
 
 // The line of what a record tells.
 fn append_kept(
-    alloc: Global,
     out: &mut Bytes,
     encoding: &mut Output,
     conn: u32,
@@ -64,7 +53,7 @@ fn append_kept(
         ++ audit_line table.now (record { conn = conn; what = told_by history.now.steps kept.now })) }
 {
     match kept {
-        Record::Took(call) => append_took(alloc, out, encoding, conn, call, table),
+        Record::Took(call) => append_took(out, encoding, conn, call, table),
         Record::Away {
             method,
             number,

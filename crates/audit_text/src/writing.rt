@@ -46,7 +46,7 @@ pub fn append_audit_line(
     match &happened.what {
         Happening::Took(call) => {
             let mut encoding = Output::new(alloc)?;
-            append_took(alloc, out, &mut encoding, conn, call, table)
+            append_took(out, &mut encoding, conn, call, table)
         }
         Happening::Away {
             method,
@@ -106,7 +106,6 @@ pub fn append_audit_line(
 
 // The line of an acceptance, whose copy is encoded for it.
 pub(crate) fn append_took(
-    alloc: Global,
     out: &mut Bytes,
     encoding: &mut Output,
     conn: u32,
@@ -121,16 +120,15 @@ pub(crate) fn append_took(
         TookCopy::Copy { tree } => {
             let message = table.message_at(call.method, call.number);
             encode_into(encoding, tree, table, message)?;
-            append_took_line(alloc, out, conn, call, encoding.as_slice())
+            append_took_line(out, conn, call, encoding.as_slice())
         }
-        TookCopy::Malformed { .. } => append_took_line(alloc, out, conn, call, &[]),
+        TookCopy::Malformed { .. } => append_took_line(out, conn, call, &[]),
     }
 }
 
 /// Appends the audit line of an acceptance, with its line feed, where the encoding of the call's copy is at hand, as
 /// for its frame. So no tree is encoded twice. The only error is `Memory`.
 pub fn append_took_line(
-    alloc: Global,
     out: &mut Bytes,
     conn: u32,
     call: &Taken,
@@ -149,7 +147,7 @@ pub fn append_took_line(
         call.count,
     ];
     begin(out, b"took", &numbers)?;
-    append_copy(alloc, out, &call.copy, encoding)?;
+    append_copy(out, &call.copy, encoding)?;
     out.push(b'\n')
 }
 
@@ -177,14 +175,14 @@ pub fn append_stands_line(
 
 /// Appends bytes in lower-case hexadecimal digits, or `-` where there is none, as a further word of a line. The only
 /// error is `Memory`.
-pub fn append_hex_word(alloc: Global, out: &mut Bytes, bytes: &[u8]) -> Result<(), Memory>
+pub fn append_hex_word(out: &mut Bytes, bytes: &[u8]) -> Result<(), Memory>
     ensures { OnOk result (out.new ≡ out.old ++ 32 ∷ hex_word bytes.now) }
 {
     out.push(b' ')?;
     if bytes.is_empty() {
         return out.push(b'-');
     }
-    out.append_hex(alloc, bytes)
+    out.append_hex(bytes)
 }
 
 // A name, as a further word.
@@ -278,18 +276,13 @@ fn append_note_by_words(
 }
 
 // The words that tell the copy of a call by its encoding, or why it has none.
-fn append_copy(
-    alloc: Global,
-    out: &mut Bytes,
-    copy: &TookCopy,
-    encoding: &[u8],
-) -> Result<(), Memory>
+fn append_copy(out: &mut Bytes, copy: &TookCopy, encoding: &[u8]) -> Result<(), Memory>
     ensures { OnOk result (out.new ≡ out.old ++ behind_spaces (told_copy encoding.now copy.now)) }
 {
     match copy {
         TookCopy::Copy { .. } => {
             out.append(b" copy")?;
-            append_hex_word(alloc, out, encoding)
+            append_hex_word(out, encoding)
         }
         TookCopy::Malformed {
             reason,

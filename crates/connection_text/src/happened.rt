@@ -8,13 +8,11 @@ ghost use Rattle.call_history.specs.declared.happening.Happening.{Happening as T
 use audit_text::append_record;
 use conn_core::Conn;
 use mrpc_table::{Bytes, Memory, Table};
-use std::alloc::Global;
 use wire_encode::Output;
 
 /// Appends the line of what happened on a connection at a place of its history, under the connection's table. A copy is
 /// encoded into `encoding`, whose room is used again. The only error is `Memory`.
 pub fn append_happened(
-    alloc: Global,
     out: &mut Bytes,
     encoding: &mut Output,
     calls: &Conn<'_>,
@@ -28,13 +26,5 @@ pub fn append_happened(
         → OnOk result (out.new ≡ out.old ++ audit_line table.now (record { conn = calls.now.conn; what = what })) }
 {
     calls.is_connection();
-    append_record(
-        alloc,
-        out,
-        encoding,
-        calls.number(),
-        calls.history(),
-        place,
-        table,
-    )
+    append_record(out, encoding, calls.number(), calls.history(), place, table)
 }

@@ -51,7 +51,7 @@ fn lines_of(
     ensures { (input : List ℕ) → PointsInto input finding.now.part → IfOk result (Explains input width) }
 {
     let mut out = Bytes::from_slice(alloc, front.as_slice())?;
-    finding.put(alloc, width, &mut out)?;
+    finding.put(width, &mut out)?;
     Ok(out)
 }
 

@@ -8,7 +8,8 @@ use crate::line_forms::line_form;
 use crate::line_reasons::reason_sentence;
 use crate::script_words_at_fault::{WordAtFault, word_at_fault};
 use findings::{Finding, Row, Sentence, TextLine, text_or};
-use mrpc_table::{Memory, cut, is_word};
+use mrpc_table::{Memory, is_word};
+use script_words::first_word;
 use std::alloc::Global;
 
 // What is missing at the end of a text, by the reason.
@@ -141,9 +142,9 @@ fn say_reason(
     match found {
         Some(word) => word.say(line, sentence)?,
         None if is_of_form(reason) => return say_form(line, reason, format, sentence),
-        None => sentence.say(reason_sentence(reason, first_word(line.bytes)).as_bytes())?,
+        None => sentence.say(reason_sentence(reason, first_word(line.bytes).0).as_bytes())?,
     }
-    match line_form(first_word(line.bytes), format) {
+    match line_form(first_word(line.bytes).0, format) {
         Some(form) => sentence.say_quoted(b", in ", form.as_bytes()),
         None => Ok(()),
     }
@@ -161,7 +162,7 @@ fn say_form(
     format: Format,
     sentence: &mut Sentence,
 ) -> Result<(), Memory> {
-    let word = first_word(line.bytes);
+    let word = first_word(line.bytes).0;
     match line_form(word, format) {
         Some(form) => {
             sentence.say_quoted(b"expected ", form.as_bytes())?;
@@ -195,11 +196,4 @@ fn say_end(line: &TextLine<'_>, sentence: &mut Sentence) -> Result<(), Memory> {
         return sentence.say(b"; no line feed stands behind the line");
     }
     Ok(())
-}
-
-fn first_word(line: &[u8]) -> &[u8] {
-    match cut(line, b' ') {
-        Some((word, _)) => word,
-        None => line,
-    }
 }

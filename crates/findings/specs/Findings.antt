@@ -1,4 +1,4 @@
--- The code's own: where a finding points.
+-- Where a finding points.
 use Rattle.std.specs.Prelude.{ℕ, List, Option, IfSome}
 use Rattle.findings.specs.Said.{IsAtFault, IsTextOf}
 use Rattle.findings.specs.declared.part.Part.{Part}

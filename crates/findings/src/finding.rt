@@ -7,7 +7,6 @@ ghost use Rattle.findings.specs.Findings.{PointsInto};
 use crate::part::Part;
 use crate::sentence::Sentence;
 use mrpc_table::{Bytes, Memory};
-use std::alloc::Global;
 
 /// What stands against an input: in which words, and where, if that is known.
 #[derive(Drop)]
@@ -38,13 +37,13 @@ impl<'a> Finding<'a> {
     }
 
     /// Appends the sentence, and below it the line of the place with a mark.
-    pub fn put(&self, alloc: Global, width: usize, out: &mut Bytes) -> Result<(), Memory>
+    pub fn put(&self, width: usize, out: &mut Bytes) -> Result<(), Memory>
         ensures { (input : List ℕ) → PointsInto input self.now.part → OnOk result ((shown : List ℕ)
             × Says input width shown × (out.new ≡ out.old ++ shown)) }
     {
         match &self.part {
             None => put_line(self.sentence.as_slice(), out),
-            Some(part) => part.put(alloc, self.sentence.as_slice(), width, out),
+            Some(part) => part.put(self.sentence.as_slice(), width, out),
         }
     }
 }

@@ -5,7 +5,6 @@ ghost use Rattle.line_mark.specs.Pointing.{IsPointed};
 
 use line_mark::point;
 use mrpc_table::{Bytes, Memory};
-use std::alloc::Global;
 
 /// A part of a text.
 #[derive(Clone, Copy)]
@@ -34,16 +33,10 @@ impl<'a> Part<'a> {
     }
 
     /// Appends a sentence with the place, and below it the line of the place with a mark.
-    pub fn put(
-        &self,
-        alloc: Global,
-        sentence: &[u8],
-        width: usize,
-        out: &mut Bytes,
-    ) -> Result<(), Memory>
+    pub fn put(&self, sentence: &[u8], width: usize, out: &mut Bytes) -> Result<(), Memory>
         ensures { OnOk result ((shown : List ℕ) × IsPointed self.now.text.now self.now.start self.now.end width
             sentence.now shown × (out.new ≡ out.old ++ shown)) }
     {
-        point(alloc, self.text, self.start, self.end, sentence, width, out)
+        point(self.text, self.start, self.end, sentence, width, out)
     }
 }

@@ -7,12 +7,10 @@ ghost use Rattle.line_mark.specs.Pointing.{is_legible, legible, under, part, hea
 
 use crate::place::LineAt;
 use mrpc_table::{Bytes, Memory};
-use std::alloc::Global;
 
 /// Appends `LINE:COLUMN: SENTENCE`, and below that the line of the text up to `width` of its bytes, and below that a
 /// mark under each byte of it from one place up to another: under the first at the least.
 pub fn point(
-    alloc: Global,
     text: &[u8],
     at: usize,
     end: usize,
@@ -29,7 +27,7 @@ pub fn point(
     let window = Window::of(line.start, line.end, at, end, width);
     let is_utf8 = is_utf8(&text[window.from..window.to]);
     put_head(line.number, at - line.start + 1, sentence, out)?;
-    put_window(alloc, text, at, &window, is_utf8, out)
+    put_window(text, at, &window, is_utf8, out)
 }
 
 // A part of a line that is shown.
@@ -77,7 +75,6 @@ fn put_head(line: usize, column: usize, sentence: &[u8], out: &mut Bytes) -> Res
 
 // Appends what is shown, and the marks below it.
 fn put_window(
-    alloc: Global,
     text: &[u8],
     at: usize,
     window: &Window,
@@ -88,7 +85,7 @@ fn put_window(
     requires within { window.now.to ≤ length text.now }
     ensures { OnOk result (out.new ≡ out.old ++ marked text.now is_utf8 window.now.from at window.now.stop window.now.to) }
 {
-    put_legible(alloc, &text[window.from..window.to], is_utf8, out)?;
+    put_legible(&text[window.from..window.to], is_utf8, out)?;
     out.append(b"\n")?;
     put_under(b' ', &text[window.from..at], is_utf8, out)?;
     out.append(b"^")?;
@@ -119,21 +116,16 @@ fn is_legible(byte: u8, is_utf8: bool) -> bool
 }
 
 /// Appends bytes as they are shown.
-pub fn put_legible(
-    alloc: Global,
-    bytes: &[u8],
-    is_utf8: bool,
-    out: &mut Bytes,
-) -> Result<(), Memory>
+pub fn put_legible(bytes: &[u8], is_utf8: bool, out: &mut Bytes) -> Result<(), Memory>
     ensures { OnOk result (out.new ≡ out.old ++ flat_map (legible is_utf8) bytes.now) }
 {
     for byte in bytes {
-        put_byte(alloc, *byte, is_utf8, out)?;
+        put_byte(*byte, is_utf8, out)?;
     }
     Ok(())
 }
 
-fn put_byte(alloc: Global, byte: u8, is_utf8: bool, out: &mut Bytes) -> Result<(), Memory>
+fn put_byte(byte: u8, is_utf8: bool, out: &mut Bytes) -> Result<(), Memory>
     ensures { OnOk result (out.new ≡ out.old ++ legible is_utf8 byte) }
 {
     if is_legible(byte, is_utf8) {
@@ -143,7 +135,7 @@ fn put_byte(alloc: Global, byte: u8, is_utf8: bool, out: &mut Bytes) -> Result<(
         return out.push(b' ');
     }
     out.append(b"\\x")?;
-    out.append_hex(alloc, &[byte])
+    out.append_hex(&[byte])
 }
 
 // Appends the mark for each column that the bytes take.

@@ -91,8 +91,8 @@ impl<T> Sequence<T> {
         self.items.is_empty()
     }
 
-    /// Appends an item. Without memory the list stays, and the item is dropped.
     // Inlined, since a call would move the item once more.
+    /// Appends an item. Without memory the list stays, and the item is dropped.
     #[inline(always)]
     pub fn push(&mut self, item: T) -> Result<(), Memory>
     where
@@ -161,7 +161,7 @@ impl Sequence<u8> {
     }
 
     /// Appends bytes in lower-case hexadecimal digits, two for each byte. Without memory the list stays.
-    pub fn append_hex(&mut self, alloc: Global, bytes: &[u8]) -> Result<(), Memory>
+    pub fn append_hex(&mut self, bytes: &[u8]) -> Result<(), Memory>
         ensures ok { OnOk result (self.new ≡ self.old ++ encode_lower bytes.now) }
         ensures err { OnErr result (self.new ≡ self.old) }
     {

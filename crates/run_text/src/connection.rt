@@ -23,7 +23,7 @@ pub fn append_history(
 {
     let mut encoding = Output::new(alloc)?;
     for place in 0..calls.history().len() {
-        append_happened(alloc, out, &mut encoding, calls, place, table)?;
+        append_happened(out, &mut encoding, calls, place, table)?;
     }
     Ok(())
 }

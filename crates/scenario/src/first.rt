@@ -1,6 +1,6 @@
 //! The first of several reasons.
 
-ghost use Rattle.std.specs.Prelude.{◌≡◌};
+ghost use Rattle.std.specs.Prelude.{◌≡◌, Some};
 ghost use Rattle.scenario.specs.Reasons.{earlier, of_line, of_rule, reason_if};
 
 use crate::fault::ScenarioReason;
@@ -52,5 +52,21 @@ pub fn of_rule(reason: RuleReason) -> ScenarioReason
         RuleReason::Known => ScenarioReason::Known,
         RuleReason::Path => ScenarioReason::Path,
         RuleReason::Default => ScenarioReason::Default,
+    }
+}
+
+/// The first of a reason, where there is one, and another.
+pub fn earliest(first: Option<ScenarioReason>, reason: ScenarioReason) -> ScenarioReason
+    ensures { earlier first (Some reason) ≡ Some result }
+{
+    match first {
+        None => reason,
+        Some(first) => {
+            if first.order() <= reason.order() {
+                first
+            } else {
+                reason
+            }
+        }
     }
 }

@@ -15,7 +15,7 @@ mod schema;
 mod tenant;
 
 pub use fault::{Entry, ScenarioFault, ScenarioReason};
-pub use first::{earlier, of_line, of_rule, reason_if};
+pub use first::{earlier, earliest, of_line, of_rule, reason_if};
 pub use form::{Kind, RoleWord};
 pub use schema::table_in;
 pub use tenant::tenant_in;

@@ -7,7 +7,8 @@ use Rattle.std.specs.List.{onto_first}
 use Rattle.std.proofs.lemmas.List.{drop_all, drop_more}
 use Rattle.mrpc_table.specs.Lines.{words_of}
 use Rattle.script_words.specs.declared.sort.Sort.{Sort}
-use Rattle.scenario_lines.specs.Judging.{is_no_name, lacks_name, words_in}
+use Rattle.script_words.specs.Rests.{words_in}
+use Rattle.scenario_lines.specs.Judging.{is_no_name, lacks_name}
 
 -- a line has at least one word
 has_word : (text : List ℕ) → (w : List ℕ) × (ws : List (List ℕ)) × (words_of text ≡ w ∷ ws)

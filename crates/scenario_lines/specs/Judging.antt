@@ -1,7 +1,5 @@
--- The code's own: the words that are left of a line, and whether one that is to be a name is none.
-use Rattle.std.specs.Prelude.{ℕ, Bool, false, ◌&&◌, ◌||◌, not, if◌then◌else◌, List, [], ◌∷◌, Option, Some, None}
-use Rattle.std.specs.Borrow.{Bor}
-use Rattle.mrpc_table.specs.Lines.{words_of}
+-- The code's own: whether a word of a line that is to be a name is none.
+use Rattle.std.specs.Prelude.{ℕ, Bool, false, ◌&&◌, ◌||◌, not, if◌then◌else◌, List, [], ◌∷◌}
 use Rattle.mrpc_table.specs.Names.{is_name_form, is_short}
 use Rattle.script_words.specs.declared.fault.ScriptReason.{ScriptReason}
 use Rattle.script_words.specs.declared.fault.ScriptReason.TheVariants as script
@@ -9,10 +7,6 @@ use Rattle.script_words.specs.declared.sort.Sort.{Sort}
 use Rattle.script_words.specs.declared.sort.Sort.TheVariants as sort
 use Rattle.scenario_lines.specs.declared.reason.LineReason.{LineReason}
 use Rattle.scenario_lines.specs.declared.reason.LineReason.TheVariants.{Number, Name, Word}
-
-abbrev pub words_in : Option (Bor (List ℕ)) → List (List ℕ)
-words_in None = []
-words_in (Some text) = words_of text.now
 
 -- the word has to be a name, and is none
 abbrev pub is_no_name : Sort → List ℕ → Bool

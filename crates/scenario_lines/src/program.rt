@@ -9,10 +9,9 @@ ghost use Rattle.scenario_lines.specs.Reading.{HasRead, Takes, added, earlier, f
 use crate::form::ProgramRole;
 use crate::program_line::read_line;
 use crate::reason::LineReason;
-use crate::words::first_word;
 use app_program::{MAX_LINES, MAX_REQUEST_STORES, MAX_STORES, Program, ProgramLine};
 use mrpc_table::{Memory, is_word};
-use script_words::one_judgement;
+use script_words::{first_word, one_judgement};
 use std::alloc::Global;
 
 /// What was read of a program so far: the lines that say something, and the first reason against the others.

@@ -10,10 +10,10 @@ ghost use Rattle.scenario_lines.specs.Reasons.{IsFirst};
 
 use crate::form::{LineForm, ProgramRole};
 use crate::reason::LineReason;
-use crate::words::{first_word, judge_words};
+use crate::words::judge_words;
 use app_program::ProgramLine;
 use mrpc_table::Decimal;
-use script_words::{Said, number_at, one_judgement, unbounded_at};
+use script_words::{Said, first_word, number_at, one_judgement, unbounded_at};
 
 // A place of a heap that has so many words.
 fn place_in(heap: u32, place: Decimal) -> Option<u32>

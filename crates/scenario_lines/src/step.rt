@@ -7,9 +7,9 @@ ghost use Rattle.scenario_lines.specs.Steps.{FormTells, StepAgainst, StepSays};
 
 use crate::form::StepForm;
 use crate::reason::LineReason;
-use crate::words::{first_word, judge_words};
+use crate::words::judge_words;
 use mrpc_table::Decimal;
-use script_words::{Said, name_at, number_at, unbounded_at};
+use script_words::{Said, first_word, name_at, number_at, unbounded_at};
 
 /// What a line of an operator says, with its names as they stand in the text. A step comes once the connection has
 /// taken `count` calls.

@@ -1,29 +1,17 @@
 //! The words of a line, judged in the order of [`LineReason`].
 
-ghost use Rattle.std.specs.Prelude.{◌≡◌, ◌∷◌, ◌≤◌, length, false, MatchResult};
+ghost use Rattle.std.specs.Prelude.{◌≡◌, ◌≤◌, length, false, MatchResult};
 ghost use Rattle.mrpc_table.specs.Lines.{words_of};
 ghost use Rattle.script_words.specs.Lines.{AreSaid};
 ghost use Rattle.script_words.specs.Meanings.{meanings_of};
-ghost use Rattle.scenario_lines.specs.Judging.{is_no_name, lacks_name, ordered, words_in};
+ghost use Rattle.script_words.specs.Rests.{words_in};
+ghost use Rattle.scenario_lines.specs.Judging.{is_no_name, lacks_name, ordered};
 ghost use Rattle.scenario_lines.specs.Lines.{WordsAgainst};
 ghost use Rattle.scenario_lines.specs.Reasons.{IsFirst};
 
 use crate::reason::LineReason;
-use mrpc_table::{cut, is_name_form, is_short};
-use script_words::{Judged, ScriptReason, Sort, judge};
-
-/// What is left of a line behind some of its words: the words behind a space, or nothing.
-pub type Rest<'a> = Option<&'a [u8]>;
-
-/// The first word, and what is left behind it.
-pub fn first_word(text: &[u8]) -> (&[u8], Rest<'_>)
-    ensures { words_of text.now ≡ result.0.now ∷ words_in result.1 }
-{
-    match cut(text, b' ') {
-        Some((word, behind)) => (word, Some(behind)),
-        None => (text, None),
-    }
-}
+use mrpc_table::{is_name_form, is_short};
+use script_words::{Judged, ScriptReason, Sort, first_word, judge};
 
 // Whether a word that has to be a name is none.
 fn is_no_name(sort: Sort, word: &[u8]) -> bool

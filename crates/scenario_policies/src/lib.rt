@@ -17,7 +17,7 @@ mod policies;
 mod tenants;
 
 pub use laws::{declared_is_sound, one_declaration, one_table, own_is_sound, same_names};
-pub use names::names_reason;
+pub use names::{lacks_policy, names_reason};
 pub use own::read_own_policies;
 pub use policies::read_policies;
 pub use tenants::read_tenants;

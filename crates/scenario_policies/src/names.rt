@@ -1,11 +1,11 @@
 //! Names of policies, and the first of several reasons.
 
-ghost use Rattle.std.specs.Prelude.{◌≡◌, List, Some, is_none, map};
+ghost use Rattle.std.specs.Prelude.{◌≡◌, List, is_none, map};
 ghost use Rattle.std.specs.List.{list_any};
 ghost use Rattle.policy_blocks.specs.Declarations.{policy_names, policy_place};
 ghost use Rattle.toml.specs.Data.{Members};
 ghost use Rattle.scenario.specs.Policies.{names_of};
-ghost use Rattle.scenario.specs.Reasons.{IsSoFar, earlier};
+ghost use Rattle.scenario.specs.Reasons.{IsSoFar};
 ghost use Rattle.scenario_policies.specs.Firsts.{is_no_name};
 ghost use Rattle.scenario_policies.specs.Owning.{NamesAgainst};
 
@@ -20,22 +20,6 @@ pub(crate) fn is_no_name(word: &[u8]) -> bool
     !is_name(word)
 }
 
-/// The first of a reason so far and one more.
-pub(crate) fn earliest(first: Option<ScenarioReason>, reason: ScenarioReason) -> ScenarioReason
-    ensures { earlier first (Some reason) ≡ Some result }
-{
-    match first {
-        None => reason,
-        Some(first) => {
-            if first.order() <= reason.order() {
-                first
-            } else {
-                reason
-            }
-        }
-    }
-}
-
 // Whether one of the words is no name.
 fn lacks_form(names: &[&[u8]]) -> bool
     ensures { result ≡ list_any (λ n. is_no_name n.now) names.now }
@@ -43,8 +27,8 @@ fn lacks_form(names: &[&[u8]]) -> bool
     names.iter().any(|name| is_no_name(name))
 }
 
-// Whether one of the names is that of no policy.
-fn lacks_policy(declared: &Declarations, names: &[&[u8]]) -> bool
+/// Whether one of the names is that of no policy.
+pub fn lacks_policy(declared: &Declarations, names: &[&[u8]]) -> bool
     ensures { result ≡ list_any (λ n. is_none (policy_place declared.now n.now)) names.now }
 {
     names.iter().any(|name| declared.policy(name).is_none())

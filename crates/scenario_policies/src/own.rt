@@ -18,12 +18,11 @@ ghost use Rattle.scenario_policies.specs.Owning.{AreOwn, NamedFails};
 
 use crate::laws::one_table;
 use crate::lines::{access_in, redact_in};
-use crate::names::earliest;
 use engine_core::Policy;
 use mrpc_table::{Memory, RuleReason, Sequence, Table as Schema};
 use policy_blocks::{Declarations, NamedPolicy};
 use run_plan::OwnPolicy;
-use scenario::{ScenarioReason, of_rule};
+use scenario::{ScenarioReason, earliest, of_rule};
 use std::alloc::Global;
 use toml::Table;
 

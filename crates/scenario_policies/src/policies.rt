@@ -19,13 +19,13 @@ ghost use Rattle.scenario_entries.specs.Entries.{AreFree, IsEntryRead, IsFaultIn
 ghost use Rattle.scenario_policies.specs.Firsts.{IsLined, head_first, quota_first, tenant_of};
 
 use crate::lines::lined_policy;
-use crate::names::{earliest, is_no_name};
+use crate::names::is_no_name;
 use engine_core::Policy;
 use mrpc_table::{Memory, Name, Table as Schema};
 use policy_blocks::{Declarations, Item, NamedPolicy};
 use policy_rate::Rate;
 use scenario::keys::{amount, burst, cap, has_policy_keys, holds, kind_of, per};
-use scenario::{Entry, Kind, ScenarioFault, ScenarioReason, earlier, of_rule, reason_if};
+use scenario::{Entry, Kind, ScenarioFault, ScenarioReason, earlier, earliest, of_rule, reason_if};
 use scenario_values::{are_within, word_at};
 use std::alloc::Global;
 use toml::Table;

@@ -10,10 +10,10 @@ use Rattle.scenario_entries.specs.declared.chain.Chain.{Chain}
 use Rattle.scenario_entries.specs.declared.link.Port.{Port}
 use Rattle.scenario_reader.specs.Joining.{AreJoined, IsApp, IsBegun, IsJoined}
 use Rattle.scenario_reader.specs.declared.above.Apps.{Apps}
-use Rattle.scenario_reader.specs.declared.above.Joined.{Joined}
+use Rattle.scenario_reader.specs.declared.above.JoinedApplication.{JoinedApplication}
 use Rattle.scenario_reader.proofs.Lists.{each_push}
 
-pub both_longer : (apps more : Apps) (j : Joined) → length apps.chains.items ≡ length apps.applications
+pub both_longer : (apps more : Apps) (j : JoinedApplication) → length apps.chains.items ≡ length apps.applications
     → more.applications ≡ apps.applications ++ j.app ∷ [] → more.chains.items ≡ apps.chains.items ++ j.chain ∷ []
     → length more.chains.items ≡ length more.applications
 both_longer apps more j same applications chains =
@@ -21,7 +21,7 @@ both_longer apps more j same applications chains =
     ∙ sym (ap (λ (xs : List Application). length xs) applications ∙ length-append apps.applications (j.app ∷ []))
 
 module _ (all : Members) (d : Declared) (entries : List Members) (ms : Members) where
-  pub joined_more : (apps more : Apps) (j : Joined) → AreJoined all d entries apps → IsJoined all d entries ms j
+  pub joined_more : (apps more : Apps) (j : JoinedApplication) → AreJoined all d entries apps → IsJoined all d entries ms j
       → more.ports.items ≡ apps.ports.items ++ j.port ∷ [] → more.applications ≡ apps.applications ++ j.app ∷ []
       → more.chains.items ≡ apps.chains.items ++ j.chain ∷ [] → AreJoined all d (entries ++ ms ∷ []) more
   joined_more apps more j so_far one ports applications chains = record {

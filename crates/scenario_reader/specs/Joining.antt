@@ -37,7 +37,7 @@ use Rattle.scenario_reader.specs.Above.{IsPart}
 use Rattle.scenario_reader.specs.Owning.{IsOwnOf, OwnFails}
 use Rattle.scenario_reader.specs.Walking.{IsWalkedTo}
 use Rattle.scenario_reader.specs.declared.above.Apps.{Apps}
-use Rattle.scenario_reader.specs.declared.above.Joined.{Joined}
+use Rattle.scenario_reader.specs.declared.above.JoinedApplication.{JoinedApplication}
 use Rattle.scenario_reader.specs.declared.application.Early.{Early}
 use Rattle.scenario_reader.specs.declared.application.Late.{Late}
 
@@ -146,7 +146,7 @@ pub record IsApp (all : Members) (d : Declared) (ms : Members) (app : Applicatio
   pub role : (r : RoleWord) → role_of ms ≡ Some r → SaysRole r (number_in heap ms) (program_of ms) said
   pub is_own : IsOwnOf all ms own
 
-pub record IsJoined (all : Members) (d : Declared) (before : List Members) (ms : Members) (j : Joined) : Type 0 where
+pub record IsJoined (all : Members) (d : Declared) (before : List Members) (ms : Members) (j : JoinedApplication) : Type 0 where
   pub port : IsPortOf ms j.port
   pub app : IsApp all d ms j.app
   pub chain : IsBegun d.policies ms j.chain.entries.items

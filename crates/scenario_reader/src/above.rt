@@ -22,7 +22,7 @@ pub struct Above<'a, 'o, 'e> {
 
 /// An application without a fault.
 #[derive(Drop)]
-pub struct Joined<'a> {
+pub struct JoinedApplication<'a> {
     pub port: Port,
     pub app: Application,
     /// The chain behind its attachments.

@@ -20,7 +20,7 @@ ghost use Rattle.scenario_reader.specs.Above.{IsAbove};
 ghost use Rattle.scenario_reader.specs.Joining.{AreJoined, HeadFails, IsDraft, IsEarlyRead, IsJoined, IsLateRead, IsRoleRead, NotEarly, is_on_end, judges_otherwise, reason_in};
 ghost use Rattle.scenario_reader.specs.Owning.{HasValidOwn, IsValidOwn};
 
-use crate::above::{Above, Apps, Joined};
+use crate::above::{Above, Apps, JoinedApplication};
 use crate::attaching::attach_all;
 use crate::names::{inbound_in, names_in, places_in};
 use crate::own::own_in;
@@ -29,7 +29,9 @@ use mrpc_table::{Memory, Sequence};
 use policy_blocks::Declarations;
 use run_plan::{Application, MAX_WORK, OwnSchema, Role};
 use scenario::keys::{conn, has_app_keys, heap, receive, ring, role_of, weight};
-use scenario::{Entry, RoleWord, ScenarioFault, ScenarioReason, earlier, of_line, reason_if};
+use scenario::{
+    Entry, RoleWord, ScenarioFault, ScenarioReason, earlier, earliest, of_line, reason_if,
+};
 use scenario_entries::{Chain, Port, read_program, submissions};
 use scenario_lines::ProgramRole;
 use scenario_policies::{names_reason, same_names};
@@ -89,22 +91,6 @@ fn number_of(entry: &Table) -> u64
     ensures { result ≡ number_in keys.conn (table_view entry.now) }
 {
     conn().number(entry)
-}
-
-/// The first of a reason, where there is one, and another.
-pub(crate) fn earliest(first: Option<ScenarioReason>, reason: ScenarioReason) -> ScenarioReason
-    ensures { earlier first (Some reason) ≡ Some result }
-{
-    match first {
-        None => reason,
-        Some(first) => {
-            if first.order() <= reason.order() {
-                first
-            } else {
-                reason
-            }
-        }
-    }
 }
 
 // Whether an application is on the connection.
@@ -330,7 +316,7 @@ fn read_app<'a>(
     ports: &[Port],
     submitted: u64,
     entry: &'a Table,
-) -> Result<Result<Joined<'a>, ScenarioReason>, Memory>
+) -> Result<Result<JoinedApplication<'a>, ScenarioReason>, Memory>
     requires long { length above.policies.now ≡ length above.declared.now.policies }
     requires from_one { 1 ≤ above.loads }
     requires few { above.loads ≤ 16384 }
@@ -363,7 +349,7 @@ fn read_app<'a>(
         conn: number_of(entry),
         role,
     };
-    Ok(Ok(Joined {
+    Ok(Ok(JoinedApplication {
         port,
         app,
         chain,
@@ -423,7 +409,7 @@ pub(crate) fn read_apps<'a>(
         number += 1;
         match read_app(alloc, above, apps.ports.as_slice(), submitted, entry)? {
             Ok(joined) => {
-                let Joined {
+                let JoinedApplication {
                     port,
                     app,
                     chain,

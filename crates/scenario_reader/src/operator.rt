@@ -1,10 +1,9 @@
 //! Operators.
 
-ghost use Rattle.std.specs.Prelude.{◌≡◌, ◌==◌, List, All, IfOk, MatchResult, false, true, is_none, length, map, position};
-ghost use Rattle.std.specs.List.{list_any};
+ghost use Rattle.std.specs.Prelude.{◌≡◌, ◌==◌, List, All, IfOk, MatchResult, false, true, length, map, position};
 ghost use Rattle.mrpc_table.specs.Valid.{AreDistinct};
 ghost use Rattle.mrpc_table.specs.declared.table.Table.{Table as TheTable};
-ghost use Rattle.policy_blocks.specs.Declarations.{policy_names, policy_place};
+ghost use Rattle.policy_blocks.specs.Declarations.{policy_names};
 ghost use Rattle.toml.specs.Data.{Members};
 ghost use Rattle.toml.specs.View.{table_view};
 ghost use Rattle.scenario.specs.Applications.{app_tables, conn_of, conns_of, policy_tables};
@@ -25,7 +24,6 @@ ghost use Rattle.scenario_reader.specs.Owning.{AreStepNames, HasValidOwn};
 ghost use Rattle.scenario_reader.specs.Stepping.{HasTold};
 
 use crate::above::{Above, Apps};
-use crate::application::earliest;
 use crate::own::step_names;
 use crate::steps::{Steps, read_steps};
 use crate::walk::{plan_steps, take_all};
@@ -34,21 +32,14 @@ use mrpc_table::{Memory, Sequence};
 use policy_blocks::Declarations;
 use run_plan::{Application, MAX_STEPS, Operator};
 use scenario::keys::{conn, has_operator_keys};
-use scenario::{Entry, ScenarioFault, ScenarioReason, earlier, reason_if};
+use scenario::{Entry, ScenarioFault, ScenarioReason, earlier, earliest, reason_if};
 use scenario_entries::Chain;
 use scenario_lines::StepText;
-use scenario_policies::{read_own_policies, same_names};
+use scenario_policies::{lacks_policy, read_own_policies, same_names};
 use scenario_values::texts_at;
 use script_words::one_judgement;
 use std::alloc::Global;
 use toml::Table;
-
-// Whether one of the names is that of no policy.
-fn lacks_policy(declared: &Declarations, names: &[&[u8]]) -> bool
-    ensures { result ≡ list_any (λ n. is_none (policy_place declared.now n.now)) names.now }
-{
-    names.iter().any(|name| declared.policy(name).is_none())
-}
 
 // Whether one of the operators is on the connection.
 fn has_operator(before: &[Operator], conn: u64) -> bool

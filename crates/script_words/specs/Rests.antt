@@ -1,4 +1,4 @@
--- The code's own: the words that are left of a line, and the first of some reasons.
+-- The words that are left of a line, and the first of some reasons.
 use Rattle.std.specs.Prelude.{ℕ, nat_le, if◌then◌else◌, List, [], Option, Some, None}
 use Rattle.std.specs.Borrow.{Bor}
 use Rattle.mrpc_table.specs.Lines.{words_of}

@@ -25,3 +25,4 @@ pub use keyword::Keyword;
 pub use laws::one_judgement;
 pub use said::{keyword_at, name_at, number_at, unbounded_at};
 pub use sort::{Said, Sort};
+pub use words::{Rest, first_word};

@@ -1,1 +1,1 @@
-mod ListLemmas
+pub mod ListLemmas

@@ -62,13 +62,14 @@ use Rattle.std.proofs.Common.{drop-cons}
 use Rattle.std.specs.List.{fold, cons_option}
 use Rattle.std.proofs.lemmas.Bool.{cases_lt}
 use Rattle.table_text.specs.Judged.{has_short_names, is_full}
-use Rattle.table_text.proofs.TableFacts.{has_part}
+use Rattle.table_lines.proofs.ListLemmas.{has_part}
 use Rattle.std.specs.List.{join_with_byte}
 use Rattle.std.specs.Prelude.{option_to_list}
 use Rattle.std.proofs.lemmas.List.Splits.{join_with_byte-slice_split}
 use Rattle.mrpc_table.specs.Text.{kind_text, label_text, field_line, enum_name}
 use Rattle.table_text.specs.Judged.{after}
-use Rattle.table_text.proofs.LastLemmas.{slice_get-map}
+use Rattle.std.proofs.lemmas.Option.{slice_get-map}
+use Rattle.table_text.proofs.TableCuts.{fed}
 use Rattle.table_text.proofs.DraftText.{flat_push}
 use Rattle.table_text.proofs.LineLemmas.{init_first, end_first, before_line, before_draft, here_is, take_drop, fold_push, bytes_push, get_end}
 
@@ -200,9 +201,6 @@ text_step t d bytes text small s none = taken (line_of text) refl none
         line_step t d bytes text (words_of text) l small s h (line_is text l e (in_range t (before d) bytes l h)) (text_is text)
 
 -- ---- all lines
-
-abbrev pub lf : List ℕ → List ℕ
-lf l = l ++ 10 ∷ []
 
 abbrev pub IsFaultless : List ℕ → Type 0
 IsFaultless text = (i : ℕ) → fault_at text i ≡ None
@@ -347,8 +345,8 @@ names_step t d bytes text none = taken (line_of text) refl none
 -- the first k lines
 record Walk (text : List ℕ) (k : ℕ) : Type 0 where
   sound : IsSound (types_of (whole_lines text)) (draft_of (types_of (whole_lines text)) (take k (whole_lines text)))
-  spelled : text_by (names_table (types_of (whole_lines text))) (table_of (draft_of (types_of (whole_lines text)) (take k (whole_lines text)))) ≡ flat_map lf (take k (whole_lines text))
-  long : length (flat_map lf (take k (whole_lines text))) ≡ bytes_of (take k (whole_lines text))
+  spelled : text_by (names_table (types_of (whole_lines text))) (table_of (draft_of (types_of (whole_lines text)) (take k (whole_lines text)))) ≡ flat_map fed (take k (whole_lines text))
+  long : length (flat_map fed (take k (whole_lines text))) ≡ bytes_of (take k (whole_lines text))
   enums : enum_names (draft_of (types_of (whole_lines text)) (take k (whole_lines text))) ≡ filter_map (behind (codes "enum ")) (take k (whole_lines text))
   messages : message_names (draft_of (types_of (whole_lines text)) (take k (whole_lines text))) ≡ filter_map (behind (codes "message ")) (take k (whole_lines text))
 
@@ -366,11 +364,11 @@ walk text (suc k) clean le =
     ap (draft_of t) front ∙ fold_push (λ d l. added_line t d (line_of l)) empty_draft (take k ls) line.0 in
     let s = text_step t d (bytes_of (take k ls) + length line.0 + 1) line.0 (is_small text clean) w.sound none in
     let n = names_step t d (bytes_of (take k ls) + length line.0 + 1) line.0 none in
-    let flat : flat_map lf (take (suc k) ls) ≡ flat_map lf (take k ls) ++ lf line.0 = ap (flat_map lf) front ∙ flat_push lf (take k ls) line.0 in
+    let flat : flat_map fed (take (suc k) ls) ≡ flat_map fed (take k ls) ++ fed line.0 = ap (flat_map fed) front ∙ flat_push fed (take k ls) line.0 in
     record {
       sound = subst (IsSound t) (sym drafted) s.sound;
-      spelled = ap (λ (e : Draft). text_by (names_table t) (table_of e)) drafted ∙ s.more ∙ ap (λ (x : List ℕ). x ++ lf line.0) w.spelled ∙ sym flat;
-      long = omega (arith, ap length flat, length-append (flat_map lf (take k ls)) (lf line.0), length-append line.0 (10 ∷ []), w.long, bytes_push (take k ls) line.0, ap bytes_of front);
+      spelled = ap (λ (e : Draft). text_by (names_table t) (table_of e)) drafted ∙ s.more ∙ ap (λ (x : List ℕ). x ++ fed line.0) w.spelled ∙ sym flat;
+      long = omega (arith, ap length flat, length-append (flat_map fed (take k ls)) (fed line.0), length-append line.0 (10 ∷ []), w.long, bytes_push (take k ls) line.0, ap bytes_of front);
       enums = ap enum_names drafted ∙ n.enums
           ∙ ap (λ (x : List (List ℕ)). x ++ option_to_list (behind (codes "enum ") line.0)) w.enums
           ∙ sym (filter_push (behind (codes "enum ")) (take k ls) line.0) ∙ ap (filter_map (behind (codes "enum ")))
@@ -383,21 +381,21 @@ walk text (suc k) clean le =
 
 -- ---- the text of the lines, and the names of the table that they make
 
-joined_lines : (ps : List (List ℕ)) → ps ≢ [] → join_with_byte 10 ps ≡ flat_map lf (take (length ps - 1) ps) ++ unwrap_or (slice_get ps (length ps - 1)) []
+joined_lines : (ps : List (List ℕ)) → ps ≢ [] → join_with_byte 10 ps ≡ flat_map fed (take (length ps - 1) ps) ++ unwrap_or (slice_get ps (length ps - 1)) []
 joined_lines [] some = absurd (some refl)
 joined_lines (p ∷ []) some = refl
 joined_lines (p ∷ q ∷ qs) some =
     let rest = joined_lines (q ∷ qs) (λ e. cc) in
-    let lines : flat_map lf (take (length (p ∷ q ∷ qs) - 1) (p ∷ q ∷ qs)) ≡ lf p ++ flat_map lf (take (length (q ∷ qs) - 1) (q ∷ qs)) = ap (flat_map lf) (init_first p q qs) in
+    let lines : flat_map fed (take (length (p ∷ q ∷ qs) - 1) (p ∷ q ∷ qs)) ≡ fed p ++ flat_map fed (take (length (q ∷ qs) - 1) (q ∷ qs)) = ap (flat_map fed) (init_first p q qs) in
     let last = ap (λ (o : Option (List ℕ)). unwrap_or o []) (end_first p q qs) in
     ap (λ (x : List ℕ). p ++ 10 ∷ x) rest
-    ∙ sym (append_assoc p (10 ∷ []) (flat_map lf (take (length (q ∷ qs) - 1) (q ∷ qs))
+    ∙ sym (append_assoc p (10 ∷ []) (flat_map fed (take (length (q ∷ qs) - 1) (q ∷ qs))
     ++ unwrap_or (slice_get (q ∷ qs) (length (q ∷ qs) - 1)) []))
-    ∙ sym (append_assoc (lf p) (flat_map lf (take (length (q ∷ qs) - 1) (q ∷ qs))) (unwrap_or (slice_get (q ∷ qs) (length (q ∷ qs) - 1)) []))
+    ∙ sym (append_assoc (fed p) (flat_map fed (take (length (q ∷ qs) - 1) (q ∷ qs))) (unwrap_or (slice_get (q ∷ qs) (length (q ∷ qs) - 1)) []))
     ∙ ap (λ (x : List ℕ). x ++ unwrap_or (slice_get (q ∷ qs) (length (q ∷ qs) - 1)) []) (sym lines)
-    ∙ ap (λ (x : List ℕ). flat_map lf (take (length (p ∷ q ∷ qs) - 1) (p ∷ q ∷ qs)) ++ x) (sym last)
+    ∙ ap (λ (x : List ℕ). flat_map fed (take (length (p ∷ q ∷ qs) - 1) (p ∷ q ∷ qs)) ++ x) (sym last)
 
-pub text_lines : (text : List ℕ) → text ≡ flat_map lf (whole_lines text) ++ rest_of text
+pub text_lines : (text : List ℕ) → text ≡ flat_map fed (whole_lines text) ++ rest_of text
 text_lines text =
     let part = has_part 10 text in
     sym (join_with_byte-slice_split 10 text) ∙ joined_lines (pieces_of text) (λ e. let clash = sym part.2 ∙ e in cc)
@@ -589,11 +587,11 @@ accepted text clean =
       messages = same_messages T N (messages ∙ t_messages ∙ sym (map_named_messages t.messages));
       enums = same_enums T N (enums ∙ t_enums ∙ sym (map_named_enums t.enums));
     } in
-    let spelled : table_text T ≡ flat_map lf ls =
+    let spelled : table_text T ≡ flat_map fed ls =
     same_text T N T names ∙ ap (λ (xs : List (List ℕ)). text_by N (table_of (draft_of t xs))) (sym whole)
-    ∙ w.spelled ∙ ap (flat_map lf) whole in
-    let text_is : text ≡ flat_map lf ls = text_lines text ∙ ap (λ (x : List ℕ). flat_map lf ls ++ x) end.gone ∙ append-nil (flat_map lf ls) in
-    let long : length (flat_map lf ls) ≡ bytes_of ls = ap (λ (xs : List (List ℕ)). length (flat_map lf xs)) (sym whole) ∙ w.long ∙ ap bytes_of whole in (
+    ∙ w.spelled ∙ ap (flat_map fed) whole in
+    let text_is : text ≡ flat_map fed ls = text_lines text ∙ ap (λ (x : List ℕ). flat_map fed ls ++ x) end.gone ∙ append-nil (flat_map fed ls) in
+    let long : length (flat_map fed ls) ≡ bytes_of ls = ap (λ (xs : List (List ℕ)). length (flat_map fed xs)) (sym whole) ∙ w.long ∙ ap bytes_of whole in (
       record {
         few_messages = omega (arith, ap length messages, length-map T.messages (λ (m : TheMessage). m.name), s.few_messages);
         few_enums = omega (arith, ap length enums, length-map T.enums (λ (c : Choices). c.name), s.few_enums);

@@ -12,7 +12,7 @@ use Rattle.mrpc_table.specs.declared.table.Table.{Table}
 use Rattle.table_text.specs.declared.fault.TableReason.{TableReason}
 use Rattle.table_text.specs.declared.fault.TableReason.TheVariants.{Syntax, Number, Duplicate, UnknownType, MapKey, Limit}
 use Rattle.table_lines.specs.declared.line.Line.{Line}
-use Rattle.table_text.proofs.LastLemmas.{slice_get-map}
+use Rattle.std.proofs.lemmas.Option.{slice_get-map}
 use Rattle.table_text.proofs.PlaceLemmas.{same_bytes}
 
 pub record IsClean (t : Types) (b : Before) (bytes : ℕ) (l : Line) : Type 0 where

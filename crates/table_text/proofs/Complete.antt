@@ -12,7 +12,7 @@ use Rattle.std.proofs.lemmas.Bool.{ltb-true}
 use Rattle.mrpc_table.specs.Names.{is_short, is_short_full}
 use Rattle.mrpc_table.specs.declared.limits.TheConstants.{MAX_FIELD_NUMBER, FIRST_RESERVED_NUMBER, LAST_RESERVED_NUMBER}
 use Rattle.mrpc_table.specs.Valid.{Ascends, AreDistinct, IsBelow, IsFieldNumber, OneofsFollow, IsField, IsMessage, IsMethod}
-use Rattle.table_text.proofs.TableFacts.{both_left, both_right}
+use Rattle.table_text.proofs.TableFacts.{both as both_hold, both_left, both_right}
 use Rattle.table_text.specs.Judged.{fields, field_falls, is_field_below, repeats_number, Types, Before, is_among}
 use Rattle.table_text.specs.Judged.{is_empty, falls, last_of, lacks_value, lacks_zero}
 use Rattle.table_text.specs.Judged.{has_field_number, is_index, clashes}
@@ -55,7 +55,7 @@ use Rattle.table_text.specs.Judged.{line_fault, end_fault, fault_behind, types_o
 use Rattle.table_text.specs.Drafts.{added_line, draft_of, empty_draft, table_in}
 use Rattle.table_text.specs.declared.fault.TableReason.{TableReason}
 use Rattle.std.proofs.lemmas.Bool.{eq-eqb}
-use Rattle.table_text.proofs.OrderLemmas.{contains_nothing, contains_cases}
+use Rattle.table_text.proofs.OrderLemmas.{contains_nothing, contains_cases, or_true}
 use Rattle.table_text.proofs.Clean.{is_clean}
 use Rattle.table_text.proofs.SpellLemmas.{line_is, text_is}
 use Rattle.std.specs.List.{fold, cons_option}
@@ -63,7 +63,8 @@ use Rattle.std.proofs.lemmas.Bool.{cases_lt}
 use Rattle.std.specs.Prelude.{option_to_list}
 use Rattle.mrpc_table.specs.Text.{kind_text, label_text}
 use Rattle.table_text.proofs.LineLemmas.{before_draft, here_is, fold_push, bytes_push, get_end}
-use Rattle.table_text.proofs.Accepts.{lf, IsFaultless, pair_of, key_in}
+use Rattle.table_text.proofs.TableCuts.{fed}
+use Rattle.table_text.proofs.Accepts.{IsFaultless, pair_of, key_in}
 use Rattle.std.proofs.lemmas.List.{map-append}
 use Rattle.std.proofs.lemmas.List.Elements.{All-contains, Contains-append_right}
 use Rattle.std.proofs.lemmas.Bool.{le-ltb, le-leb, lt-ltb, ne_eqb}
@@ -80,7 +81,7 @@ use Rattle.table_text.proofs.SpellLemmas.{AllDark, dark, all-append, line_read, 
 use Rattle.table_text.proofs.CompleteKinds.{enum_texts, field_text, message_texts, method_text, table_lines}
 use Rattle.table_text.proofs.CompleteKinds.{lines_text, bytes_from, Runs, bytes_append, bytes_rise, runs_append}
 use Rattle.table_text.proofs.CompleteKinds.{runs_line, no_more_bytes, room_left, Stand, stand_enums, stand_messages}
-use Rattle.table_text.proofs.CompleteKinds.{stand_methods, or_true, front_names, enums_run, TypesOf, kind_word}
+use Rattle.table_text.proofs.CompleteKinds.{stand_methods, front_names, enums_run, TypesOf, kind_word}
 use Rattle.table_text.proofs.CompleteKinds.{message_at, kind_word_is, message_placed, kind_word_of, label_word}
 use Rattle.table_text.proofs.CompleteKinds.{follow_ge, label_runs, no_clash}
 
@@ -123,10 +124,6 @@ all_three : (a b c : Bool) → a ≡ true → b ≡ true → c ≡ true → ((a 
 all_three true true c e f g = g
 all_three true false c e f g = absurd cc
 all_three false b c e f g = absurd cc
-
-all_two : (a b : Bool) → a ≡ true → b ≡ true → (a && b) ≡ true
-all_two true b e f = f
-all_two false b e f = absurd cc
 
 fields_run : (t : Types) (T : Table) (m : TheMessage) (d : Draft) (b : ℕ) (fs gs : List TheField) (met : ℕ)
     → IsValid T → TypesOf t T → IsMessage T m → m.fields ≡ fs ++ gs → met ≤ length m.oneofs
@@ -353,7 +350,7 @@ methods_run t T d b i done (m ∷ rest) valid is at split s few =
     (λ h. distinct_split (map pair_of done) (pair_of m) (map pair_of rest) apart
     (keys_apart T done m (all_front (IsMethod T) done (m ∷ rest) all) ok h)) in
     let shorts : (((is_short_full m.service && is_short m.name) && is_short_full (message_name T m.input)) && is_short_full (message_name T m.output)) ≡ true =
-    all_two ((is_short_full m.service && is_short m.name) && is_short_full (message_name T m.input))
+    both_hold ((is_short_full m.service && is_short m.name) && is_short_full (message_name T m.input))
     (is_short_full (message_name T m.output))
     (all_three (is_short_full m.service) (is_short m.name) (is_short_full (message_name T m.input))
     ok.service.short (le-leb (length m.name) 64 ok.name.short) input_at.full.short) output_at.full.short in
@@ -422,18 +419,18 @@ take_front : {X : Type 0} (xs ys : List X) → take (length xs) (xs ++ ys) ≡ x
 take_front [] ys = refl
 take_front (x ∷ xs) ys = ap (λ zs. x ∷ zs) (take_front xs ys)
 
-pieces_joined : (ls : List (List ℕ)) → AllLines ls → pieces_of (flat_map lf ls) ≡ ls ++ [] ∷ []
+pieces_joined : (ls : List (List ℕ)) → AllLines ls → pieces_of (flat_map fed ls) ≡ ls ++ [] ∷ []
 pieces_joined [] h = refl
 pieces_joined (l ∷ ls) h =
-    let regroup : lf l ++ flat_map lf ls ≡ l ++ 10 ∷ flat_map lf ls = append_assoc l (10 ∷ []) (flat_map lf ls) in
-    ap pieces_of regroup ∙ split_line l (flat_map lf ls) h.0 ∙ ap (λ (x : List (List ℕ)). l ∷ x) (pieces_joined ls h.1)
+    let regroup : fed l ++ flat_map fed ls ≡ l ++ 10 ∷ flat_map fed ls = append_assoc l (10 ∷ []) (flat_map fed ls) in
+    ap pieces_of regroup ∙ split_line l (flat_map fed ls) h.0 ∙ ap (λ (x : List (List ℕ)). l ∷ x) (pieces_joined ls h.1)
 
-whole_joined : (ls : List (List ℕ)) → AllLines ls → whole_lines (flat_map lf ls) ≡ ls
+whole_joined : (ls : List (List ℕ)) → AllLines ls → whole_lines (flat_map fed ls) ≡ ls
 whole_joined ls h =
     let n : length (ls ++ [] ∷ []) - 1 ≡ length ls = omega (arith, length-append ls ([] ∷ [])) in
     ap (λ (ps : List (List ℕ)). take (length ps - 1) ps) (pieces_joined ls h) ∙ ap (λ (k : ℕ). take k (ls ++ [] ∷ [])) n ∙ take_front ls ([] ∷ [])
 
-rest_joined : (ls : List (List ℕ)) → AllLines ls → rest_of (flat_map lf ls) ≡ []
+rest_joined : (ls : List (List ℕ)) → AllLines ls → rest_of (flat_map fed ls) ≡ []
 rest_joined ls h =
     let n : length (ls ++ [] ∷ []) - 1 ≡ length ls = omega (arith, length-append ls ([] ∷ [])) in
     ap (λ (ps : List (List ℕ)). unwrap_or (slice_get ps (length ps - 1)) []) (pieces_joined ls h)
@@ -493,9 +490,9 @@ runs_draft : (t : Types) (d e : Draft) (b : ℕ) (ls : List (List ℕ)) → Runs
 runs_draft t d e b [] r = r
 runs_draft t d e b (l ∷ ls) r = runs_draft t (added_line t d (line_of l)) e (b + length l + 1) ls r.1
 
-bytes_long : (b : ℕ) (ls : List (List ℕ)) → bytes_from b ls ≡ b + length (flat_map lf ls)
+bytes_long : (b : ℕ) (ls : List (List ℕ)) → bytes_from b ls ≡ b + length (flat_map fed ls)
 bytes_long b [] = omega arith
-bytes_long b (l ∷ ls) = omega (arith, bytes_long (b + length l + 1) ls, length-append (lf l) (flat_map lf ls), length-append l (10 ∷ []))
+bytes_long b (l ∷ ls) = omega (arith, bytes_long (b + length l + 1) ls, length-append (fed l) (flat_map fed ls), length-append l (10 ∷ []))
 
 drop_front : {X : Type 0} (xs ys : List X) → drop (length xs) (xs ++ ys) ≡ ys
 drop_front [] ys = refl
@@ -536,7 +533,7 @@ table_run T valid =
     let es = flat_map enum_texts T.enums in
     let ms = flat_map (message_texts T) T.messages in
     let ks = map (method_text T) (enumerate_from 0 T.methods) in
-    let total : bytes_from 0 (table_lines T) ≡ length (table_text T) = bytes_long 0 (table_lines T) ∙ zero-add (length (flat_map lf (table_lines T))) ∙ ap length (lines_text T) in
+    let total : bytes_from 0 (table_lines T) ≡ length (table_text T) = bytes_long 0 (table_lines T) ∙ zero-add (length (flat_map fed (table_lines T))) ∙ ap length (lines_text T) in
     let parts : bytes_from 0 (table_lines T) ≡ bytes_from (bytes_from (bytes_from 0 es) ms) ks =
     bytes_append 0 (es ++ ms) ks ∙ ap (λ (b : ℕ). bytes_from b ks) (bytes_append 0 es ms) in
     let le3 : bytes_from (bytes_from (bytes_from 0 es) ms) ks ≤ 65536 = omega (arith, total, parts, valid.short) in
@@ -579,7 +576,7 @@ complete T text valid e =
     let ran = table_run T valid in
     let ls = table_lines T in
     let seen = runs_visible t empty_draft ran.end 0 ls ran.runs in
-    let joined : text ≡ flat_map lf ls = e ∙ sym (lines_text T) in
+    let joined : text ≡ flat_map fed ls = e ∙ sym (lines_text T) in
     let lines : whole_lines text ≡ ls = ap whole_lines joined ∙ whole_joined ls seen in
     let tail : rest_of text ≡ [] = ap rest_of joined ∙ rest_joined ls seen in
     let enums : filter_map (behind (codes "enum ")) ls ≡ t.enums = sym (runs_enums t empty_draft ran.end 0 ls ran.runs) ∙ stand_enums ran.end T.enums T.messages T.methods ran.stand in

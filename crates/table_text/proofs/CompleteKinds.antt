@@ -13,10 +13,11 @@ use Rattle.std.proofs.lemmas.List.{append-nil}
 use Rattle.mrpc_table.specs.Names.{is_short, is_short_full, IsName, IsFullName}
 use Rattle.mrpc_table.specs.Words.{is_numeric, is_key}
 use Rattle.mrpc_table.specs.Valid.{Ascends, AreDistinct, IsBelow, IsValueBelow, IsKnown, IsMessageKind, GoesWith, Joins, OneofsFollow, IsEnum}
+use Rattle.table_text.specs.Faults.{is_packable, is_key_kind}
 use Rattle.table_text.specs.Judged.{Types, is_among}
 use Rattle.table_text.specs.Judged.{is_empty, is_value_below, falls, last_of, lacks_value, lacks_zero}
-use Rattle.table_text.specs.Judged.{clashes, is_message_word, is_numeric_word}
-use Rattle.table_text.specs.Judged.{is_key_word, is_unknown_kind, is_unknown_label, is_map_key_label, is_short_kind}
+use Rattle.table_text.specs.Judged.{clashes, is_message_word}
+use Rattle.table_text.specs.Judged.{is_unknown_kind, is_unknown_label, is_map_key_label, is_short_kind}
 use Rattle.table_text.specs.Judged.{is_short_label}
 use Rattle.table_text.specs.Places.{place}
 use Rattle.table_text.specs.Drafts.{open_part, enum_names, message_names, method_names, before, resolved, labeled}
@@ -60,10 +61,11 @@ use Rattle.mrpc_table.specs.Valid.{IsValid}
 use Rattle.table_lines.specs.Lines.{line_of}
 use Rattle.table_text.specs.Judged.{line_fault}
 use Rattle.table_text.specs.Drafts.{added_line}
-use Rattle.table_text.proofs.OrderLemmas.{contains_nothing, contains_cases}
+use Rattle.table_text.proofs.OrderLemmas.{contains_nothing, contains_cases, or_true}
 use Rattle.mrpc_table.specs.Text.{kind_text, label_text, enum_name}
-use Rattle.table_text.proofs.LastLemmas.{slice_get-map}
-use Rattle.table_text.proofs.Accepts.{lf, key_in}
+use Rattle.std.proofs.lemmas.Option.{slice_get-map}
+use Rattle.table_text.proofs.TableCuts.{fed}
+use Rattle.table_text.proofs.Accepts.{key_in}
 use Rattle.std.proofs.lemmas.List.{map-append}
 use Rattle.std.proofs.lemmas.List.Elements.{All-contains, Contains-append_right}
 use Rattle.std.proofs.lemmas.Bool.{le-ltb, lt-leb, le-leb, ne_eqb}
@@ -100,25 +102,25 @@ method_text T m = spaced (codes "method" ∷ decimal m.0 ∷ m.1.service ∷ m.1
 abbrev pub table_lines : Table → List (List ℕ)
 table_lines T = flat_map enum_texts T.enums ++ flat_map (message_texts T) T.messages ++ map (method_text T) (enumerate_from 0 T.methods)
 
-flat_mapped : {X : Type 0} (f : X → List ℕ) (xs : List X) → flat_map lf (map f xs) ≡ flat_map (λ x. lf (f x)) xs
+flat_mapped : {X : Type 0} (f : X → List ℕ) (xs : List X) → flat_map fed (map f xs) ≡ flat_map (λ x. fed (f x)) xs
 flat_mapped f [] = refl
-flat_mapped f (x ∷ xs) = ap (λ (l : List ℕ). lf (f x) ++ l) (flat_mapped f xs)
+flat_mapped f (x ∷ xs) = ap (λ (l : List ℕ). fed (f x) ++ l) (flat_mapped f xs)
 
-flat_flat : {X : Type 0} (f : X → List (List ℕ)) (g : X → List ℕ) (xs : List X) → ((x : X) → flat_map lf (f x) ≡ g x) → flat_map lf (flat_map f xs) ≡ flat_map g xs
+flat_flat : {X : Type 0} (f : X → List (List ℕ)) (g : X → List ℕ) (xs : List X) → ((x : X) → flat_map fed (f x) ≡ g x) → flat_map fed (flat_map f xs) ≡ flat_map g xs
 flat_flat f g [] same = refl
-flat_flat f g (x ∷ xs) same = flat_map-append lf (f x) (flat_map f xs)
-    ∙ ap (λ (l : List ℕ). l ++ flat_map lf (flat_map f xs)) (same x) ∙ ap (λ (l : List ℕ). g x ++ l)
+flat_flat f g (x ∷ xs) same = flat_map-append fed (f x) (flat_map f xs)
+    ∙ ap (λ (l : List ℕ). l ++ flat_map fed (flat_map f xs)) (same x) ∙ ap (λ (l : List ℕ). g x ++ l)
     (flat_flat f g xs same)
 
-pub lines_text : (T : Table) → flat_map lf (table_lines T) ≡ table_text T
+pub lines_text : (T : Table) → flat_map fed (table_lines T) ≡ table_text T
 lines_text T =
     let es = flat_flat enum_texts enum_lines T.enums (λ e. ap (λ (l : List ℕ). line (codes "enum" ∷ e.name ∷ []) ++ l) (flat_mapped value_text e.values)) in
     let ms = flat_flat (message_texts T) (message_lines T) T.messages
     (λ m. ap (λ (l : List ℕ). line (codes "message" ∷ m.name ∷ []) ++ l)
     (flat_mapped (field_text T m.oneofs) m.fields)) in
     let ks = flat_mapped (method_text T) (enumerate_from 0 T.methods) in
-    flat_map-append lf (flat_map enum_texts T.enums ++ flat_map (message_texts T) T.messages) (map (method_text T) (enumerate_from 0 T.methods))
-    ∙ ap (λ (l : List ℕ). l ++ flat_map lf (map (method_text T) (enumerate_from 0 T.methods))) (flat_map-append lf (flat_map enum_texts T.enums) (flat_map (message_texts T) T.messages))
+    flat_map-append fed (flat_map enum_texts T.enums ++ flat_map (message_texts T) T.messages) (map (method_text T) (enumerate_from 0 T.methods))
+    ∙ ap (λ (l : List ℕ). l ++ flat_map fed (map (method_text T) (enumerate_from 0 T.methods))) (flat_map-append fed (flat_map enum_texts T.enums) (flat_map (message_texts T) T.messages))
     ∙ rw (es, ms, ks) refl
 
 -- ---- a run of lines without a fault
@@ -227,10 +229,6 @@ stand_messages d es ms ks s = sym (closed_messages d.open_part d.messages) ∙ a
 
 pub stand_methods : (d : Draft) (es : List Choices) (ms : List TheMessage) (ks : List TheMethod) → Stand d es ms ks → method_names d ≡ map key_in ks
 stand_methods d es ms ks s = ap (map key_in) s.methods
-
-pub or_true : (b : Bool) → (b || true) ≡ true
-or_true true = refl
-or_true false = refl
 
 contained_any : (vs : List (ℤ × List ℕ)) → Contains (map (λ v. v.0) vs) (pos 0) → list_any (λ v. int_eq v.0 (pos 0)) vs ≡ true
 contained_any [] h = absurd (contains_nothing (pos 0) h)
@@ -455,8 +453,8 @@ pub record KindWordIs (t : Types) (T : Table) (k : Kind) : Type 0 where
   pub known : is_unknown_kind t (kind_word T k) ≡ false
   pub short : is_short_kind (kind_word T k) ≡ true
   pub message : (IsMessageKind k → ⊥) → is_message_word (kind_word T k) ≡ false
-  pub numeric : IsTrue (is_numeric k) → is_numeric_word (kind_word T k) ≡ true
-  pub key : IsTrue (is_key k) → is_key_word (kind_word T k) ≡ true
+  pub numeric : IsTrue (is_numeric k) → is_packable (kind_word T k) ≡ true
+  pub key : IsTrue (is_key k) → is_key_kind (kind_word T k) ≡ true
 
 pub kind_word_of : (t : Types) (T : Table) (k : Kind) → IsValid T → TypesOf t T → IsKnown T k → KindWordIs t T k
 kind_word_of t T (OfMessage i) valid is known =
@@ -606,7 +604,7 @@ label_runs t T oneofs met (Map j) k P valid is names d few le top goes h =
       labels = ap Map w.resolves;
       joins = refl;
       known = w.known;
-      key = no_not (is_key_word (kind_word T j)) (w.key goes);
+      key = no_not (is_key_kind (kind_word T j)) (w.key goes);
       short = w.short;
       goes_on = h;
     }
@@ -657,6 +655,6 @@ pub no_clash : (t : Types) (T : Table) (oneofs : List (List ℕ)) (n : ℕ) (l :
 no_clash t T oneofs n Plain k w h = refl
 no_clash t T oneofs n Optional k w h = w.message h
 no_clash t T oneofs n Repeated k w h = refl
-no_clash t T oneofs n Packed k w h = no_not (is_numeric_word (kind_word T k)) (w.numeric h)
+no_clash t T oneofs n Packed k w h = no_not (is_packable (kind_word T k)) (w.numeric h)
 no_clash t T oneofs n (Map j) k w h = refl
 no_clash t T oneofs n (Member o) k w h = refl

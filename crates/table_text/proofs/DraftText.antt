@@ -25,7 +25,7 @@ use Rattle.table_lines.specs.declared.line.LabelWord.TheVariants as labels
 use Rattle.table_lines.specs.declared.line.FieldLine.{FieldLine}
 use Rattle.table_text.specs.declared.draft.Open.TheVariants as open_parts
 use Rattle.table_text.specs.declared.draft.Draft.{Draft}
-use Rattle.table_text.proofs.LastLemmas.{enumerate-push}
+use Rattle.table_lines.proofs.ListLemmas.{enumerate-push}
 use Rattle.table_text.proofs.Clean.{names_table, place_known, place_new, message_named, enum_named, not_no}
 use Rattle.table_text.proofs.SpellLemmas.{KindIs, LabelIs}
 

@@ -9,7 +9,6 @@ use Rattle.std.proofs.lemmas.Bool.Decides.{leb_tells}
 use Rattle.std.proofs.lemmas.List.Elements.{Contains-append_cases}
 use Rattle.mrpc_table.specs.Names.{is_full_form, is_short, is_short_full}
 use Rattle.mrpc_table.specs.Valid.{IsFieldNumber}
-use Rattle.mrpc_table.specs.Words.{is_numeric, is_key}
 use Rattle.table_text.specs.Faults.{Offends, is_packable, is_key_kind, order_of, no_form, enum_behind_message}
 use Rattle.table_text.specs.Faults.{enum_behind_method, message_behind_method, falling_enum, falling_message}
 use Rattle.table_text.specs.Faults.{value_outside, falling_value, field_outside, falling_field, optional_message}
@@ -25,7 +24,7 @@ use Rattle.table_text.specs.Judged.{Types, Before, types_of, line_fault, is_synt
 use Rattle.table_text.specs.Judged.{is_unknown, is_map_key, is_limit, is_among, is_empty, falls, lacks_value}
 use Rattle.table_text.specs.Judged.{lacks_zero, is_within, has_field_number, is_index, clashes, field_falls}
 use Rattle.table_text.specs.Judged.{is_type_before, is_field_before, repeats_number, is_unknown_kind}
-use Rattle.table_text.specs.Judged.{is_unknown_label, is_key_word, is_numeric_word, is_short_kind, is_short_label}
+use Rattle.table_text.specs.Judged.{is_unknown_label, is_short_kind, is_short_label}
 use Rattle.table_text.specs.Judged.{has_short_names, is_full}
 use Rattle.table_lines.specs.Lines.{in_32_bits, behind, line_of}
 use Rattle.table_text.specs.declared.fault.TableReason.{TableReason}
@@ -137,11 +136,6 @@ zeroless b (method i s n x y) goes e = left_true (lacks_zero b.open_part) (not (
 zeroless b (value z n) goes e = absurd cc
 zeroless b (field i l k m) goes e = absurd cc
 
-unpackable : (k : KindWord) → is_packable k ≡ false → not (is_numeric_word k) ≡ true
-unpackable (kinds.Scalar k) e = not_is (is_numeric k) e
-unpackable (kinds.Message n) e = refl
-unpackable (kinds.Choice n) e = absurd cc
-
 -- ---- Number
 
 out_of_range : (z : ℤ) → (FitsSigned w32 z → ⊥) → not (is_within (kept_whole z)) ≡ true
@@ -249,13 +243,6 @@ unknown_found lines line (method i s n x y) type says c none =
         | inr last ↦ absurd (contains_nothing type last)
       ]
     ]
-
--- ---- MapKey
-
-no_key_word : (k : KindWord) → is_key_kind k ≡ false → not (is_key_word k) ≡ true
-no_key_word (kinds.Scalar k) e = not_is (is_key k) e
-no_key_word (kinds.Message n) e = refl
-no_key_word (kinds.Choice n) e = refl
 
 -- ---- Limit
 
@@ -394,7 +381,7 @@ stands_found lines fs b bytes line r s (optional_message i type m says e) =
 stands_found lines fs b bytes line r s (packed_no_number i k m says no_number e) =
     let t = types_of lines in
     by_form t b bytes line (field i labels.Packed k m) Syntax r says e (at_syntax t b bytes (kept (field i labels.Packed k m)) Syntax
-    (left_true (not (is_numeric_word k)) (field_falls b.open_part (in_32_bits i)) (unpackable k no_number)))
+    (left_true (not (is_packable k)) (field_falls b.open_part (in_32_bits i)) (not_is (is_packable k) no_number)))
 stands_found lines fs b bytes line r s (enum_without_value f says goes lacks e) =
     let t = types_of lines in
     by_form t b bytes line f Syntax r says e (at_syntax t b bytes (kept f) Syntax (lacking b f goes (said_lacks_value fs b.open_part s.part lacks)))
@@ -447,7 +434,7 @@ stands_found lines fs b bytes line r s (unknown_type f type says c none e) =
     by_form t b bytes line f UnknownType r says e (at_unknown t b bytes (kept f) (unknown_found lines line f type says c none))
 stands_found lines fs b bytes line r s (map_key i key k m says no_way e) =
     let t = types_of lines in
-    by_form t b bytes line (field i (labels.Map key) k m) MapKey r says e (at_map_key t b bytes (kept (field i (labels.Map key) k m)) (no_key_word key no_way))
+    by_form t b bytes line (field i (labels.Map key) k m) MapKey r says e (at_map_key t b bytes (kept (field i (labels.Map key) k m)) (not_is (is_key_kind key) no_way))
 stands_found lines fs b bytes line r s (long_name f n says c long e) =
     let t = types_of lines in
     by_form t b bytes line f Limit r says e (at_long t b bytes (kept f) (names_long f n c (not_short n long)))

@@ -8,7 +8,6 @@ use Rattle.std.proofs.lemmas.List.Elements.{Contains-append_left, Contains-appen
 use Rattle.mrpc_table.specs.Lines.{words_of}
 use Rattle.mrpc_table.specs.Names.{is_full_form, is_short, is_short_full}
 use Rattle.mrpc_table.specs.Text.{spaced}
-use Rattle.mrpc_table.specs.Words.{is_numeric, is_key}
 use Rattle.table_text.specs.Faults.{Offends, IsLast, IsAbove, is_packable, is_key_kind, enum_behind_message}
 use Rattle.table_text.specs.Faults.{enum_behind_method, message_behind_method, falling_enum, falling_message}
 use Rattle.table_text.specs.Faults.{value_outside, falling_value, field_outside, falling_field, optional_message}
@@ -23,8 +22,8 @@ use Rattle.table_lines.specs.Forms.{full_names_of_label}
 use Rattle.table_text.specs.Judged.{Before, types_of, line_fault, is_syntax, is_number, is_duplicate, is_unknown}
 use Rattle.table_text.specs.Judged.{is_map_key, is_limit, is_among, is_empty, falls, lacks_value, lacks_zero}
 use Rattle.table_text.specs.Judged.{is_within, has_field_number, is_index, clashes, field_falls, is_type_before}
-use Rattle.table_text.specs.Judged.{is_field_before, repeats_number, is_unknown_kind, is_unknown_label, is_key_word}
-use Rattle.table_text.specs.Judged.{is_numeric_word, is_short_kind, is_short_label, has_short_names, is_full}
+use Rattle.table_text.specs.Judged.{is_field_before, repeats_number, is_unknown_kind, is_unknown_label}
+use Rattle.table_text.specs.Judged.{is_short_kind, is_short_label, has_short_names, is_full}
 use Rattle.table_lines.specs.Lines.{in_32_bits, behind}
 use Rattle.table_text.specs.declared.fault.TableReason.{TableReason}
 use Rattle.table_text.specs.declared.fault.TableReason.TheVariants.{Syntax, Number, Duplicate, UnknownType, MapKey, Limit}
@@ -116,11 +115,6 @@ methods_counted fs b s = sym (counted is_method method_key_of fs each) ∙ ap le
 
 -- ---- Syntax
 
-not_numeric : (k : KindWord) → not (is_numeric_word k) ≡ true → is_packable k ≡ false
-not_numeric (kinds.Scalar k) e = is_not (is_numeric k) e
-not_numeric (kinds.Message n) e = refl
-not_numeric (kinds.Choice n) e = absurd cc
-
 clash_said : (lines : List (List ℕ)) (fs : List Form) (line : List ℕ) (n : ℕ) (l : LabelWord) (k : KindWord)
     (m : List ℕ) → Says line (field n l k m) → clashes l k ≡ true → Offends lines fs line Syntax
 clash_said lines fs line n labels.Plain k m says e = absurd cc
@@ -128,7 +122,7 @@ clash_said lines fs line n labels.Optional (kinds.Scalar k) m says e = absurd cc
 clash_said lines fs line n labels.Optional (kinds.Message t) m says e = optional_message n t m says refl
 clash_said lines fs line n labels.Optional (kinds.Choice t) m says e = absurd cc
 clash_said lines fs line n labels.Repeated k m says e = absurd cc
-clash_said lines fs line n labels.Packed k m says e = packed_no_number n k m says (not_numeric k e) refl
+clash_said lines fs line n labels.Packed k m says e = packed_no_number n k m says (is_not (is_packable k) e) refl
 clash_said lines fs line n (labels.Map key) k m says e = absurd cc
 clash_said lines fs line n (labels.Member o) k m says e = absurd cc
 
@@ -339,11 +333,6 @@ unknown_said lines fs line (method i s n x y) says e = elim (either_true (not (i
 
 -- ---- MapKey
 
-no_key : (k : KindWord) → not (is_key_word k) ≡ true → is_key_kind k ≡ false
-no_key (kinds.Scalar k) e = is_not (is_key k) e
-no_key (kinds.Message n) e = refl
-no_key (kinds.Choice n) e = refl
-
 map_key_said : (lines : List (List ℕ)) (fs : List Form) (line : List ℕ) (f : Form) → Says line f → is_map_key (kept f) ≡ true → Offends lines fs line MapKey
 map_key_said lines fs line (enum n) says e = absurd cc
 map_key_said lines fs line (value z n) says e = absurd cc
@@ -352,7 +341,7 @@ map_key_said lines fs line (field n labels.Plain k m) says e = absurd cc
 map_key_said lines fs line (field n labels.Optional k m) says e = absurd cc
 map_key_said lines fs line (field n labels.Repeated k m) says e = absurd cc
 map_key_said lines fs line (field n labels.Packed k m) says e = absurd cc
-map_key_said lines fs line (field n (labels.Map key) k m) says e = map_key n key k m says (no_key key e) refl
+map_key_said lines fs line (field n (labels.Map key) k m) says e = map_key n key k m says (is_not (is_key_kind key) e) refl
 map_key_said lines fs line (field n (labels.Member o) k m) says e = absurd cc
 map_key_said lines fs line (method i s n x y) says e = absurd cc
 

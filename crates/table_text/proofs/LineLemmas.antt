@@ -12,7 +12,7 @@ use Rattle.table_text.specs.Drafts.{before, added_line, draft_of, empty_draft}
 use Rattle.table_text.specs.declared.draft.Draft.{Draft}
 use Rattle.table_lines.specs.declared.line.Line.{Line}
 use Rattle.table_text.proofs.KeptLemmas.{before_added, map_push}
-use Rattle.table_text.proofs.TableFacts.{has_part}
+use Rattle.table_lines.proofs.ListLemmas.{has_part}
 
 pub init_first : {X : Type 0} (x y : X) (ys : List X) → take (length (x ∷ y ∷ ys) - 1) (x ∷ y ∷ ys) ≡ x ∷ take (length (y ∷ ys) - 1) (y ∷ ys)
 init_first x y ys =

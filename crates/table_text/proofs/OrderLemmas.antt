@@ -18,9 +18,10 @@ use Rattle.std.proofs.lemmas.List.Elements.{Contains-append_right, Contains-push
 use Rattle.mrpc_table.specs.Valid.{Ascends, AreDistinct, IsBelow, IsValueBelow}
 use Rattle.table_text.specs.Judged.{is_below, is_among, falls, last_of, is_value_below}
 use Rattle.table_lines.specs.declared.line.Whole.TheVariants.{Within}
+use Rattle.table_text.proofs.Clean.{left_no, right_no}
 use Rattle.table_text.proofs.PlaceLemmas.{same_bytes, bytes_same}
 
-or_true : (b : Bool) → (b || true) ≡ true
+pub or_true : (b : Bool) → (b || true) ≡ true
 or_true true = refl
 or_true false = refl
 
@@ -167,14 +168,6 @@ int_not_less x z e = grind (arith, ints)
 int_not_self : (z : ℤ) → int_lt z z ≡ false
 int_not_self z = grind (arith, ints)
 
-left_false : (a b : Bool) → (a || b) ≡ false → a ≡ false
-left_false true b e = e
-left_false false b e = refl
-
-right_false : (a b : Bool) → (a || b) ≡ false → b ≡ false
-right_false true b e = absurd cc
-right_false false b e = e
-
 pub less_is : (x z : ℤ) → int_cmp x z ≡ Less → int_lt x z ≡ true
 less_is x z e =
     elim (int_lt x z) as (λ (b : Bool). cond b Less (cond (int_lt z x) Greater Equal) ≡ Less → b ≡ true) [
@@ -184,12 +177,12 @@ less_is x z e =
 
 pub value_not_below : (z : ℤ) (n : List ℕ) (last : ℤ × List ℕ) → is_value_below (Within z) n last ≡ false → bytes_eq n last.1 ≡ false → IsValueBelow last (z, n)
 value_not_below z n last e other =
-    let up : int_lt z last.0 ≡ false = left_false (int_lt z last.0) (int_eq z last.0 && is_below n last.1) e in
+    let up : int_lt z last.0 ≡ false = left_no (int_lt z last.0) (int_eq z last.0 && is_below n last.1) e in
     elim (int_lt last.0 z) as (λ (b : Bool). int_lt last.0 z ≡ b → IsValueBelow last (z, n)) [
       | true ↦ λ lt. inl (rw lt refl)
       | false ↦ λ ge.
           let equal : int_eq z last.0 ≡ true = rw (up, ge) refl in
-          let rest : (int_eq z last.0 && is_below n last.1) ≡ false = right_false (int_lt z last.0) (int_eq z last.0 && is_below n last.1) e in
+          let rest : (int_eq z last.0 && is_below n last.1) ≡ false = right_no (int_lt z last.0) (int_eq z last.0 && is_below n last.1) e in
           let name : is_below n last.1 ≡ false = rw equal at rest in
           inr (int_same last.0 z ge up, is_above n last.1 name other)
     ] refl

@@ -29,9 +29,10 @@ use Rattle.table_lines.specs.declared.line.Line.{Line}
 use Rattle.table_lines.specs.declared.line.Line.TheVariants.{Enum, Value, Message, Field, Method}
 use Rattle.table_text.proofs.Accepts.{few_bytes, some_line}
 use Rattle.table_text.proofs.LineLemmas.{init_first, here_is, take_drop, bytes_push}
+use Rattle.table_text.proofs.OrderLemmas.{or_true}
 use Rattle.table_text.proofs.PlaceLemmas.{same_bytes, bytes_same}
 use Rattle.table_text.proofs.TableCuts.{cut_is}
-use Rattle.table_text.proofs.TableFacts.{has_part}
+use Rattle.table_lines.proofs.ListLemmas.{has_part}
 
 -- ---- lines behind lines
 
@@ -107,10 +108,6 @@ cut_parts m text line far le e =
     parted (suc n) (c ∷ cs) = ap (λ (t : List ℕ). c ∷ t) (parted n cs)
 
 -- ---- names among names
-
-or_true : (b : Bool) → (b || true) ≡ true
-or_true true = refl
-or_true false = refl
 
 in_first : (n : List ℕ) (xs ys : List (List ℕ)) → is_among n xs ≡ true → is_among n (xs ++ ys) ≡ true
 in_first n xs ys h = list_any-append (λ other. bytes_eq n other) xs ys ∙ ap (λ (b : Bool). b || is_among n ys) h

@@ -18,10 +18,11 @@ use Rattle.mrpc_table.specs.Valid.{Ascends, AreDistinct, IsBelow, IsValueBelow, 
 use Rattle.table_text.specs.Judged as faults
 use Rattle.table_text.proofs.TableFacts.{follow_le}
 use Rattle.table_text.proofs.TableFacts.{both_left, both_right}
+use Rattle.table_text.specs.Faults.{is_packable, is_key_kind}
 use Rattle.table_text.specs.Judged.{fields, method_key, field_falls, is_field_below, repeats_number, is_field_before}
 use Rattle.table_text.specs.Judged.{open_count, Types, Before, is_among, is_empty, is_value_below, falls, last_of}
 use Rattle.table_text.specs.Judged.{lacks_value, lacks_zero, is_within, has_field_number, is_index, clashes}
-use Rattle.table_text.specs.Judged.{is_message_word, is_numeric_word, is_key_word, is_unknown_kind, is_unknown_label}
+use Rattle.table_text.specs.Judged.{is_message_word, is_unknown_kind, is_unknown_label}
 use Rattle.table_text.specs.Judged.{is_map_key_label, is_short_kind, is_short_label}
 use Rattle.table_text.specs.Places.{place}
 use Rattle.table_text.specs.Drafts.{open_part, enum_names, message_names, method_names, before, resolved, labeled}
@@ -442,12 +443,12 @@ optional_goes t w (kinds.Scalar k) h e m = not_message k h.1 m
 optional_goes t w (kinds.Message n) h e m = absurd cc
 optional_goes t w (kinds.Choice n) h e m = m
 
-packed_goes : (t : Types) (k : KindWord) → is_numeric_word k ≡ true → IsTrue (is_numeric (resolved t k))
+packed_goes : (t : Types) (k : KindWord) → is_packable k ≡ true → IsTrue (is_numeric (resolved t k))
 packed_goes t (kinds.Scalar k) e = e
 packed_goes t (kinds.Message n) e = absurd cc
 packed_goes t (kinds.Choice n) e = refl
 
-key_goes : (t : Types) (k : KindWord) → is_key_word k ≡ true → IsTrue (is_key (resolved t k))
+key_goes : (t : Types) (k : KindWord) → is_key_kind k ≡ true → IsTrue (is_key (resolved t k))
 key_goes t (kinds.Scalar k) e = e
 key_goes t (kinds.Message n) e = absurd cc
 key_goes t (kinds.Choice n) e = absurd cc
@@ -458,8 +459,8 @@ label_goes : (t : Types) (oneofs : List (List ℕ)) (l : LabelWord) (k : KindWor
 label_goes t oneofs labels.Plain k kw few h clash key = tt
 label_goes t oneofs labels.Optional k kw few h clash key = optional_goes t kw k h clash
 label_goes t oneofs labels.Repeated k kw few h clash key = tt
-label_goes t oneofs labels.Packed k kw few h clash key = packed_goes t k (not_no (is_numeric_word k) clash)
-label_goes t oneofs (labels.Map j) k kw few h clash key = key_goes t j (not_no (is_key_word j) key)
+label_goes t oneofs labels.Packed k kw few h clash key = packed_goes t k (not_no (is_packable k) clash)
+label_goes t oneofs (labels.Map j) k kw few h clash key = key_goes t j (not_no (is_key_kind j) key)
 label_goes t oneofs (labels.Member n) k kw few h clash key =
     elim (is_among n oneofs) as (λ (b : Bool). is_among n oneofs ≡ b → place n oneofs < length (joined_with oneofs (cond b None (Some n)))) [
       | true ↦ λ known. (place_known n oneofs (omega arith) known).0

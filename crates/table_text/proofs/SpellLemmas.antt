@@ -37,7 +37,7 @@ use Rattle.table_lines.specs.declared.line.Whole.TheVariants.{Low, Within, High}
 use Rattle.table_lines.specs.declared.line.Line.{Line}
 use Rattle.table_lines.specs.declared.line.Line.TheVariants.{Enum, Value, Message, Field, Method}
 use Rattle.table_text.proofs.PlaceLemmas.{same_bytes}
-use Rattle.table_text.proofs.TableFacts.{both_left, both_right}
+use Rattle.table_text.proofs.TableFacts.{both, both_left, both_right}
 use Rattle.table_text.proofs.ParseLemmas.{if_true, mapped, chained, either, number_is, number_of-decimal, WholeIs}
 use Rattle.table_text.proofs.ParseLemmas.{whole_is, whole_of-text, ltb_tells, name_is, full_is, decimal_digits}
 use Rattle.table_text.proofs.ParseLemmas.{behind_is, in_words}
@@ -393,11 +393,6 @@ dark w = list_all (λ c. nat_lt 32 c) w
 
 abbrev pub AllDark : List (List ℕ) → Type 0
 AllDark ws = AllByRecursion (λ w. dark w ≡ true) ws
-
-both : (a b : Bool) → a ≡ true → b ≡ true → (a && b) ≡ true
-both true true e f = refl
-both true false e f = f
-both false b e f = e
 
 pub all-append : {X : Type 0} (p : X → Bool) (xs ys : List X) → list_all p xs ≡ true → list_all p ys ≡ true → list_all p (xs ++ ys) ≡ true
 all-append p [] ys e f = f

@@ -16,7 +16,7 @@ use Rattle.std.proofs.lemmas.Option.{some_pair_parts}
 use Rattle.std.proofs.lemmas.Slice.Eq.{bytes_eq-Decides}
 use Rattle.mrpc_table.specs.Lines.{pieces_of}
 use Rattle.table_text.specs.TableText.{HasTableBehind}
-use Rattle.table_text.proofs.TableFacts.{has_part}
+use Rattle.table_lines.proofs.ListLemmas.{has_part}
 
 -- ---- lines and their pieces
 
@@ -240,7 +240,7 @@ cut_here text rest line behind p e same =
       text_is = p.text_is ∙ ap (λ (t : List ℕ). flat_map fed p.lines ++ t) rest_is;
     }
 
-none_is : {X : Type 0} (o : Option X) (x : X) → o ≡ None → o ≡ Some x → ⊥
+pub none_is : {X : Type 0} (o : Option X) (x : X) → o ≡ None → o ≡ Some x → ⊥
 none_is o x e f = absurd cc
 
 -- no line ends in what is left

@@ -1,6 +1,5 @@
--- What holds of parts of a valid table, of tests and of words.
-use Rattle.std.proofs.Common.{◌≡◌, ℕ, suc, ◌+◌, ◌≤◌, ◌==◌, ◌&&◌, Bool, true, false, cond, List, [], ◌∷◌, length, refl, ap, arith, inl, inr, IsTrue}
-use Rattle.std.specs.List.{slice_split, onto_first}
+-- What holds of parts of a valid table, and of tests.
+use Rattle.std.proofs.Common.{◌≡◌, ℕ, suc, ◌+◌, ◌≤◌, ◌&&◌, Bool, true, false, List, [], ◌∷◌, length, refl, arith, inl, inr, IsTrue}
 use Rattle.mrpc_table.specs.Words.{is_key}
 use Rattle.mrpc_table.specs.Valid.{IsKnown, Joins, OneofsFollow}
 use Rattle.mrpc_table.specs.declared.table.Kind.{Kind}
@@ -13,6 +12,11 @@ use Rattle.mrpc_table.specs.declared.table.Label.TheVariants.{Plain, Optional, R
 use Rattle.mrpc_table.specs.declared.table.Field.{Field}
 use Rattle.mrpc_table.specs.declared.table.Table.{Table}
 
+pub both : (a b : Bool) → a ≡ true → b ≡ true → (a && b) ≡ true
+both true true e f = refl
+both true false e f = f
+both false b e f = e
+
 pub both_left : (a b : Bool) → (a && b) ≡ true → a ≡ true
 both_left true b e = refl
 both_left false b e = e
@@ -20,18 +24,6 @@ both_left false b e = e
 pub both_right : (a b : Bool) → (a && b) ≡ true → b ≡ true
 both_right true b e = e
 both_right false b e = absurd cc
-
--- a list has at least one part
-pub has_part : (sep : ℕ) (text : List ℕ) → (part : List ℕ) × (parts : List (List ℕ)) × (slice_split (λ c. c == sep) text ≡ part ∷ parts)
-has_part sep [] = ([], [], refl)
-has_part sep (x ∷ xs) =
-    let rest = has_part sep xs in
-    elim (x == sep) as (λ (b : Bool). (part : List ℕ) × (parts : List (List ℕ))
-    × (cond b ([] ∷ slice_split (λ c. c == sep) xs) (onto_first x (slice_split (λ c. c == sep) xs)) ≡ part
-    ∷ parts)) [
-      | true ↦ ([], slice_split (λ c. c == sep) xs, refl)
-      | false ↦ (x ∷ rest.0, rest.1, ap (onto_first x) rest.2)
-    ]
 
 pub key_known : (T : Table) (k : Kind) → IsTrue (is_key k) → IsKnown T k
 key_known T Int32 h = tt

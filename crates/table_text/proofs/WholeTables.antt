@@ -21,16 +21,13 @@ use Rattle.table_text.specs.declared.fault.TableReason.{TableReason}
 use Rattle.table_text.specs.declared.fault.TableReason.TheVariants.{Syntax}
 use Rattle.table_text.proofs.Accepts.{IsFaultless, accepted, text_lines}
 use Rattle.table_text.proofs.Complete.{complete}
-use Rattle.table_text.proofs.TableCuts.{fed, IsOneLine, one_line_each, ended_at, AreTableLines, cut_ends, cut_from, cut_to, cut_nowhere, Passed, ended_parts}
+use Rattle.table_text.proofs.TableCuts.{fed, IsOneLine, one_line_each, ended_at, AreTableLines, cut_ends, cut_from, cut_to, cut_nowhere, Passed, ended_parts, none_is}
 
 -- ---- the canonical text of a table
 
 faulty_end : (text l : List ℕ) (k : ℕ) → slice_get (whole_lines text) k ≡ Some l → l ≡ codes "end" → fault_at text k ≡ Some Syntax
 unfolding line_of
 faulty_end text l k here e = rw (here, e) refl
-
-none_is : {X : Type 0} (o : Option X) (x : X) → o ≡ None → o ≡ Some x → ⊥
-none_is o x e f = absurd cc
 
 no_end_line : (text : List ℕ) → IsFaultless text → All (λ l. l ≢ codes "end") (whole_lines text)
 no_end_line text clean k d within same =

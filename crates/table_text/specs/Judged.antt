@@ -9,10 +9,9 @@ use Rattle.std.specs.Str.{bytes_eq}
 use Rattle.std.specs.Cmp.Lexicographic.{slice_cmp}
 use Rattle.mrpc_table.specs.Names.{is_short, is_short_full}
 use Rattle.mrpc_table.specs.Valid.{is_field_number}
-use Rattle.mrpc_table.specs.Words.{is_numeric, is_key}
 use Rattle.mrpc_table.specs.declared.limits.TheConstants.{MAX_ENUMS, MAX_MESSAGES, MAX_METHODS, MAX_FIELDS, MAX_VALUES, MAX_TEXT}
 use Rattle.mrpc_table.specs.Lines.{whole_lines, rest_of}
-use Rattle.table_text.specs.Faults.{bytes_of}
+use Rattle.table_text.specs.Faults.{bytes_of, is_packable, is_key_kind}
 use Rattle.table_lines.specs.Lines.{behind, line_of}
 use Rattle.table_text.specs.declared.fault.TableReason.{TableReason}
 use Rattle.table_text.specs.declared.fault.TableReason.TheVariants.{Syntax, Number, Duplicate, UnknownType, MapKey, Limit}
@@ -118,14 +117,9 @@ abbrev pub is_message_word : KindWord → Bool
 is_message_word (kinds.Message name) = true
 is_message_word _ = false
 
-abbrev pub is_numeric_word : KindWord → Bool
-is_numeric_word (kinds.Scalar k) = is_numeric k
-is_numeric_word (kinds.Message name) = false
-is_numeric_word (kinds.Choice name) = true
-
 abbrev pub clashes : LabelWord → KindWord → Bool
 clashes labels.Optional k = is_message_word k
-clashes labels.Packed k = not (is_numeric_word k)
+clashes labels.Packed k = not (is_packable k)
 clashes _ k = false
 
 abbrev pub value_falls : Open → Whole → List ℕ → Bool
@@ -209,12 +203,8 @@ is_unknown t (Method m) = not (is_among m.input t.messages) || not (is_among m.o
 is_unknown t _ = false
 
 -- MapKey: a key that is neither integral, nor a bool, nor a string
-abbrev pub is_key_word : KindWord → Bool
-is_key_word (kinds.Scalar k) = is_key k
-is_key_word _ = false
-
 abbrev pub is_map_key_label : LabelWord → Bool
-is_map_key_label (labels.Map key) = not (is_key_word key)
+is_map_key_label (labels.Map key) = not (is_key_kind key)
 is_map_key_label _ = false
 
 abbrev pub is_map_key : Line → Bool

@@ -3,7 +3,8 @@
 ghost use Rattle.std.specs.Prelude.{◌≡◌, ◌<◌, ◌++◌, ◌∷◌, ℕ, [], length, not, IfOk, OnOk, Some};
 ghost use Rattle.mrpc_table.specs.Names.{is_short, is_short_full};
 ghost use Rattle.mrpc_table.specs.Words.{is_numeric, is_key};
-ghost use Rattle.table_text.specs.Judged.{Types, clashes, is_message_word, is_numeric_word, is_key_word, is_short_kind, is_short_label, is_within, has_field_number, is_index, has_short_names, is_full, is_limit, is_map_key, is_unknown_kind, is_unknown_label, is_unknown, is_syntax, is_number, is_duplicate, line_fault};
+ghost use Rattle.table_text.specs.Faults.{is_packable, is_key_kind};
+ghost use Rattle.table_text.specs.Judged.{Types, clashes, is_message_word, is_short_kind, is_short_label, is_within, has_field_number, is_index, has_short_names, is_full, is_limit, is_map_key, is_unknown_kind, is_unknown_label, is_unknown, is_syntax, is_number, is_duplicate, line_fault};
 ghost use Rattle.table_text.specs.Drafts.{before, method_names, enum_names, message_names};
 ghost use Rattle.table_text.specs.Places.{Holds};
 
@@ -83,8 +84,8 @@ pub fn is_number(draft: &Draft, line: &Line) -> bool
     }
 }
 
-fn is_key_word(kind: &KindWord) -> bool
-    ensures { result ≡ is_key_word kind.now }
+fn is_key_kind(kind: &KindWord) -> bool
+    ensures { result ≡ is_key_kind kind.now }
 {
     match kind {
         KindWord::Scalar(kind) => kind.is_key(),
@@ -98,7 +99,7 @@ pub fn is_map_key(line: &Line) -> bool
 {
     match line {
         Line::Field(field) => match &field.label {
-            LabelWord::Map(key) => !is_key_word(key),
+            LabelWord::Map(key) => !is_key_kind(key),
             LabelWord::Plain
             | LabelWord::Optional
             | LabelWord::Repeated

@@ -9,7 +9,7 @@ fn appended(rt: &impl Abort, alloc: Global) -> Bytes {
     bytes.append(b"ab").expect(rt, "memory");
     bytes.push(b'c').expect(rt, "memory");
     bytes.append_decimal(70).expect(rt, "memory");
-    bytes.append_hex(alloc, b"\x0f").expect(rt, "memory");
+    bytes.append_hex(b"\x0f").expect(rt, "memory");
     Bytes::from_vec(bytes.into_vec())
 }
 

@@ -6,7 +6,7 @@ use Rattle.script_words.specs.Meanings.{meanings_of}
 use Rattle.script_words.specs.declared.sort.Said.{Said}
 use Rattle.script_words.specs.declared.sort.Sort.{Sort}
 use Rattle.scenario_lines.specs.Forms.{line_form, sorts_of}
-use Rattle.scenario_lines.specs.Judging.{words_in}
+use Rattle.script_words.specs.Rests.{words_in}
 use Rattle.scenario_lines.specs.Lines.{IsNoPlace, WordsAgainst, behind, first_of, place_in}
 use Rattle.scenario_lines.specs.Reasons.{IsFirst}
 use Rattle.scenario_lines.proofs.LineReading.{alone_first, place_first, words_first}

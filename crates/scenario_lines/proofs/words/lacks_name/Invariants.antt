@@ -1,7 +1,8 @@
 -- A name is lacked exactly where the words that are left lack one, or one was found before.
 use Rattle.std.proofs.Common.{◌≡◌, false, drop}
 use Rattle.mrpc_table.specs.Lines.{words_of}
-use Rattle.scenario_lines.specs.Judging.{lacks_name, words_in}
+use Rattle.script_words.specs.Rests.{words_in}
+use Rattle.scenario_lines.specs.Judging.{lacks_name}
 use Rattle.scenario_lines.proofs.words.lacks_name.Given as goal
 
 abbrev pub invariant-loop-sort : goal.invariant-loop-sort
