@@ -1,5 +1,5 @@
--- Courses of events in which a policy is upgraded with calls behind it, and in which fields are cleared: worked out by
--- hand, what each adds, and that its history is legal.
+-- Courses of events in which a policy is upgraded with calls behind it: worked out by hand, what each adds, and that its
+-- history is legal.
 use Rattle.std.proofs.Common.{◌≡◌, ℕ, true, false, inl, inr, List, [], ◌∷◌, codes, refl, ap, sym, ◌∙◌, arith}
 use Rattle.std.specs.Prelude.{Contains}
 use Rattle.engine_core.specs.Answers.{nothing, charged}

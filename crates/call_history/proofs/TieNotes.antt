@@ -266,11 +266,7 @@ module _ (conn : ℕ) (past : Behind) (es : List EngineParts) (n : ℕ) (calls :
   marked-left attach above =
       let own : w.engine.entry.attach ≤ n = attached-apart (map (λ (e : EngineParts). e.entry) es) n w.engine.entry own-chain.numbered entry-in in
       let other : attach ≢ w.engine.entry.attach = λ same. omega arith in
-      let none : note_of w.met.marks attach ≡ None = w.keeps.gone attach (λ k d inside same. omega (
-        arith,
-        attached-apart (map (λ (e : EngineParts). e.entry) es) n (get_or es k d).entry own-chain.numbered
-            (contains-map (λ (e : EngineParts). e.entry) es (get_or es k d) (Contains-get_or es k d inside)),
-      )) in
+      let none : note_of w.met.marks attach ≡ None = w.keeps.none attach (its-ties.marked attach above) in
       w.leaves_marks.others_none attach other none
 
   silent-met : IsTrueFor w.engine.entry w.met

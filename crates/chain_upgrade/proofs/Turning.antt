@@ -100,7 +100,7 @@ module _ (es : List EngineParts) (n p j moment : ℕ) (calls : List StandingCall
   marks-left attach above =
       let own : w.engine.entry.attach ≤ n = numbered-of es n p w.engine st.chain.numbered w.is_engine in
       let other : attach ≢ w.engine.entry.attach = λ same. omega arith in
-      let none : note_of w.met.marks attach ≡ None = w.keeps.gone attach (λ k d inside same. omega (arith, numbered-at es n k d st.chain.numbered inside)) in
+      let none : note_of w.met.marks attach ≡ None = w.keeps.none attach (All-at (λ s. HasMarksUpTo n s) calls j w.call st.marks w.is_call attach above) in
       w.leaves_marks.others_none attach other none
 
   same-entries : map (λ e. e.entry) es' ≡ map (λ e. e.entry) es

@@ -331,8 +331,8 @@ impl Chain {
 
     // ---- turns
 
-    /// The engine at a position has a turn with the first call there, from which the marks of engines that have left
-    /// are taken away first. It takes no memory.
+    /// The engine at a position has a turn with the first call there. Where the call doesn't pass by a mark that it has of
+    /// the engine, the marks of engines that have left are taken away first. It takes no memory.
     pub fn turn<Q: Tickets>(&mut self, at: u32, table: &Table, now: u64, tickets: &mut Q) -> Turned
         requires at { at < length self.old.engines }
         requires calls { All (λ s. IsCallOf table.now s.call) self.old.calls }

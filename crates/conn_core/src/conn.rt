@@ -88,7 +88,7 @@ impl<'t> Conn<'t> {
     ghost use Rattle.chain_upgrade.specs.Chains.{OnTurn, chain_of, refusal_in};
     ghost use Rattle.graph_copy.specs.Copies.{since};
     ghost use Rattle.call_history.specs.Behind.{taken};
-    ghost use Rattle.call_history.specs.Draining.{BeginsToDrain, Drains};
+    ghost use Rattle.call_history.specs.Draining.{BeginsToDrain, Drains, Passes};
     ghost use Rattle.call_history.specs.Events.{fails, operates, shows, turns, turns_away};
     ghost use Rattle.call_history.specs.Places.{IsSettled};
     ghost use Rattle.conn_core.specs.Connections.{IsConnection, IsSame, behind, course, under};
@@ -194,7 +194,7 @@ impl<'t> Conn<'t> {
 
     /// Records what an application submitted while 64 calls stood, and which therefore wasn't accepted. After `Memory`
     /// all is as before.
-    pub fn turn_away(&mut self, alloc: Global, ask: Ask) -> Result<(), Memory>
+    pub fn turn_away(&mut self, ask: Ask) -> Result<(), Memory>
         requires { length self.old.chain.calls ≡ MAX_CALLS }
         ensures away { OnOk result (Steps self.old (turns_away ask.method ask.number ask.addr) self.new) }
         ensures as_before { OnErr result (self.new ≡ self.old) }
@@ -246,7 +246,7 @@ impl<'t> Conn<'t> {
 
     /// Shows the connection a moment, in milliseconds, and records it exactly where it is greater than the last. After
     /// `Memory` all is as before.
-    pub fn clock(&mut self, alloc: Global, now: u64) -> Result<(), Memory>
+    pub fn clock(&mut self, now: u64) -> Result<(), Memory>
         ensures shown { OnOk result (Steps self.old (shows now) self.new) }
         ensures as_before { OnErr result (self.new ≡ self.old) }
         ensures same { IsSame self.old self.new }
@@ -288,6 +288,19 @@ impl<'t> Conn<'t> {
         record_turn(&mut self.history, step, version, turned);
         self.chain.is_chain();
         turned
+    }
+
+    /// Has the engines take turns, from the first on, until no call can go on, as a drain does before it sends. Behind a
+    /// turn that cleared fields from a call it begins again at the first engine. It takes no memory.
+    pub fn judge<Q: Tickets>(&mut self, tickets: &mut Q)
+        requires known { All (λ e. KnowsTenantOf (Q.knows tickets.old) e.entry.policy) self.old.chain.engines }
+        ensures judged { Passes (under self.old) 0 (course self.old) (course self.new) }
+        ensures draws { DrawsTickets Q.knows Q.drawn Q.since self.old self.new tickets.old tickets.new }
+        ensures same { IsSame self.old self.new }
+    {
+        self.is_connection();
+        pass_all(self, tickets);
+        self.is_connection();
     }
 
     /// Encodes the first call that is ready and hands its frame to a link. `Nothing` comes exactly where no call is

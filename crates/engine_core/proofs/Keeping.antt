@@ -33,6 +33,14 @@ note_of-gone es b ms apart =
     (All-weaker (λ (e : EngineParts). e.entry.attach ≢ b) (λ (e : EngineParts). (e.entry.attach == b) ≡ false) (λ e other. grind (arith, nat_tests, common_steps)) es apart) in
     rw (find-kept (has_engine es) b ms, unknown) refl
 
+none-kept : (es : List EngineParts) (b : ℕ) (ms : List Mark) (known : Bool) → has_engine es b ≡ known
+    → note_of ms b ≡ None → note_of (kept es ms) b ≡ None
+none-kept es b ms true at none = rw (find-kept (has_engine es) b ms, at) none
+none-kept es b ms false at none = rw (find-kept (has_engine es) b ms, at) refl
+
+pub note_of-none : (es : List EngineParts) (b : ℕ) (ms : List Mark) → note_of ms b ≡ None → note_of (kept es ms) b ≡ None
+note_of-none es b ms none = none-kept es b ms (has_engine es b) refl none
+
 -- ---- how many there are
 
 length-other_marks-none : (a : ℕ) (ms : List Mark) → has_mark ms a ≡ false → length ms ≤ length (other_marks a ms)

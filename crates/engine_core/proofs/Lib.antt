@@ -8,3 +8,4 @@ mod Keeping
 mod Stepping
 mod Turning
 mod OutcomeLaws
+mod Passing

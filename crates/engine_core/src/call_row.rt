@@ -4,7 +4,7 @@ ghost use Rattle.std.specs.Prelude.{◌≡◌, ◌<◌, ◌≤◌, ◌++◌, ◌
 ghost use Rattle.mrpc_table.specs.Calls.{IsCallOf};
 
 use crate::engine::Engine;
-use crate::outcome::Outcome;
+use crate::outcome::{Noted, Outcome};
 use crate::standing::Standing;
 use mrpc_base::Tickets;
 use mrpc_table::{Memory, Table};
@@ -116,8 +116,8 @@ impl CallRow {
         self.calls.truncate(0);
     }
 
-    /// The engine at a place works on the call at a place, from which the marks of all but these engines are taken
-    /// away first. It takes no memory.
+    /// The engine at a place works on the call at a place. Where the call doesn't pass by a mark that it has of the engine,
+    /// the marks of all but these engines are taken away first. It takes no memory.
     pub fn work<Q: Tickets>(
         &mut self,
         place: usize,
@@ -138,6 +138,9 @@ impl CallRow {
             → LeavesTickets Q.knows Q.drawn Q.since e.entry.policy (noted_in result) tickets.old tickets.new }
     {
         let call = &mut self.calls[place];
+        if engines[at].passes_marked(call) {
+            return Outcome::Passed(Noted::Nothing);
+        }
         call.keep_marks_of(engines);
         let engine = &mut engines[at];
         engine.work(call, table, now, tickets)

@@ -5,7 +5,7 @@ ghost use Rattle.std.specs.Prelude.{◌≡◌, ◌+◌, ◌-◌, ◌<◌, ◌≤
 use crate::outcome::{Noted, Outcome};
 use crate::policy::Policy;
 use crate::standing::Standing;
-use crate::work::{charge, clear, count, draw, is_noted, judge};
+use crate::work::{charge, clear, count, draw, is_allowed, is_noted, judge};
 use mrpc_base::{Tickets, WINDOWS};
 use mrpc_table::{Name, Table};
 use policy_rate::Bucket;
@@ -61,7 +61,10 @@ impl Engine {
     ghost use Rattle.engine_core.specs.Engines.{HasPast};
     ghost use Rattle.engine_core.specs.Answers.{Answers, hold};
     ghost use Rattle.engine_core.specs.Marks.{IsTrueFor, StandingCall, other_marks, past_of};
+    ghost use Rattle.std.specs.Bool.{OnTrue};
     ghost use Rattle.engine_core.specs.Steps.{Steps};
+    ghost use Rattle.engine_core.specs.declared.outcome.Noted.TheVariants.{Nothing};
+    ghost use Rattle.engine_core.specs.declared.outcome.Outcome.TheVariants.{Passed};
     ghost use Rattle.engine_core.specs.Turns.{IsElsewhere, TellsDraw, is_draw, noted_in};
     ghost use Rattle.engine_core.specs.Working.{IsTurn, LeavesCall, LeavesEngine, LeavesMarks, LeavesTickets};
 
@@ -158,6 +161,20 @@ impl Engine {
             tickets.old tickets.new }
     {
         self.turn(call, table, now, tickets)
+    }
+
+    // Whether a call passes by the mark that it has of the engine: its access policy, in this version, has allowed it, or
+    // its rate or its count has noted it.
+    pub(crate) fn passes_marked(&self, call: &Standing) -> bool
+        ensures { OnTrue result ((moment : ℕ) → Steps self.now.entry.policy self.now.entry.attach
+            self.now.entry.version self.now.level moment call.now call.now self.now.level (Passed Nothing)) }
+    {
+        match &self.policy {
+            Policy::Access(_) => is_allowed(call, self.attach, self.version),
+            Policy::Rate(_) => is_noted(call, self.attach),
+            Policy::Count => is_noted(call, self.attach),
+            Policy::Quota { .. } | Policy::Redact(_) => false,
+        }
     }
 
     // A turn, branch by branch.

@@ -100,6 +100,7 @@ impl Standing {
             ≡ note_of self.old.marks e.entry.attach) engines.now }
         ensures gone { (attach : ℕ) → All (λ e. e.entry.attach ≢ attach) engines.now
             → note_of self.new.marks attach ≡ None }
+        ensures none { (attach : ℕ) → note_of self.old.marks attach ≡ None → note_of self.new.marks attach ≡ None }
 
         // There are no more marks than these engines.
         ensures room { All (λ e. length (other_marks e.entry.attach self.new.marks) < length engines.now) engines.now }

@@ -149,7 +149,7 @@ pub(crate) fn is_noted(call: &Standing, attach: u32) -> bool
 }
 
 // Whether the access policy of this attachment and version has allowed a call.
-fn is_allowed(call: &Standing, attach: u32, version: u32) -> bool
+pub(crate) fn is_allowed(call: &Standing, attach: u32, version: u32) -> bool
     ensures { result ≡ is_allowed call.now.marks attach version }
 {
     match call.note_of(attach) {

@@ -1,13 +1,16 @@
--- What holds of a connection that is worked on, with its heap and its tickets.
+-- The code's own: what holds of a connection that is worked on, with its heap and its tickets.
 use Rattle.std.specs.Prelude.{◌≡◌, ℕ, ◌<◌, ◌^◌, ◌+◌, All, length}
 use Rattle.mrpc_table.specs.Valid.{IsValid}
 use Rattle.mrpc_table.specs.declared.table.Table.{Table}
+use Rattle.engine_core.specs.Policies.{IsPolicy}
+use Rattle.engine_core.specs.declared.policy.Policy.{Policy}
 use Rattle.call_history.specs.Behind.{taken}
 use Rattle.conn_core.specs.Connections.{Connection, behind}
 
--- the table is valid, the heap has 32 words, and there is a tenant
-pub record IsWork (T : Table) (size known : ℕ) : Type 0 where
+-- the table is valid, the rules are a policy, the heap has 32 words, and there is a tenant
+pub record IsWork (T : Table) (rules : Policy) (size known : ℕ) : Type 0 where
   pub valid : IsValid T
+  pub policy : IsPolicy rules
   pub words : size ≡ 32
   pub tenant : 0 < known
 

@@ -8,7 +8,8 @@
 //!     mrpc_bench serve                                a scenario that is run over links in memory  bench/run
 //!     mrpc_bench upgrade COUNT                        upgrades while calls stand                   bench/latency
 //!
-//! Each part says at its head what it does, what it prints and what it measures. Words of no such form, and running out of
+//! It stands on the crates that it measures and on `bench_apps`; each part says at its head what it does, what it prints and
+//! what it measures. Words of no such form, and running out of
 //! memory, end the program with status 1, and it prints nothing.
 #![tactic(auto)]
 

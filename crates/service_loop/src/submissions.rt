@@ -212,7 +212,7 @@ impl<'t> Submissions<'t> {
     {
         let applied = self.applied;
         self.apply_due(alloc, false)?;
-        self.show(alloc, clock.now())?;
+        self.show(clock.now())?;
         let next = self.take_call(rt, alloc)?;
         let stood = self.conn.chain().calls().len();
         self.go_on(alloc, next == Next::Closing, tickets, link)?;
@@ -269,7 +269,7 @@ impl<'t> Submissions<'t> {
     }
 
     // Shows the connection a moment.
-    fn show(&mut self, alloc: Global, now: u64) -> Result<(), Memory>
+    fn show(&mut self, now: u64) -> Result<(), Memory>
         requires serving { IsServing self.old }
         ensures serving { OnOk result (IsServing self.new) }
         ensures none_due { OnOk result (NoneIsDue false self.old → NoneIsDue false self.new) }
@@ -279,7 +279,7 @@ impl<'t> Submissions<'t> {
         ensures finished { self.new.finished ≡ self.old.finished }
         ensures accepted { self.new.accepted ≡ self.old.accepted }
     {
-        self.conn.clock(alloc, now)
+        self.conn.clock(now)
     }
 
     // Takes the next call from the ring, unless as many stand as may.

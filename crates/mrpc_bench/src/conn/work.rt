@@ -9,9 +9,9 @@ ghost use Rattle.conn_core.specs.Steps.{IfPolicy};
 ghost use Rattle.mrpc_bench.specs.Work.{IsYoung};
 
 use crate::discard;
-use chain_upgrade::{Chain, Turned};
+use chain_upgrade::Chain;
 use conn_core::{Ask, Conn, Drained};
-use engine_core::{MAX_CALLS, Op, Policy};
+use engine_core::{Op, Policy};
 use mrpc_base::{MemLink, PlainTickets, PlainWords, Room, Stores, Words};
 use mrpc_table::{Bytes, Lines, Name, Table};
 use policy_access::read_access;
@@ -49,10 +49,11 @@ const CALL_A_MOMENT: Rate = Rate {
     hold: true,
 };
 
-/// A connection of number 1, with its heap of 32 words, the tickets of a tenant, and its link.
+/// A connection of number 1, with its heap of 32 words, the tickets of a tenant, its link, and a policy of the rules.
 pub struct Work<'t> {
     alloc: Global,
     table: &'t Table,
+    rules: Policy,
     words: PlainWords,
     tickets: PlainTickets,
     link: MemLink,
@@ -65,6 +66,7 @@ impl<'t> Drop for Work<'t> {
         let Work {
             alloc: _,
             table: _,
+            rules: _rules,
             words: _words,
             tickets: _tickets,
             link: _link,
@@ -81,7 +83,7 @@ impl<'t> Model for Work<'t> {
 
     ghost view = { λ w. w.words.size };
 
-    ghost invariant = { λ w. IsWork w.table.now w.words.size w.tickets.tenants };
+    ghost invariant = { λ w. IsWork w.table.now w.rules w.words.size w.tickets.tenants };
 }
 
 // Whether the numbers of a connection have room for one more of each.
@@ -159,6 +161,7 @@ impl<'t> Work<'t> {
         requires { IsValid table.now }
     {
         let conn = Conn::open(alloc, 1, table, 16384).ok()?;
+        let rules = access(alloc, table)?;
         let Ok(tickets) = PlainTickets::new(alloc, 1) else {
             return None;
         };
@@ -168,6 +171,7 @@ impl<'t> Work<'t> {
         let mut work = Work {
             alloc,
             table,
+            rules,
             words,
             tickets,
             link: new_link(alloc),
@@ -261,7 +265,7 @@ impl<'t> Work<'t> {
 
     /// Puts the rules once more into the first policy, so that all calls go back to it.
     pub(crate) fn upgrade_first(&mut self) -> Option<()> {
-        let policy = access(self.alloc, self.table)?;
+        let policy = self.rules.copied(self.alloc).ok()?;
         self.upgrade(b"a", policy)
     }
 
@@ -300,29 +304,15 @@ impl<'t> Work<'t> {
 
     /// Shows a moment, in milliseconds.
     pub(crate) fn show(&mut self, moment: u64) -> Option<()> {
-        self.conn.clock(self.alloc, moment).ok()
+        self.conn.clock(moment).ok()
     }
 
     /// Has the engines take turns, from the first on, until no call can go on. Nothing is sent.
     pub(crate) fn judge(&mut self) -> Option<()> {
-        for at in 0..self.conn.chain().engines() {
-            self.turns(at)?;
+        if !knows_tenants(self.conn.chain(), &self.tickets) {
+            return None;
         }
-        Some(())
-    }
-
-    fn turns(&mut self, at: u32) -> Option<()> {
-        for _ in 0..MAX_CALLS {
-            if at >= self.conn.chain().engines()
-                || !knows_tenants(self.conn.chain(), &self.tickets)
-            {
-                return None;
-            }
-            match self.conn.turn(at, &mut self.tickets) {
-                Turned::Idle | Turned::Held { .. } => return Some(()),
-                _ => {}
-            }
-        }
+        self.conn.judge(&mut self.tickets);
         Some(())
     }
 

@@ -1,0 +1,45 @@
+-- A call that passes by its mark.
+use Rattle.std.proofs.Common.{◌≡◌, ℕ, zero, suc, Bool, true, false, List, [], ◌∷◌, Some, refl, ap, set, slice_get}
+use Rattle.std.specs.Bool.{OnTrue}
+use Rattle.engine_core.specs.Engines.{EngineParts}
+use Rattle.engine_core.specs.Marks.{StandingCall}
+use Rattle.engine_core.specs.Steps.{Steps}
+use Rattle.engine_core.specs.Working.{Works}
+use Rattle.engine_core.specs.declared.outcome.Noted.TheVariants.{Nothing}
+use Rattle.engine_core.specs.declared.outcome.Outcome.TheVariants.{Passed}
+use Rattle.engine_core.proofs.Turning.{turn-step, engine-step, call-step, marks-step}
+
+pub where-true : (b : Bool) {P : Type 0} → (b ≡ true → P) → OnTrue b P
+where-true true holds = holds refl
+where-true false holds = tt
+
+pub then-true : (b : Bool) {P Q : Type 0} → (P → Q) → OnTrue b P → OnTrue b Q
+then-true true f p = f p
+then-true false f p = tt
+
+pub same-set : {A : Type 0} (xs : List A) (i : ℕ) (x : A) → slice_get xs i ≡ Some x → xs ≡ set xs i x
+same-set [] i x at = absurd cc
+same-set (y ∷ ys) zero x at = cc
+same-set (y ∷ ys) (suc i) x at = ap (λ zs. y ∷ zs) (same-set ys i x at)
+
+-- neither the engine nor the call changes
+pub works-marked : (es : List EngineParts) (calls calls' : List StandingCall) (p j moment : ℕ) (e : EngineParts) (s : StandingCall)
+    → slice_get es p ≡ Some e → slice_get calls j ≡ Some s → calls' ≡ set calls j s
+    → Steps e.entry.policy e.entry.attach e.entry.version e.level moment s s e.level (Passed Nothing)
+    → Works es calls p j moment (Passed Nothing) es calls'
+works-marked es calls calls' p j moment e s is_engine is_call same step = record {
+  engine = e;
+  engine' = e;
+  is_engine = is_engine;
+  others = same-set es p e is_engine;
+  call = s;
+  call' = s;
+  is_call = is_call;
+  other_calls = same;
+  met = s;
+  keeps = record { call = refl; kept = λ k d within. refl; none = λ attach none. none };
+  turn = turn-step e moment s s e.level (Passed Nothing) step;
+  leaves_engine = engine-step e e moment s s (Passed Nothing) step refl refl;
+  leaves_call = call-step _ _ _ _ _ s s _ (Passed Nothing) step;
+  leaves_marks = marks-step e.entry e.level moment s s e.level (Passed Nothing) step;
+}
