@@ -75,32 +75,22 @@ pub on-err : {T P : Type 0} (result : Result T Stop) → P → OnErr result P
 on-err (Ok value) p = tt
 on-err (Err stop) p = p
 
-pub after-none : (old new all line : List ℕ) → old ≡ [] → new ≡ old ++ line → all ≡ new → all ≡ line
-after-none old new all line none more same = same ∙ more ∙ ap (λ l. l ++ line) none
-
 -- ---- the lines of happenings from a place on
 
-module _ (T : Table) (conn : ℕ) (hs : List Happening) where
-  pub text-one : (text next all : List ℕ) (place after : ℕ) (what : Happening) → slice_get hs place ≡ Some what
-      → next ≡ text ++ audit_line T (on_connection conn what) → after ≡ suc place
-      → text ++ audit T (map (on_connection conn) (drop place hs)) ≡ all
-      → next ++ audit T (map (on_connection conn) (drop after hs)) ≡ all
-  text-one text next all place after what at is after_is same =
-      ap (λ n. next ++ audit T (map (on_connection conn) (drop n hs))) after_is
-      ∙ ap (λ l. l ++ audit T (map (on_connection conn) (drop (suc place) hs))) is
-      ∙ append_assoc text (audit_line T (on_connection conn what)) (audit T (map (on_connection conn) (drop (suc place) hs)))
-      ∙ ap (λ d. text ++ audit T (map (on_connection conn) d)) (sym (drop-at hs place what at))
-      ∙ same
+-- the line of a happening on a connection
+abbrev pub told_on : Table → ℕ → Happening → List ℕ
+told_on T conn what = audit_line T (on_connection conn what)
 
-  pub text-all : (text all : List ℕ) (place : ℕ) → text ++ audit T (map (on_connection conn) (drop place hs)) ≡ all → length hs ≤ place → text ≡ all
-  text-all text all place same past =
-      sym (append-nil text) ∙ ap (λ d. text ++ audit T (map (on_connection conn) d)) (sym (drop-past hs place past)) ∙ same
+pub one-by-one : (T : Table) (conn : ℕ) (hs : List Happening) → flat_map (told_on T conn) hs ≡ audit T (map (on_connection conn) hs)
+one-by-one T conn [] = refl
+one-by-one T conn (what ∷ hs) = ap (λ l. told_on T conn what ++ l) (one-by-one T conn hs)
 
-  pub none-left : (out : Option (List ℕ)) (place : ℕ) → length hs ≤ place → Appends out out (audit T (map (on_connection conn) (drop place hs)))
-  none-left out place past =
-      subst (λ d. Appends out out (audit T (map (on_connection conn) d))) (sym (drop-past hs place past)) (appends-nothing out)
+pub none-left : (T : Table) (conn : ℕ) (hs : List Happening) (out : Option (List ℕ)) (place : ℕ) → length hs ≤ place
+    → Appends out out (audit T (map (on_connection conn) (drop place hs)))
+none-left T conn hs out place past =
+    subst (λ d. Appends out out (audit T (map (on_connection conn) d))) (sym (drop-past hs place past)) (appends-nothing out)
 
--- ---- the lines of other items from a place on
+-- ---- the lines of items from a place on
 
 module _ {A : Type 0} (line_of : A → List ℕ) (xs : List A) (first out : Option (List ℕ)) (all : List ℕ) where
   pub item-one : (next : Option (List ℕ)) (place after : ℕ) (x : A) (line : List ℕ) → TellsRest first out (flat_map line_of (drop place xs)) all

@@ -163,6 +163,7 @@ pub record MayOperate (step : Op) (c : Calls) : Type 0 where
   pub versions : All (λ e. e.entry.version + 1 < 2 ^ 32) c.chain.engines
   pub free : (refusal : Refusal) → Refuses (chain_of c.chain) step refusal → ⊥
 
+-- what a script that was read says of a line when it is reached: its connection can do it
 abbrev pub MayDo : Script → Line → Connection → Type 0
 MayDo s (line.Conn conn words) c = ⊥
 MayDo s (line.Store conn place value) c = (1 ≤ place) × (place < c.heap.size)
@@ -201,6 +202,8 @@ pub record BreaksOn (T : Table) (conn : ℕ) (tried : Call) (old new : Course) (
 
 -- ---- what a line does on its connection
 
+-- the line was done on the connection: what followed is what the script says, with the tickets that it drew and the
+-- frames that it handed over
 pub record DoneOn (s : Script) (l : Line) (old new : Connection) (quotas quotas' : Counters)
     (wire wire' : Option (List ℕ)) : Type 0 where
   pub does : Does s l (opened_of old) (opened_of new)
@@ -208,6 +211,7 @@ pub record DoneOn (s : Script) (l : Line) (old new : Connection) (quotas quotas'
   pub draws : DrawsOn (course old.calls) (course new.calls) quotas quotas'
   pub hands : HandsOn s.table old.calls.conn (course old.calls) (course new.calls) wire wire'
 
+-- the line was begun, and the frame of the call that was tried could not be written whole
 pub record BrokenOn (s : Script) (l : Line) (old new : Connection) (quotas quotas' : Counters)
     (wire wire' : Option (List ℕ)) : Type 0 where
   pub tried : Call
@@ -223,16 +227,18 @@ pub record StoppedOn (s : Script) (l : Line) (old : Connection) (wire wire' : Op
       ⊎ ((l ≡ line.Drain old.calls.conn) × BeginsToDrain (under s old.calls.conn) (course old.calls) end)
   pub hands : HandsOn s.table old.calls.conn (course old.calls) end wire wire'
 
--- the same, for the line of this kind on the connection, in each script whose connection it is
+-- a line of this kind was done on the connection, whatever script it is of
 abbrev pub DoneWhere : (ℕ → Line) → Connection → Connection → Counters → Counters → (wire wire' : Option (List ℕ)) → Type 0
 DoneWhere line_on old new quotas quotas' wire wire' =
     (s : Script) → IsOf s old → DoneOn s (line_on old.calls.conn) old new quotas quotas' wire wire'
 
+-- a frame of such a line could not be written
 abbrev pub BrokenWhere : (ℕ → Line) → Connection → Connection → Counters → Counters → (wire wire' : Option (List ℕ))
     → Type 0
 BrokenWhere line_on old new quotas quotas' wire wire' =
     (s : Script) → IsOf s old → BrokenOn s (line_on old.calls.conn) old new quotas quotas' wire wire'
 
+-- such a line was stopped
 abbrev pub StoppedWhere : (ℕ → Line) → Connection → (wire wire' : Option (List ℕ)) → Type 0
 StoppedWhere line_on old wire wire' = (s : Script) → IsOf s old → StoppedOn s (line_on old.calls.conn) old wire wire'
 
@@ -261,6 +267,7 @@ pub record DoneTold (s : Script) (l : Line) (old new : Connection) (quotas quota
   pub lines : Appends out out' (untold s.table mid)
   pub sound : IsConnection new.calls
 
+-- a frame could not be written, and what had happened before was told
 pub record BrokenTold (s : Script) (l : Line) (old new : Connection) (quotas quotas' : Counters)
     (out out' wire wire' : Option (List ℕ)) : Type 0 where
   pub mid : Connection
@@ -301,11 +308,12 @@ pub record Ran (s : Script) (lines : List Line) (st : State) (connections : List
   pub told : Appends out out' (audit s.table st.history)
   pub handed : Appends wire wire' (sent s st)
 
+-- these lines were run, and lead to some state
 abbrev pub After : Script → List Line → List Connection → Counters → (out out' wire wire' : Option (List ℕ)) → Type 0
 After s lines connections quotas out out' wire wire' =
     (st : State) × Ran s lines st connections quotas out out' wire wire'
 
--- those in front of a line were
+-- the lines in front of a line were run, and this is where it begins
 pub record Before (s : Script) (l : Line) (connections : List Connection) (quotas : Counters)
     (out' wire' : Option (List ℕ)) : Type 0 where
   pub lines : List Line

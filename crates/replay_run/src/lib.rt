@@ -6,17 +6,17 @@
 //! text. The layers above use the laws on what follows.
 #![tactic(auto)]
 
+mod audit_lines;
 mod connection;
-mod following;
 mod laws;
-mod operating;
-mod running;
-mod sending;
-mod standing;
+mod operator_step;
+mod run_law;
+mod script_lines;
+mod standing_lines;
 mod stop;
-mod submitting;
-mod telling;
+mod submission;
+mod turns_and_sends;
 
 pub use laws::{a_drained_connection_is_settled, one_follows, what_follows_is_sound};
-pub use running::run_script;
+pub use script_lines::run_script;
 pub use stop::Stop;

@@ -1,7 +1,10 @@
--- Small histories of one connection, worked out by hand: each is legal, and its calls stand where they should.
-use Rattle.std.proofs.Common.{◌≡◌, ℕ, ◌+◌, ◌<◌, ◌≤◌, zero, suc, false, true, List, [], ◌∷◌, codes, length, get_or, arith, refl}
+-- Small histories of one connection, worked out by hand: each is legal, its calls stand where they should, and its text
+-- is this one.
+use Rattle.std.proofs.Common.{◌≡◌, ℕ, ◌+◌, ◌<◌, ◌≤◌, zero, suc, false, true, List, [], ◌∷◌, ◌++◌, codes, length, map, reverse, get_or, arith, refl}
 use Rattle.std.proofs.Common.{sym, ap, subst, ◌∙◌}
+use Rattle.std.specs.Fmt.{digits}
 use Rattle.std.specs.Prelude.{Contains, Some, slice_get}
+use Rattle.hex.specs.Hex.{encode_with}
 use Rattle.std.proofs.lemmas.List.Elements.{All-cons, All-contains, All-nil}
 use Rattle.mrpc_table.specs.Node.{Node, no_fields, field, one, number}
 use Rattle.mrpc_table.specs.Normal.{IsNormal}
@@ -25,19 +28,21 @@ use Rattle.engine_core.specs.Answers.{Answers, hold, nothing, charged, counted, 
 use Rattle.engine_core.specs.Answers.{is_clear, is_over, is_within, was_charged, was_counted}
 use Rattle.engine_core.specs.Chains.{Changes, Entry, IsAgainst, Refusal, attaches, changed, detaches_none, names_of, new_entry, upgrades_none}
 use Rattle.engine_core.specs.Chains.{is_taken, is_past, is_full, is_other}
-use Rattle.engine_core.specs.declared.op.Op.TheVariants.{Attach}
+use Rattle.engine_core.specs.declared.op.Op.TheVariants.{Attach, Detach}
 use Rattle.engine_core.specs.declared.policy.Policy.{Policy}
 use Rattle.engine_core.specs.declared.policy.Policy.TheVariants.{Access, Count, Rate, Redact}
 use Rattle.call_history.specs.Behind.{Behind, has_failed, level, moment, standing, taken}
-use Rattle.call_history.specs.Legal.{IsLegalBehind, IsPrefix}
+use Rattle.call_history.specs.Legal.{History, IsLegalBehind, IsPrefix}
 use Rattle.call_history.specs.Places.{ArePlaces, IsHead, IsHeld, IsSettled, NeverRise}
 use Rattle.call_history.specs.Rules.{EndsWithLink, Gives, IsLinkRefusal, IsSentNext, Lets, May, MayTake, NotesWhatIsDue, RefusesDrawn, RefusesMalformed}
 use Rattle.call_history.specs.Rules.{KeepsChain, Under, payload}
 use Rattle.call_history.specs.declared.happening.Cause.TheVariants as cause
+use Rattle.call_history.specs.declared.happening.Happened.{Happened}
 use Rattle.call_history.specs.declared.happening.Happening.{Happening}
 use Rattle.call_history.specs.declared.happening.Happening.TheVariants.{Took, Op, Moment, Charged, Counted, Redacted, Sent, Refused}
 use Rattle.call_history.specs.declared.happening.Taken.{Taken}
 use Rattle.call_history.specs.declared.happening.TookCopy.TheVariants.{Copy}
+use Rattle.audit_text.specs.Lines.{audit, stands_line}
 
 -- ---- tables and requests
 
@@ -101,6 +106,13 @@ normal-two = record {
   oneofs = λ o. omega arith;
   depth = omega arith;
 }
+
+abbrev on_one : Happening → Happened
+on_one what = record { conn = 1; what = what }
+
+-- what happened on connection 1, in order
+abbrev history_of : Behind → History
+history_of past = map on_one (reverse past)
 
 long-7 : (seq : ℕ) → 18 ≡ HEADER_LEN + length (payload one_field (form_of seq))
 unfolding varint groups
@@ -479,6 +491,28 @@ places-all_sent = record { each = tt; never_rise = never-rise 0 [] tt }
 settled-all_sent : IsSettled under all_sent []
 settled-all_sent = record { none_ready = All-nil _; held = λ call position head. absurd (let none = head.at in cc) }
 
+-- ---- a rate of one at once that is detached and attached again: it charges the next call, and holds the third
+
+abbrev one_at_once : Policy
+one_at_once = Rate (record { amount = 1; per = 1000; burst = 1; hold = true })
+
+abbrev attach_r1 : Happening
+attach_r1 = Op (Attach 0 rl (codes "r1") one_at_once)
+
+abbrev attached_again : Behind
+attached_again = Sent 2 18 ∷ Charged 2 rl 0 ∷ attach_r1 ∷ Op (Detach rl) ∷ Sent 1 18 ∷ Charged 1 rl 0
+    ∷ Took (seven 3) ∷ Took (seven 2) ∷ Took (seven 1) ∷ attach_r1 ∷ []
+
+audit-attached_again : audit one_field (history_of attached_again) ≡ codes "op 1 attach 0 rl r1\ntook 1 1 0 0 2 1 1 copy 0807\n"
+    ++ codes "took 1 2 0 0 2 1 1 copy 0807\ntook 1 3 0 0 2 1 1 copy 0807\ncharged 1 1 rl 0\nsent 1 1 18\n"
+    ++ codes "op 1 detach rl\nop 1 attach 0 rl r1\ncharged 1 2 rl 0\nsent 1 2 18\n"
+unfolding varint groups digits encode_with
+audit-attached_again = refl
+
+stands-attached_again : stands_line 1 3 0 rl (Some (record { level = 0; cost = 1000 })) ≡ codes "stands 1 3 0 rl held 0 1000\n"
+unfolding digits
+stands-attached_again = refl
+
 -- ---- a counted call, and a policy that is attached behind the count: the call stands between them
 
 abbrev c : List ℕ
@@ -507,6 +541,15 @@ places-counted = record {
   );
   never_rise = never-rise 1 (1 ∷ []) (omega arith, tt);
 }
+
+-- a drain has the policy judge it
+abbrev closed_off : Behind
+closed_off = Refused 1 (cause.Access d 1 (codes "default")) ∷ then_closed
+
+audit-closed_off : audit one_field (history_of closed_off) ≡ codes "op 1 attach 0 c c\ntook 1 1 0 0 2 1 1 copy 0807\n"
+    ++ codes "counted 1 1 c\nop 1 attach 1 d d\nrefused 1 1 access d 1 default\n"
+unfolding varint groups digits encode_with
+audit-closed_off = refl
 
 -- ---- a field is cleared, and the policy before, which asks for it, denies the call
 
@@ -654,3 +697,8 @@ places-cleared = record {
 
 settled-denied : IsSettled under_two denied []
 settled-denied = record { none_ready = All-nil _; held = λ call position head. absurd (let none = head.at in cc) }
+
+audit-denied : audit two_fields (history_of denied) ≡ codes "op 1 attach 0 acl acl\nop 1 attach 1 cut cut\n"
+    ++ codes "took 1 1 0 0 2 2 2 copy 08071009\nredacted 1 1 cut 1\nrefused 1 1 access acl 1 default\n"
+unfolding varint groups digits encode_with
+audit-denied = refl

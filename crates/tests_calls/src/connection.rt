@@ -238,7 +238,13 @@ impl<'t> Scene<'t> {
         self.operate(rt, step)
     }
 
-    // ---- sendings
+    // ---- turns and sendings
+
+    /// Turns until no call can go on.
+    pub fn judge(&mut self, rt: &impl Abort) {
+        assert!(rt; knows_tenants(self.conn.chain(), &self.tickets));
+        self.conn.judge(&mut self.tickets);
+    }
 
     /// Turns until no call can go on, and then sendings: what they come to.
     pub fn drain(&mut self, rt: &impl Abort) -> Drained {

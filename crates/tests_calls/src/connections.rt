@@ -1,4 +1,5 @@
-//! Connections whose steps are refused, whose link fails, that end, and that find no memory.
+//! Connections whose steps are refused, that are judged without a sending, whose link fails, that end, and that find no
+//! memory.
 
 use crate::connection::{Scene, Stepped};
 use crate::discard;
@@ -34,6 +35,32 @@ fn a_refused_step_is_no_happening(rt: HostRuntime) {
     let table = table_of(&rt, rt.alloc(), SMALL);
     let mut scene = Scene::open(&rt, rt.alloc(), &table, 0);
     refuse_steps(&rt, &mut scene);
+    discard(scene);
+    discard(table);
+}
+
+fn judge_before_a_drain(rt: &impl Abort, scene: &mut Scene) {
+    assert!(rt; scene.attach(rt, 0, b"c") == Stepped::Done);
+    scene.store(rt, 2, 7);
+    scene.accepts(rt);
+    scene.judge(rt);
+    assert!(rt; scene.records() == 3);
+    assert!(rt; scene.frames() == 0);
+    // The new count counts the call, and that behind it lets it pass by its mark.
+    assert!(rt; scene.attach(rt, 0, b"d") == Stepped::Done);
+    scene.judge(rt);
+    assert!(rt; scene.records() == 5);
+    assert!(rt; scene.drain(rt) == Drained::Done);
+    assert!(rt; scene.records() == 6);
+    scene.tells_sent(rt, 5, 1);
+    scene.hands(rt, 0, FIRST_WITH_7);
+}
+
+#[test]
+fn a_connection_is_judged_without_a_sending(rt: HostRuntime) {
+    let table = table_of(&rt, rt.alloc(), SMALL);
+    let mut scene = Scene::open(&rt, rt.alloc(), &table, 0);
+    judge_before_a_drain(&rt, &mut scene);
     discard(scene);
     discard(table);
 }

@@ -1,4 +1,4 @@
 //! Commands of `mrpc`.
 
-mod replays;
 mod runs;
+mod still;

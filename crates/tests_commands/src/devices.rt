@@ -12,7 +12,7 @@ pub(crate) struct Failing<'a> {
     pub(crate) beside: &'a [u64],
 }
 
-/// The devices in memory.
+/// The devices in memory. The first read of the input gives at most ten bytes.
 pub(crate) struct Devices {
     pub(crate) input: MemSource,
     pub(crate) out: MemSink,
@@ -40,10 +40,11 @@ impl Devices {
     ) -> Devices {
         let input = input.to_vec(alloc).expect(rt, "memory");
         let reads = failing.reads.to_vec(alloc).expect(rt, "memory");
+        let lengths = [10].to_vec(alloc).expect(rt, "memory");
         let lines = failing.lines.to_vec(alloc).expect(rt, "memory");
         let beside = failing.beside.to_vec(alloc).expect(rt, "memory");
         Devices {
-            input: MemSource::new(input, reads, Vec::new(alloc)),
+            input: MemSource::new(input, reads, lengths),
             out: MemSink::new(alloc, lines),
             beside: MemSink::new(alloc, beside),
         }

@@ -3,7 +3,7 @@
 use crate::devices::{Devices, Failing, words_of};
 use mem_fabric::{ListedFaults, MemFabric};
 use mrpc_base::{Fabric, FixedClock, OpenGate};
-use mrpc_top::{FABRIC_FAILED, LINK_FAILED, run_command};
+use mrpc_top::{DONE, FABRIC_FAILED, LINK_FAILED, run_command};
 use std::alloc::Global;
 use std::process::Abort;
 use std::sync::Wait;
@@ -13,6 +13,12 @@ use std::thread::Threads;
 const SCENARIO: &[u8] = b"mrpc = 1\nservice = \"S\"\nschema = \"\"\"\nsyntax = \"proto3\";\n\
       message M { uint64 a = 1; }\nservice S { rpc Get (M) returns (M); }\n\"\"\"\n\
       [[app]]\nconn = 1\nrole = \"client\"\nprogram = [\"store 2 150\", \"submit 0 2\"]\n\
+      [[app]]\nconn = 2\nrole = \"echo\"\n[[link]]\na = 1\nb = 2\n";
+
+// The same, where the client gives back a block that it doesn't hold.
+const FALSE_RECLAIM: &[u8] = b"mrpc = 1\nservice = \"S\"\nschema = \"\"\"\nsyntax = \"proto3\";\n\
+      message M { uint64 a = 1; }\nservice S { rpc Get (M) returns (M); }\n\"\"\"\n\
+      [[app]]\nconn = 1\nrole = \"client\"\nprogram = [\"store 2 150\", \"submit 0 2\", \"reclaim 9\"]\n\
       [[app]]\nconn = 2\nrole = \"echo\"\n[[link]]\na = 1\nb = 2\n";
 
 const NONE: Failing<'static> = Failing {
@@ -55,14 +61,15 @@ where
     )
 }
 
-// What the run leaves, over links in memory that fail as they are listed, where it ends with this status.
+// What the run of a scenario leaves, over links in memory that fail as they are listed, where it ends with this status.
 fn ran<R: Abort + Threads + Wait + Sync>(
     rt: &R,
     alloc: Global,
+    scenario: &[u8],
     faults: ListedFaults,
     status: u8,
 ) -> Devices {
-    let mut devices = Devices::new(rt, alloc, SCENARIO, NONE);
+    let mut devices = Devices::new(rt, alloc, scenario, NONE);
     let fabric = MemFabric::new(rt, alloc, faults);
     assert!(rt; status_over(rt, alloc, &mut devices, fabric) == status);
     devices
@@ -71,13 +78,47 @@ fn ran<R: Abort + Threads + Wait + Sync>(
 #[test]
 fn nothing_is_told_where_a_link_was_not_opened(rt: HostRuntime) {
     let faults = listed(&rt, rt.alloc(), &[1], &[]);
-    let devices = ran(&rt, rt.alloc(), faults, FABRIC_FAILED);
+    let devices = ran(&rt, rt.alloc(), SCENARIO, faults, FABRIC_FAILED);
     assert!(rt; devices.out.calls() == 0);
 }
 
+// A send of connection 1 fails: what is told then.
+type Row<'a> = (u64, &'a [u8]);
+
+fn assert_fails<R: Abort + Threads + Wait + Sync>(rt: &R, alloc: Global, rows: &[Row]) {
+    for (send, told) in rows {
+        let faults = listed(rt, alloc, &[], &[*send]);
+        let devices = ran(rt, alloc, SCENARIO, faults, LINK_FAILED);
+        assert!(rt; devices.out.written() == *told);
+    }
+}
+
+// The first one is that of its hello. The frame of its call is the second one: it was in the queue before.
 #[test]
 fn a_link_that_fails_is_told(rt: HostRuntime) {
-    let faults = listed(&rt, rt.alloc(), &[], &[1]);
-    let devices = ran(&rt, rt.alloc(), faults, LINK_FAILED);
-    assert!(rt; devices.out.written().starts_with(b"unbound 1 transport\n"));
+    let rows: [Row; 2] = [
+        (1, b"unbound 1 transport\nunbound 2 ended\ntotals 0 0 0 0\n"),
+        (
+            2,
+            b"took 1 1 0 0 2 1 1 copy 089601\nsent 1 1 19\nmethod 0 1 1 0 0\ntotals 1 1 0 0\n",
+        ),
+    ];
+    assert_fails(&rt, rt.alloc(), &rows);
+}
+
+// What is told of the block that isn't held stands before the arrival of the reply, or behind it.
+const BEFORE: &[u8] = b"took 1 1 0 0 2 1 1 copy 089601\nsent 1 1 19\nnotheld 1 9\n\
+    arrived 1 2 0 1 089601\ntook 2 1 0 1 2 1 1 copy 089601\nsent 2 1 19\narrived 2 1 0 1 089601\n\
+    method 0 2 2 0 0\ntotals 2 2 0 0\n";
+
+const BEHIND: &[u8] = b"took 1 1 0 0 2 1 1 copy 089601\nsent 1 1 19\narrived 1 2 0 1 089601\n\
+    notheld 1 9\ntook 2 1 0 1 2 1 1 copy 089601\nsent 2 1 19\narrived 2 1 0 1 089601\n\
+    method 0 2 2 0 0\ntotals 2 2 0 0\n";
+
+#[test]
+fn a_block_that_is_not_held_is_told(rt: HostRuntime) {
+    let faults = listed(&rt, rt.alloc(), &[], &[]);
+    let devices = ran(&rt, rt.alloc(), FALSE_RECLAIM, faults, DONE);
+    let told = devices.out.written();
+    assert!(rt; told == BEFORE || told == BEHIND);
 }

@@ -1,5 +1,0 @@
-use Rattle.replay_run.proofs.Counted.{counts-none}
-use Rattle.replay_run.proofs.running.has_counted.Goals as goal
-
-pub loop-window-init : goal.loop-window-init
-loop-window-init c = counts-none c.args.tenant c.args.tickets.now

@@ -1,5 +1,0 @@
-use Rattle.replay_run.proofs.Counted.{AreCountedTo}
-use Rattle.replay_run.proofs.running.has_counted.Given as goal
-
-abbrev pub invariant-loop-window : goal.invariant-loop-window
-invariant-loop-window l = AreCountedTo l.tenant l.window l.fn.tickets l.tickets

@@ -1,0 +1,121 @@
+//! The steps of operators, and the clock.
+
+ghost use Rattle.std.specs.Prelude.{◌≡◌, ◌≢◌, ◌<◌, ℕ, IfErr, IfOk, None, OnOk, Some, length};
+ghost use Rattle.script_text.specs.Lines.{op_in};
+ghost use Rattle.script_text.specs.declared.script.Line.TheVariants.{Attach, Moment, Upgrade};
+ghost use Rattle.replay_run.specs.Kept.{DoesWhere, IsResting, Keeps, MayOperate};
+
+use crate::connection::Connection;
+use crate::stop::Stop;
+use chain_upgrade::ChainFault;
+use engine_core::Op;
+use mrpc_table::{Memory, Name};
+use policy_blocks::NamedPolicy;
+use script_text::{Line, Script};
+use std::alloc::Global;
+
+/// Takes the step of an operator's line, which the chain doesn't refuse.
+pub(crate) fn operate_by(
+    alloc: Global,
+    script: &Script,
+    line: &Line,
+    connection: &mut Connection<'_>,
+) -> Result<(), Stop>
+    requires rests { IsResting connection.old.heap }
+    requires may { (step : Op) × (op_in script.now.declared.policies line.now ≡ Some step)
+        × MayOperate step connection.old.calls }
+    ensures does { OnOk result (DoesWhere (λ s l. op_in s.declared.policies l ≡ op_in script.now.declared.policies line.now)
+        connection.old connection.new) }
+    ensures keeps { OnOk result (Keeps connection.old connection.new) }
+    ensures memory { IfErr result (λ stop. stop ≡ Stop.Memory) }
+{
+    let step = step_of(alloc, script.declared.policies(), line)?;
+    operate(alloc, connection, step)
+}
+
+// The step of an operator's line.
+fn step_of(alloc: Global, policies: &[NamedPolicy], line: &Line) -> Result<Op, Memory>
+    requires { op_in policies.now line.now ≢ None }
+    ensures { IfOk result (λ step. op_in policies.now line.now ≡ Some step) }
+{
+    match line {
+        Line::Attach {
+            at,
+            name,
+            policy,
+            ..
+        } => attaching(alloc, policies, *at, name, *policy),
+        Line::Detach { name, .. } => Ok(Op::Detach {
+            name: name.copied(alloc)?,
+        }),
+        Line::Upgrade { name, policy, .. } => upgrading(alloc, policies, name, *policy),
+        _ => unreachable!(),
+    }
+}
+
+// A step that attaches the policy at a place among the declared ones.
+fn attaching(
+    alloc: Global,
+    policies: &[NamedPolicy],
+    at: u32,
+    name: &Name,
+    policy: usize,
+) -> Result<Op, Memory>
+    requires { policy < length policies.now }
+    ensures { (conn : ℕ) → IfOk result (λ step. op_in policies.now (Attach conn at name.now policy) ≡ Some step) }
+{
+    let named = &policies[policy];
+    Ok(Op::Attach {
+        at,
+        name: name.copied(alloc)?,
+        label: named.name.copied(alloc)?,
+        policy: named.policy.copied(alloc)?,
+    })
+}
+
+// A step that puts the policy at a place among the declared ones into the entry of a name.
+fn upgrading(
+    alloc: Global,
+    policies: &[NamedPolicy],
+    name: &Name,
+    policy: usize,
+) -> Result<Op, Memory>
+    requires { policy < length policies.now }
+    ensures { (conn : ℕ) → IfOk result (λ step. op_in policies.now (Upgrade conn name.now policy) ≡ Some step) }
+{
+    let named = &policies[policy];
+    Ok(Op::Upgrade {
+        name: name.copied(alloc)?,
+        label: named.name.copied(alloc)?,
+        policy: named.policy.copied(alloc)?,
+    })
+}
+
+// Takes a step that the chain doesn't refuse.
+fn operate(alloc: Global, connection: &mut Connection<'_>, step: Op) -> Result<(), Stop>
+    requires rests { IsResting connection.old.heap }
+    requires may { MayOperate step connection.old.calls }
+    ensures does { OnOk result (DoesWhere (λ s l. op_in s.declared.policies l ≡ Some step)
+        connection.old connection.new) }
+    ensures keeps { OnOk result (Keeps connection.old connection.new) }
+    ensures memory { IfErr result (λ stop. stop ≡ Stop.Memory) }
+{
+    let Err(fault) = connection.calls.operate(alloc, step) else {
+        return Ok(());
+    };
+    match fault {
+        ChainFault::Memory => Err(Stop::Memory),
+        _ => unreachable!(),
+    }
+}
+
+/// Shows a connection a moment.
+pub(crate) fn show(connection: &mut Connection<'_>, ms: u64) -> Result<(), Stop>
+    requires rests { IsResting connection.old.heap }
+    ensures does { OnOk result (DoesWhere (λ s l. l ≡ Moment connection.old.calls.conn ms)
+        connection.old connection.new) }
+    ensures keeps { OnOk result (Keeps connection.old connection.new) }
+    ensures memory { IfErr result (λ stop. stop ≡ Stop.Memory) }
+{
+    Ok(connection.calls.clock(ms)?)
+}

@@ -1,0 +1,60 @@
+//! The submission of a call.
+
+ghost use Rattle.std.specs.Prelude.{◌≡◌, ◌+◌, ◌<◌, ◌≤◌, ◌^◌, IfErr, OnOk, length};
+ghost use Rattle.mrpc_table.specs.declared.limits.TheConstants.{MAX_HEAP, MIN_HEAP};
+ghost use Rattle.script_text.specs.declared.script.Line.TheVariants.{Submit};
+ghost use Rattle.call_history.specs.Behind.{taken};
+ghost use Rattle.conn_core.specs.Connections.{IsSame, behind};
+ghost use Rattle.replay_run.specs.Kept.{DoesWhere, IsResting, Keeps, Submits};
+
+use crate::connection::Connection;
+use crate::stop::Stop;
+use conn_core::{Ask, Conn};
+use engine_core::MAX_CALLS;
+use mrpc_base::{PlainWords, Stores};
+use std::alloc::Global;
+
+/// Submits a call: it is accepted, or turned away where as many calls stand as may. Then the races that are left are
+/// made.
+pub(crate) fn submit(
+    alloc: Global,
+    connection: &mut Connection<'_>,
+    method: u16,
+    number: u32,
+    addr: u64,
+) -> Result<(), Stop>
+    requires rests { IsResting connection.old.heap }
+    requires numbers { length (taken (behind connection.old.calls)) + 1 < 2 ^ 32 }
+    ensures does { OnOk result (DoesWhere (λ s l. l ≡ Submit connection.old.calls.conn method number addr)
+        connection.old connection.new) }
+    ensures keeps { OnOk result (Keeps connection.old connection.new) }
+    ensures memory { IfErr result (λ stop. stop ≡ Stop.Memory) }
+{
+    let ask = Ask {
+        method,
+        number,
+        addr,
+        after: connection.heap.made(),
+    };
+    take(alloc, &mut connection.calls, &mut connection.heap, ask)?;
+    connection.heap.finish_submission();
+    Ok(())
+}
+
+// Takes the call of a submission, before the races that are left are made.
+fn take(alloc: Global, calls: &mut Conn<'_>, heap: &mut PlainWords, ask: Ask) -> Result<(), Stop>
+    requires least_heap { MIN_HEAP ≤ heap.old.size }
+    requires greatest_heap { heap.old.size ≤ MAX_HEAP }
+    requires numbers { length (taken (behind calls.old)) + 1 < 2 ^ 32 }
+    ensures submits { OnOk result (Submits ask calls.old calls.new heap.old heap.new) }
+    ensures same { OnOk result (IsSame calls.old calls.new) }
+    ensures memory { IfErr result (λ stop. stop ≡ Stop.Memory) }
+{
+    if calls.chain().calls().len() == MAX_CALLS {
+        return Ok(calls.turn_away(ask)?);
+    }
+    match calls.accept(alloc, heap, ask) {
+        Ok(_) => Ok(()),
+        Err(_) => Err(Stop::Memory),
+    }
+}
