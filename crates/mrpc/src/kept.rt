@@ -98,6 +98,8 @@ pub(crate) struct KeptSink<'r, R, K: Sink + Drop> {
     sink: K,
     alloc: Global,
     fault: Bytes,
+    // Whether the number of calls is looked for. In a replay it isn't, which writes each line by itself.
+    counts: bool,
     calls: Option<u64>,
     progress: &'r Progress<'r, R>,
 }
@@ -108,6 +110,7 @@ impl<'r, R, K: Sink + Drop> Drop for KeptSink<'r, R, K> {
             sink: _sink,
             alloc: _,
             fault: _fault,
+            counts: _,
             calls: _,
             progress: _,
         } = self;
@@ -121,16 +124,30 @@ impl<'r, R: Eprint + Clock, K: Sink + Drop> KeptSink<'r, R, K> {
             sink,
             alloc,
             fault: Bytes::new(alloc),
+            counts: false,
             calls: None,
             progress,
+        }
+    }
+
+    /// From now on the number of calls is looked for in what is written.
+    pub(crate) fn look_for_calls(&mut self) {
+        self.counts = true;
+    }
+
+    fn count(&mut self, piece: &[u8])
+        ensures { self.new.sink ≡ self.old.sink }
+    {
+        if let Some(calls) = calls_told(piece) {
+            self.calls = Some(calls);
         }
     }
 
     fn keep(&mut self, piece: &[u8])
         ensures { self.new.sink ≡ self.old.sink }
     {
-        if let Some(calls) = calls_told(piece) {
-            self.calls = Some(calls);
+        if self.counts {
+            self.count(piece);
         }
         if piece.len() > LONGEST || !piece.starts_with(FAULT) {
             return;

@@ -90,6 +90,9 @@ where
         let status = answer(rt.alloc(), asked, out);
         return say_status(rt.alloc(), status, false, error);
     }
+    if runs(words) {
+        out.look_for_calls();
+    }
     let status = run_words(rt, words, input, out, progress);
     progress.clear();
     say_end(rt.alloc(), words, status, input, out, error, progress);
