@@ -17,8 +17,7 @@ use Rattle.mrpc_table.specs.declared.table.Table.{Table}
 use Rattle.frame_transport.specs.declared.format.Frame.{Frame}
 use Rattle.policy_access.specs.Verdict.{AccessPolicy, matches, verdict}
 use Rattle.policy_access.specs.declared.rule.Rule.{Rule}
-use Rattle.receive_core.specs.Fates.{IsCall, IsFate, arrived, arrives, call_of, drops, has_no_method, is_denied, is_faulty, is_hello, is_too_large}
-use Rattle.receive_core.specs.Fates.{message_of as message_of_frame}
+use Rattle.receive_core.specs.Fates.{IsCall, IsFate, arrived, arrives, call_of, drops, has_no_method, is_denied, is_faulty, is_hello, is_too_large, message_of_frame}
 use Rattle.receive_core.specs.Life.{Fated, HasItsFate, Life, was_dropped, was_placed}
 use Rattle.receive_core.specs.declared.arrival.DropCause.{DropCause}
 use Rattle.receive_core.specs.declared.arrival.DropCause.TheVariants.{Hello, NoMethod, Decode, Denied, Oversize}

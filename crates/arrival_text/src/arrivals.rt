@@ -1,14 +1,13 @@
 //! The lines of what arrived.
 
 ghost use Rattle.std.specs.Prelude.{◌≡◌, ◌<◌, ◌++◌, IfOk, OnOk, Option, length};
+ghost use Rattle.mrpc_table.specs.Lines.{behind_spaces};
 ghost use Rattle.mrpc_table.specs.Normal.{IsNormal};
 ghost use Rattle.mrpc_table.specs.Text.{line};
 ghost use Rattle.mrpc_table.specs.Valid.{IsValid};
 ghost use Rattle.wire_base.specs.Encoding.{encoding};
 ghost use Rattle.arrival_text.specs.Lines.{FitsArrival, FitsCause, arrival_words, call_words, cause_words, judging_of, message_of_kind};
-ghost use Rattle.arrival_text.specs.Pieces.{behind_spaces};
 
-use crate::pieces::{append_text, begin};
 use audit_text::append_hex_word;
 use deliveries::ArrivalLine;
 use frame_transport::REPLY;
@@ -98,7 +97,7 @@ fn append_call(
         u64::from(method),
         u64::from(number),
     ];
-    begin(out, word, &numbers)
+    out.append_row(word, &numbers)
 }
 
 // Why a frame was dropped, as further words.
@@ -107,14 +106,14 @@ fn append_cause(out: &mut Bytes, judge: Option<Judge>, why: DropCause) -> Result
     ensures { OnOk result (out.new ≡ out.old ++ behind_spaces (cause_words (judging_of judge.entry) why)) }
 {
     match why {
-        DropCause::Hello => begin(out, b" Hello", &[]),
-        DropCause::NoMethod => begin(out, b" NoMethod", &[]),
+        DropCause::Hello => out.append_row(b" Hello", &[]),
+        DropCause::NoMethod => out.append_row(b" NoMethod", &[]),
         DropCause::Decode { reason, place } => {
-            append_text(out, reason.word().as_bytes())?;
+            out.append_spaced(reason.word().as_bytes())?;
             out.append_word(place as u64)
         }
         DropCause::Denied { rule } => append_denial(out, judge, rule),
-        DropCause::Oversize { need, words } => begin(out, b" Oversize", &[need, words]),
+        DropCause::Oversize { need, words } => out.append_row(b" Oversize", &[need, words]),
     }
 }
 
@@ -125,7 +124,7 @@ fn append_denial(out: &mut Bytes, judge: Option<Judge>, rule: u32) -> Result<(),
         ≡ out.old ++ behind_spaces (cause_words (judging_of judge.entry) (DropCause.Denied rule))) }
 {
     let Some(judge) = judge else { unreachable!() };
-    append_text(out, b"access")?;
-    append_text(out, judge.name.as_slice())?;
-    append_text(out, judge.policy.rule_name(rule).as_slice())
+    out.append_spaced(b"access")?;
+    out.append_spaced(judge.name.as_slice())?;
+    out.append_spaced(judge.policy.rule_name(rule).as_slice())
 }

@@ -8,7 +8,6 @@
 
 mod arrivals;
 mod laws;
-mod pieces;
 mod rest;
 mod unbound;
 

@@ -1,11 +1,11 @@
 //! The lines of what is left at the end of a run.
 
-ghost use Rattle.std.specs.Prelude.{◌≡◌, ◌≢◌, ◌++◌, OnOk};
+ghost use Rattle.std.specs.Prelude.{◌≡◌, ◌≢◌, [], ◌∷◌, ◌++◌, OnOk};
+ghost use Rattle.std.specs.Fmt.{decimal};
+ghost use Rattle.mrpc_table.specs.Lines.{behind_spaces};
 ghost use Rattle.mrpc_table.specs.Text.{line};
 ghost use Rattle.arrival_text.specs.Lines.{cut_words, fault_words, not_held_words, short_words, waits_words};
-ghost use Rattle.arrival_text.specs.Pieces.{behind_spaces};
 
-use crate::pieces::{append_place, append_text, begin};
 use frame_transport::FeedFault;
 use mrpc_table::{Bytes, Memory};
 
@@ -13,7 +13,7 @@ use mrpc_table::{Bytes, Memory};
 pub fn append_not_held(out: &mut Bytes, conn: u32, block: u64) -> Result<(), Memory>
     ensures { OnOk result (out.new ≡ out.old ++ line (not_held_words conn block)) }
 {
-    begin(out, b"notheld", &[u64::from(conn), block])?;
+    out.append_row(b"notheld", &[u64::from(conn), block])?;
     out.push(b'\n')
 }
 
@@ -23,7 +23,7 @@ pub fn append_cut(out: &mut Bytes, conn: u32, fault: FeedFault) -> Result<(), Me
     requires { fault ≢ FeedFault.Memory }
     ensures { OnOk result (out.new ≡ out.old ++ line (cut_words conn fault)) }
 {
-    begin(out, b"cut", &[u64::from(conn)])?;
+    out.append_row(b"cut", &[u64::from(conn)])?;
     append_fault(out, fault)?;
     out.push(b'\n')
 }
@@ -33,8 +33,8 @@ pub fn append_cut(out: &mut Bytes, conn: u32, fault: FeedFault) -> Result<(), Me
 pub fn append_short(out: &mut Bytes, conn: u32, place: u64) -> Result<(), Memory>
     ensures { OnOk result (out.new ≡ out.old ++ line (short_words conn place)) }
 {
-    begin(out, b"cut", &[u64::from(conn), place])?;
-    append_text(out, b"Short")?;
+    out.append_row(b"cut", &[u64::from(conn), place])?;
+    out.append_spaced(b"Short")?;
     out.push(b'\n')
 }
 
@@ -54,7 +54,7 @@ pub fn append_waits(
         u64::from(method),
         u64::from(number),
     ];
-    begin(out, b"waits", &numbers)?;
+    out.append_row(b"waits", &numbers)?;
     out.push(b'\n')
 }
 
@@ -69,4 +69,12 @@ pub(crate) fn append_fault(out: &mut Bytes, fault: FeedFault) -> Result<(), Memo
         FeedFault::TooLong { place, .. } => append_place(out, place, b"TooLong"),
         FeedFault::Memory => unreachable!(),
     }
+}
+
+// A number and a word, as further words.
+fn append_place(out: &mut Bytes, place: u64, word: &[u8]) -> Result<(), Memory>
+    ensures { OnOk result (out.new ≡ out.old ++ behind_spaces (decimal place ∷ word.now ∷ [])) }
+{
+    out.append_word(place)?;
+    out.append_spaced(word)
 }

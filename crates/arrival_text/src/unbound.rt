@@ -2,12 +2,11 @@
 
 ghost use Rattle.std.specs.Prelude.{◌≡◌, ◌≢◌, [], ◌∷◌, ◌++◌, OnOk, Option};
 ghost use Rattle.std.specs.Fmt.{decimal};
+ghost use Rattle.mrpc_table.specs.Lines.{behind_spaces};
 ghost use Rattle.mrpc_table.specs.Text.{line};
 ghost use Rattle.link_greeting.specs.Greeting.{SaysWhy};
 ghost use Rattle.arrival_text.specs.Lines.{byte_word, disagreement_words, flag_word, reason_words, unbound_words};
-ghost use Rattle.arrival_text.specs.Pieces.{behind_spaces};
 
-use crate::pieces::{append_text, begin};
 use crate::rest::append_fault;
 use link_greeting::Unbound;
 use mrpc_table::{Bytes, Memory};
@@ -20,7 +19,7 @@ pub fn append_unbound(out: &mut Bytes, conn: u32, why: &Unbound) -> Result<(), M
     requires { SaysWhy why.now }
     ensures { OnOk result (out.new ≡ out.old ++ line (unbound_words conn why.now)) }
 {
-    begin(out, b"unbound", &[u64::from(conn)])?;
+    out.append_row(b"unbound", &[u64::from(conn)])?;
     append_reason(out, why)?;
     out.push(b'\n')
 }
@@ -31,13 +30,13 @@ fn append_reason(out: &mut Bytes, why: &Unbound) -> Result<(), Memory>
     ensures { OnOk result (out.new ≡ out.old ++ behind_spaces (reason_words why.now)) }
 {
     match why {
-        Unbound::Transport => begin(out, b" transport", &[]),
-        Unbound::Ended => begin(out, b" ended", &[]),
+        Unbound::Transport => out.append_row(b" transport", &[]),
+        Unbound::Ended => out.append_row(b" ended", &[]),
         Unbound::Cut(fault) => {
-            append_text(out, b"cut")?;
+            out.append_spaced(b"cut")?;
             append_fault(out, *fault)
         }
-        Unbound::Hello { line } => begin(out, b" hello", &[*line]),
+        Unbound::Hello { line } => out.append_row(b" hello", &[*line]),
         Unbound::Disagrees(fault) => append_disagreement(out, fault),
     }
 }
@@ -49,15 +48,15 @@ fn append_disagreement(out: &mut Bytes, fault: &AgreeFault) -> Result<(), Memory
 {
     match fault {
         AgreeFault::NoService { ours, theirs } => {
-            begin(out, b" service", &[digit(*ours), digit(*theirs)])
+            out.append_row(b" service", &[digit(*ours), digit(*theirs)])
         }
         AgreeFault::Mismatch { byte, ours, theirs } => {
-            begin(out, b" mismatch", &[*byte])?;
+            out.append_row(b" mismatch", &[*byte])?;
             append_bytes(out, *ours, *theirs)
         }
-        AgreeFault::Methods { at } => begin(out, b" methods", &[u64::from(*at)]),
+        AgreeFault::Methods { at } => out.append_row(b" methods", &[u64::from(*at)]),
         AgreeFault::Field { message, number } => {
-            append_text(out, b"field")?;
+            out.append_spaced(b"field")?;
             begin_field(out, message.as_slice(), *number)
         }
         AgreeFault::Memory => unreachable!(),
@@ -68,7 +67,7 @@ fn append_disagreement(out: &mut Bytes, fault: &AgreeFault) -> Result<(), Memory
 fn begin_field(out: &mut Bytes, message: &[u8], number: u32) -> Result<(), Memory>
     ensures { OnOk result (out.new ≡ out.old ++ behind_spaces (message.now ∷ decimal number ∷ [])) }
 {
-    append_text(out, message)?;
+    out.append_spaced(message)?;
     out.append_word(u64::from(number))
 }
 
@@ -91,7 +90,7 @@ fn append_byte(out: &mut Bytes, byte: Option<u8>) -> Result<(), Memory>
     ensures { OnOk result (out.new ≡ out.old ++ 32 ∷ byte_word byte) }
 {
     match byte {
-        None => append_text(out, b"-"),
+        None => out.append_spaced(b"-"),
         Some(byte) => out.append_word(u64::from(byte)),
     }
 }

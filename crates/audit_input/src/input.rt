@@ -40,9 +40,9 @@ pub struct AuditInput<'a> {
 #[derive(Drop)]
 struct Items<'a> {
     declared: Declarations,
-    /// The text from the line `audit` on.
+    // The text from the line `audit` on.
     rest: &'a [u8],
-    /// The text behind that line.
+    // The text behind that line.
     text: &'a [u8],
 }
 

@@ -9,10 +9,10 @@ use Rattle.std.specs.Char.{encode_utf8}
 use Rattle.std.proofs.lemmas.Bool.Decides.{nat_tests, eqb_tells}
 use Rattle.std.proofs.lemmas.List.Elements.{All-head, All-tail}
 use Rattle.mrpc_table.specs.Node.{Node, no_fields, field, Content, one, many, pairs, Item, number, run, node, Items, no_items, item, Pairs, no_pairs, pair}
-use Rattle.mrpc_table.specs.Normal.{IsNormal, HasFields, HasContent, IsItem, AreItems, ArePairs, IsRun, fields_of, field_at, kind_at}
+use Rattle.mrpc_table.specs.Normal.{IsNormal, HasFields, HasContent, IsItem, AreItems, ArePairs, IsRun, fields_of, field_at, kind_at, label_at}
 use Rattle.mrpc_table.specs.Valid.{IsValid, IsMessage, IsField}
 use Rattle.mrpc_table.specs.WireTypes.{wire_len, wire_type_of}
-use Rattle.mrpc_table.specs.Words.{IsWordForm, IsSigned32, key_kind, message_of}
+use Rattle.mrpc_table.specs.Words.{IsWordForm, IsSigned32, key_kind, nested_message}
 use Rattle.mrpc_table.specs.declared.table.Kind.{Kind}
 use Rattle.mrpc_table.specs.declared.table.Kind.TheVariants.{Int32, Int64, Uint32, Uint64, Sint32, Sint64}
 use Rattle.mrpc_table.specs.declared.table.Kind.TheVariants.{Bool as TheBool, Fixed32, Fixed64, Sfixed32, Sfixed64}
@@ -22,7 +22,7 @@ use Rattle.mrpc_table.specs.declared.table.Label.TheVariants.{Plain}
 use Rattle.mrpc_table.specs.declared.table.Field.{Field}
 use Rattle.mrpc_table.specs.declared.table.Message.{Message}
 use Rattle.mrpc_table.specs.declared.table.Table.{Table}
-use Rattle.wire_base.specs.Encoding.{encoding, groups, varint, tag, delimited, zigzag_of, number_bytes, label_at}
+use Rattle.wire_base.specs.Encoding.{encoding, groups, varint, tag, delimited, zigzag_of, number_bytes}
 use Rattle.wire_base.specs.Encoding.{is_packed, fields_bytes, content_bytes, item_bytes, joined_bytes, records_bytes}
 use Rattle.wire_base.specs.Encoding.{entries_bytes}
 use Rattle.audit_text.proofs.Bytes.{AreBytes, bytes-append, bytes-all}
@@ -234,11 +234,11 @@ mutual
   item-bytes T all k (number n) h few = number-bytes k n h
   item-bytes T all k (run bytes) h few = delimited-bytes bytes (few-inside bytes few) (run-bytes k bytes h)
   item-bytes T all k (node t) h few =
-      let fs = fields_of T (message_of k) in
+      let fs = fields_of T (nested_message k) in
       let inside = few-inside (fields_bytes T fs t) few in
-      let same : message_of k ≡ h.0 = ap message_of h.1 in
+      let same : nested_message k ≡ h.0 = ap nested_message h.1 in
       let has : HasFields T fs 0 t = subst (λ i. HasFields T (fields_of T i) 0 t) (sym same) h.2 in
-      delimited-bytes (fields_bytes T fs t) inside (fields-bytes T all fs 0 t (all (message_of k)) has inside)
+      delimited-bytes (fields_bytes T fs t) inside (fields-bytes T all fs 0 t (all (nested_message k)) has inside)
 
   joined-bytes : (T : Table) → ((i : ℕ) → AreSmall (fields_of T i)) → (k : Kind) (is : Items) → AreItems T k is
       → length (joined_bytes T k is) < 2 ^ 64 → AreBytes (joined_bytes T k is)

@@ -1,26 +1,20 @@
 -- Lines by the pieces that are appended one after another.
 use Rattle.std.proofs.Common.{◌≡◌, ℕ, List, [], ◌∷◌, ◌++◌, refl, sym, ap, ◌∙◌, append_assoc, append-nil, codes}
-use Rattle.std.specs.Prelude.{map, Result, Ok, Err, OnOk}
-use Rattle.std.specs.List.{flat_map}
-use Rattle.std.specs.Fmt.{decimal}
+use Rattle.std.specs.Prelude.{Result, Ok, Err, OnOk}
 use Rattle.mrpc_table.specs.Calls.{message_at}
+use Rattle.mrpc_table.specs.Lines.{behind_spaces}
 use Rattle.mrpc_table.specs.Text.{line, spaced}
 use Rattle.mrpc_table.specs.declared.table.Table.{Table}
 use Rattle.call_history.specs.declared.happening.Taken.{Taken}
 use Rattle.call_history.specs.declared.happening.TookCopy.{TookCopy}
 use Rattle.call_history.specs.declared.happening.TookCopy.TheVariants.{Copy, Malformed}
 use Rattle.audit_text.specs.Lines.{copy_words, encoding_of, hex_word}
-use Rattle.audit_text.specs.Pieces.{behind_spaces, told_copy}
+use Rattle.audit_text.specs.Pieces.{told_copy}
 
 -- words with a space between each two are the first, and the others each behind a space
 pub spaced-pieces : (w : List ℕ) (ws : List (List ℕ)) → spaced (w ∷ ws) ≡ w ++ behind_spaces ws
 spaced-pieces w [] = sym (append-nil w)
 spaced-pieces w (v ∷ ws) = ap (λ l. w ++ 32 ∷ l) (spaced-pieces v ws)
-
--- numbers, each behind a space
-pub numbers-spaced : (ns : List ℕ) → flat_map (λ n. 32 ∷ decimal n) ns ≡ behind_spaces (map decimal ns)
-numbers-spaced [] = refl
-numbers-spaced (n ∷ ns) = ap (λ l. 32 ∷ decimal n ++ l) (numbers-spaced ns)
 
 pub line-pieces : (w : List ℕ) (ws : List (List ℕ)) → line (w ∷ ws) ≡ (w ++ behind_spaces ws) ++ 10 ∷ []
 line-pieces w ws = ap (λ l. l ++ 10 ∷ []) (spaced-pieces w ws)

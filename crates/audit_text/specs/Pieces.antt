@@ -1,16 +1,11 @@
 -- The code's own: lines by the pieces that are appended one after another.
 use Rattle.std.specs.Prelude.{ℕ, List, [], ◌∷◌, codes, map}
-use Rattle.std.specs.List.{flat_map}
 use Rattle.std.specs.Fmt.{decimal}
 use Rattle.mrpc_table.specs.Text.{line}
 use Rattle.graph_form.specs.Words.{reason_word}
 use Rattle.audit_text.specs.Lines.{Words, hex_word}
 use Rattle.call_history.specs.declared.happening.TookCopy.{TookCopy}
 use Rattle.call_history.specs.declared.happening.TookCopy.TheVariants.{Copy, Malformed}
-
--- words, each behind a space
-abbrev pub behind_spaces : Words → List ℕ
-behind_spaces words = flat_map (λ w. 32 ∷ w) words
 
 -- the line of a note of an entry: the call and the name, and then numbers
 abbrev pub note_line : List ℕ → ℕ → ℕ → List ℕ → List ℕ → List ℕ

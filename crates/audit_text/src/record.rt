@@ -10,9 +10,7 @@ ghost use Rattle.call_history.specs.Events.{rule_of};
 ghost use Rattle.call_history.specs.declared.happening.Happening.{Happening};
 ghost use Rattle.call_history.specs.declared.record.Record.TheVariants.{Refused};
 
-use crate::writing::{
-    append_cause, append_name, append_note, append_numbers, append_step, append_took, begin,
-};
+use crate::writing::{append_cause, append_note, append_numbers, append_step, append_took, begin};
 use call_history::{History, Record, Refusal};
 use engine_core::{Op, Policy};
 use mrpc_table::{Bytes, Memory, Table};
@@ -139,7 +137,7 @@ fn append_kept_refusal(
                 name_at(history, step),
                 &[u64::from(version)],
             )?;
-            append_name(out, rule_at(history, step, rule))?;
+            out.append_spaced(rule_at(history, step, rule))?;
         }
         Refusal::Rate { step, level, cost } => {
             append_cause(out, b" rate", name_at(history, step), &[level, cost])?

@@ -2,8 +2,9 @@
 
 ghost use Rattle.std.specs.Prelude.{◌≡◌, ◌≤◌, ◌∷◌, ◌++◌, [], IfSome, drop, length, map};
 ghost use Rattle.std.specs.Fmt.{decimal};
+ghost use Rattle.mrpc_table.specs.Lines.{behind_spaces};
 ghost use Rattle.mrpc_table.specs.Text.{line};
-ghost use Rattle.audit_text.specs.Pieces.{behind_spaces, note_line};
+ghost use Rattle.audit_text.specs.Pieces.{note_line};
 ghost use Rattle.wire_encode.specs.Written.{StandBefore};
 
 /// Writes a byte in front of what stands from `end` on, and says where it stands; none where no room is left.

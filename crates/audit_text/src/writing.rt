@@ -2,11 +2,12 @@
 
 ghost use Rattle.std.specs.Prelude.{◌≡◌, ◌∷◌, ◌++◌, [], codes, map, IfOk, OnOk};
 ghost use Rattle.std.specs.Fmt.{decimal};
+ghost use Rattle.mrpc_table.specs.Lines.{behind_spaces};
 ghost use Rattle.mrpc_table.specs.Text.{line};
 ghost use Rattle.mrpc_table.specs.Valid.{IsValid};
 ghost use Rattle.mrpc_table.specs.declared.table.Table.{Table};
 ghost use Rattle.audit_text.specs.Lines.{audit_line, cause_words, encoding_of, hex_word, stands_line, step_words, FitsTable, FitsCall};
-ghost use Rattle.audit_text.specs.Pieces.{behind_spaces, note_line, told_copy};
+ghost use Rattle.audit_text.specs.Pieces.{note_line, told_copy};
 ghost use Rattle.call_history.specs.declared.happening.Happening.TheVariants.{Took};
 
 use crate::holding::Holding;
@@ -166,7 +167,7 @@ pub fn append_stands_line(
 {
     let numbers = [u64::from(conn), u64::from(seq), u64::from(position)];
     begin(out, b"stands", &numbers)?;
-    append_name(out, name)?;
+    out.append_spaced(name)?;
     if let Some(holding) = holding {
         begin(out, b" held", &[holding.level, holding.cost])?;
     }
@@ -185,14 +186,6 @@ pub fn append_hex_word(out: &mut Bytes, bytes: &[u8]) -> Result<(), Memory>
     out.append_hex(bytes)
 }
 
-// A name, as a further word.
-pub(crate) fn append_name(out: &mut Bytes, name: &[u8]) -> Result<(), Memory>
-    ensures { OnOk result (out.new ≡ out.old ++ 32 ∷ name.now) }
-{
-    out.push(b' ')?;
-    out.append(name)
-}
-
 // What a line begins with, and numbers behind it.
 pub(crate) fn begin(out: &mut Bytes, front: &[u8], numbers: &[u64]) -> Result<(), Memory>
     ensures { OnOk result (out.new ≡ out.old ++ (front.now ++ behind_spaces (map decimal numbers.now))) }
@@ -200,21 +193,8 @@ pub(crate) fn begin(out: &mut Bytes, front: &[u8], numbers: &[u64]) -> Result<()
     let mut row = [0; ROOM];
     match put_front(&mut row, ROOM, front, numbers) {
         Some(start) => out.append(&row[start..]),
-        None => begin_by_words(out, front, numbers),
+        None => out.append_row(front, numbers),
     }
-}
-
-// The same, a word after another.
-#[cold]
-#[inline(never)]
-fn begin_by_words(out: &mut Bytes, front: &[u8], numbers: &[u64]) -> Result<(), Memory>
-    ensures { OnOk result (out.new ≡ out.old ++ (front.now ++ behind_spaces (map decimal numbers.now))) }
-{
-    out.append(front)?;
-    for number in numbers {
-        out.append_word(*number)?;
-    }
-    Ok(())
 }
 
 // A line of a word and numbers.
@@ -234,7 +214,7 @@ pub(crate) fn append_numbers(out: &mut Bytes, word: &[u8], numbers: &[u64]) -> R
 fn append_numbers_by_words(out: &mut Bytes, word: &[u8], numbers: &[u64]) -> Result<(), Memory>
     ensures { OnOk result (out.new ≡ out.old ++ line (word.now ∷ map decimal numbers.now)) }
 {
-    begin_by_words(out, word, numbers)?;
+    out.append_row(word, numbers)?;
     out.push(b'\n')
 }
 
@@ -269,9 +249,9 @@ fn append_note_by_words(
 ) -> Result<(), Memory>
     ensures { OnOk result (out.new ≡ out.old ++ note_line word.now conn seq name.now numbers.now) }
 {
-    begin_by_words(out, word, &[u64::from(conn), u64::from(seq)])?;
-    append_name(out, name)?;
-    begin_by_words(out, b"", numbers)?;
+    out.append_row(word, &[u64::from(conn), u64::from(seq)])?;
+    out.append_spaced(name)?;
+    out.append_row(b"", numbers)?;
     out.push(b'\n')
 }
 
@@ -308,17 +288,17 @@ pub(crate) fn append_step(out: &mut Bytes, conn: u32, step: &Op) -> Result<(), M
             ..
         } => {
             begin(out, b" attach", &[u64::from(*at)])?;
-            append_name(out, name.as_slice())?;
-            append_name(out, label.as_slice())?;
+            out.append_spaced(name.as_slice())?;
+            out.append_spaced(label.as_slice())?;
         }
         Op::Detach { name } => {
             out.append(b" detach")?;
-            append_name(out, name.as_slice())?;
+            out.append_spaced(name.as_slice())?;
         }
         Op::Upgrade { name, label, .. } => {
             out.append(b" upgrade")?;
-            append_name(out, name.as_slice())?;
-            append_name(out, label.as_slice())?;
+            out.append_spaced(name.as_slice())?;
+            out.append_spaced(label.as_slice())?;
         }
     }
     out.push(b'\n')
@@ -338,7 +318,7 @@ fn append_refusal(out: &mut Bytes, conn: u32, seq: u32, cause: &Cause) -> Result
             rule,
         } => {
             append_cause(out, b" access", name.as_slice(), &[u64::from(*version)])?;
-            append_name(out, rule.as_slice())?;
+            out.append_spaced(rule.as_slice())?;
         }
         Cause::Rate { name, level, cost } => {
             append_cause(out, b" rate", name.as_slice(), &[*level, *cost])?
@@ -361,6 +341,6 @@ pub(crate) fn append_cause(
     ensures { OnOk result (out.new ≡ out.old ++ (kind.now ++ behind_spaces (name.now ∷ map decimal numbers.now))) }
 {
     out.append(kind)?;
-    append_name(out, name)?;
+    out.append_spaced(name)?;
     begin(out, b"", numbers)
 }

@@ -19,15 +19,15 @@ use std::marker::Model;
 #[derive(Drop)]
 pub struct Feed {
     alloc: Global,
-    /// The whole frames that weren't taken, the oldest first.
+    // The whole frames that weren't taken, the oldest first.
     waiting: VecDeque<Frame>,
-    /// What has come of the frame behind them, up to its fault or further where it has one.
+    // What has come of the frame behind them, up to its fault or further where it has one.
     begun: Vec<u8>,
-    /// The place of the first byte that lies in no frame taken.
+    // The place of the first byte that lies in no frame taken.
     taken: u64,
-    /// The place of the first byte of `begun`.
+    // The place of the first byte of `begun`.
     end: u64,
-    /// How many bytes came behind those of `begun`, where it has a fault.
+    // How many bytes came behind those of `begun`, where it has a fault.
     behind: u64,
 }
 

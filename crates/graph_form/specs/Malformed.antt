@@ -1,6 +1,5 @@
 -- Which graphs are malformed: the loads that were made of one, up to the word that ends them, and for which reason.
 use Rattle.std.specs.Prelude.{◌≡◌, ◌+◌, ◌<◌, ◌≤◌, ℕ, List, [], ◌∷◌, ◌++◌, length, map, All}
-use Rattle.mrpc_table.specs.Calls.{message_at}
 use Rattle.mrpc_table.specs.Node.{Node}
 use Rattle.mrpc_table.specs.declared.table.Table.{Table}
 use Rattle.graph_form.specs.declared.reason.Reason.{Reason}
@@ -96,15 +95,3 @@ pub data ComesTo (T : Table) (H msg address limit : ℕ) (loads : List (ℕ × �
 abbrev pub ReadsBy : (ℕ → ℕ → ℕ) → ℕ → List (ℕ × ℕ) → Type 0
 ReadsBy reading k [] = Unit {0}
 ReadsBy reading k (load ∷ loads) = (load.1 ≡ reading k load.0) × ReadsBy reading (k + 1) loads
-
--- A call of a method is malformed: the table has no such method, and nothing was loaded; or its graph is.
-pub data IsMalformedCall (T : Table) (H method number address limit : ℕ) (loads : List (ℕ × ℕ)) (reason : Reason)
-    (place value : ℕ) : Type 0 where
-  no_method :
-      length T.methods ≤ method
-      → loads ≡ [] → reason ≡ NoMethod → place ≡ 0 → value ≡ method
-      → IsMalformedCall T H method number address limit loads reason place value
-  of_graph :
-      method < length T.methods
-      → IsMalformed T H (message_at T method number) address limit loads reason place value
-      → IsMalformedCall T H method number address limit loads reason place value

@@ -5,7 +5,7 @@ use Rattle.std.proofs.Common.{length, take, Option, Some, None, refl, sym, ap, s
 use Rattle.std.proofs.lemmas.List.{length-take}
 use Rattle.std.specs.Prelude.{option_map, unwrap_or, nat_lt}
 use Rattle.mrpc_table.specs.Node.{Node, no_fields, field, Content, one, many, pairs, Item, number, Items, no_items, item}
-use Rattle.mrpc_table.specs.Normal.{fields_of, kind_at}
+use Rattle.mrpc_table.specs.Normal.{fields_of, kind_at, label_at}
 use Rattle.mrpc_table.specs.Valid.{IsValid}
 use Rattle.mrpc_table.specs.declared.table.Kind.{Kind}
 use Rattle.mrpc_table.specs.declared.table.Kind.TheVariants.{Text, Octets, Message as OfMessage, Uint64}
@@ -14,7 +14,7 @@ use Rattle.mrpc_table.specs.declared.table.Label.TheVariants.{Plain, Optional, R
 use Rattle.mrpc_table.specs.declared.table.Field.{Field}
 use Rattle.mrpc_table.specs.declared.table.Table.{Table}
 use Rattle.mrpc_table.specs.MapEntries.{last_of_each}
-use Rattle.wire_base.specs.Encoding.{tag, delimited, label_at, is_packed, fields_bytes, content_bytes, item_bytes, joined_bytes, records_bytes, entries_bytes, encoding}
+use Rattle.wire_base.specs.Encoding.{tag, delimited, is_packed, fields_bytes, content_bytes, item_bytes, joined_bytes, records_bytes, entries_bytes, encoding}
 use Rattle.mrpc_table.specs.Words.{key_kind}
 use Rattle.mrpc_table.specs.WireTypes.{wire_len, wire_type_of}
 use Rattle.graph_form.specs.Roles.{own_slots, word_bytes}

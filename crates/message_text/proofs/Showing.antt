@@ -1,14 +1,14 @@
 -- The texts of parts of messages, one behind another.
 use Rattle.std.proofs.Common.{◌≡◌, ℕ, ◌+◌, ◌<◌, List, [], ◌∷◌, ◌++◌, length, take, get_or, refl, sym, ap, subst, ◌∙◌, append_assoc, append-nil}
 use Rattle.std.proofs.lemmas.List.{take_more}
-use Rattle.mrpc_table.specs.Normal.{kind_at}
+use Rattle.mrpc_table.specs.Normal.{kind_at, label_at}
 use Rattle.mrpc_table.specs.View.{item_of, items_of, pairs_of, content_of, node_of}
 use Rattle.mrpc_table.specs.declared.table.Field.{Field}
 use Rattle.mrpc_table.specs.declared.table.Kind.{Kind}
 use Rattle.mrpc_table.specs.declared.table.Table.{Table}
 use Rattle.mrpc_table.specs.declared.tree.FieldValue.{FieldValue}
 use Rattle.mrpc_table.specs.declared.tree.Value.{Value}
-use Rattle.message_text.specs.Entries.{name_at, label_at, ShowsFields, ShowsContent, ShowsItem, ShowsItems, ShowsPairs}
+use Rattle.message_text.specs.Entries.{name_at, ShowsFields, ShowsContent, ShowsItem, ShowsItems, ShowsPairs}
 use Rattle.message_text.specs.Lines.{enclosed}
 use Rattle.message_text.specs.Pieces.{ShowsPair}
 

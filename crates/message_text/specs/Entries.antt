@@ -5,23 +5,19 @@
 -- value ("Map Fields").
 use Rattle.std.specs.Prelude.{◌≡◌, ℕ, ◌+◌, List, [], ◌++◌, codes, option_map, unwrap_or}
 use Rattle.mrpc_table.specs.Node.{Node, no_fields, field, Content, one, many, pairs, Item, number, run, node, Items, no_items, item, Pairs, no_pairs, pair}
-use Rattle.mrpc_table.specs.Normal.{fields_of, field_at, kind_at}
-use Rattle.mrpc_table.specs.Words.{key_kind, message_of}
+use Rattle.mrpc_table.specs.Normal.{fields_of, field_at, kind_at, label_at}
+use Rattle.mrpc_table.specs.Words.{key_kind, nested_message}
 use Rattle.mrpc_table.specs.declared.table.Kind.{Kind}
 use Rattle.mrpc_table.specs.declared.table.Label.{Label}
-use Rattle.mrpc_table.specs.declared.table.Label.TheVariants.{Plain}
 use Rattle.mrpc_table.specs.declared.table.Field.{Field}
 use Rattle.mrpc_table.specs.declared.table.Table.{Table}
 use Rattle.message_text.specs.Escapes.{quoted}
 use Rattle.message_text.specs.Lines.{scalar_line, enclosed}
 use Rattle.message_text.specs.Numbers.{IsNumberText}
 
--- the name and the label of the field of a number
+-- the name of the field of a number
 abbrev pub name_at : List Field → ℕ → List ℕ
 name_at fs n = unwrap_or (option_map (λ f. f.name) (field_at fs n)) []
-
-abbrev pub label_at : List Field → ℕ → Label
-label_at fs n = unwrap_or (option_map (λ f. f.label) (field_at fs n)) Plain
 
 abbrev mutual
   -- the text of these fields, so deep inside other messages
@@ -42,8 +38,8 @@ abbrev mutual
   ShowsItem T name k deep (number n) text = (value : List ℕ) × IsNumberText T k n value
       × (text ≡ scalar_line deep name value)
   ShowsItem T name k deep (run bytes) text = text ≡ scalar_line deep name (quoted bytes)
-  ShowsItem T name k deep (node t) text = (inner : List ℕ) × ShowsFields T (fields_of T (message_of k)) (deep + 1) t inner
-      × (text ≡ enclosed deep name inner)
+  ShowsItem T name k deep (node t) text = (inner : List ℕ)
+      × ShowsFields T (fields_of T (nested_message k)) (deep + 1) t inner × (text ≡ enclosed deep name inner)
 
   -- an entry for each element
   pub ShowsItems : Table → List ℕ → Kind → ℕ → Items → List ℕ → Type 0

@@ -2,9 +2,9 @@
 
 ghost use Rattle.std.specs.Prelude.{◌≡◌, []};
 ghost use Rattle.mrpc_table.specs.Ascending.{FieldsAscend};
-ghost use Rattle.mrpc_table.specs.Normal.{fields_of, kind_at};
+ghost use Rattle.mrpc_table.specs.Normal.{fields_of, kind_at, label_at};
 ghost use Rattle.mrpc_table.specs.Valid.{IsValid};
-ghost use Rattle.message_text.specs.Entries.{name_at, label_at};
+ghost use Rattle.message_text.specs.Entries.{name_at};
 
 use mrpc_table::{Field, Kind, Label, Table, find_field};
 

@@ -5,18 +5,7 @@ use Rattle.std.specs.List.{slice_split, onto_first}
 use Rattle.mrpc_table.specs.declared.words.Decimal.{Decimal}
 use Rattle.mrpc_table.specs.PathWords.{path_of_parts, begins_path, decimal_of}
 use Rattle.mrpc_table.specs.declared.path.PathWord.{PathWord}
-
--- a list has at least one part
-has_part : (sep : ℕ) (text : List ℕ) → (part : List ℕ) × (parts : List (List ℕ)) × (slice_split (λ c. c == sep) text ≡ part ∷ parts)
-has_part sep [] = ([], [], refl)
-has_part sep (x ∷ xs) =
-    let rest = has_part sep xs in
-    elim (x == sep) as (λ (b : Bool). (part : List ℕ) × (parts : List (List ℕ))
-    × (cond b ([] ∷ slice_split (λ c. c == sep) xs) (onto_first x (slice_split (λ c. c == sep) xs)) ≡ part
-    ∷ parts)) [
-      | true ↦ ([], slice_split (λ c. c == sep) xs, refl)
-      | false ↦ (x ∷ rest.0, rest.1, ap (onto_first x) rest.2)
-    ]
+use Rattle.mrpc_table.proofs.Cuts.{has_part}
 
 -- a path with numbers in front of it
 abbrev pub behind_numbers : List Decimal → PathWord → PathWord

@@ -1,6 +1,6 @@
 -- The lines of a text, the words of a line, and the numbers that words spell.
-use Rattle.std.specs.Prelude.{ℕ, ◌-◌, ◌^◌, ◌==◌, nat_lt, Bool, false, not, ◌&&◌, ◌||◌, if◌then◌else◌, List, [], ◌∷◌, length, take, count_by, Option, Some, None, unwrap_or, slice_get}
-use Rattle.std.specs.List.{slice_split, list_all}
+use Rattle.std.specs.Prelude.{ℕ, ◌-◌, ◌^◌, ◌≤◌, ◌==◌, nat_lt, Bool, false, not, ◌&&◌, ◌||◌, if◌then◌else◌, List, [], ◌∷◌, length, take, count_by, Option, Some, None, unwrap_or, slice_get}
+use Rattle.std.specs.List.{flat_map, slice_split, list_all}
 use Rattle.std.specs.Char.{is_ascii_digit}
 use Rattle.std.specs.Str.Parse.{digits_value}
 use Rattle.mrpc_table.specs.declared.words.Decimal.{Decimal}
@@ -35,3 +35,17 @@ number_of word = if is_decimal word then Some (digits_value 10 word) else None
 -- a number of 64 bits, or one above them
 abbrev pub in_64_bits : ℕ → Decimal
 in_64_bits n = if nat_lt n (2 ^ 64) then Small n else Large
+
+-- what a number counts as: one of more than 64 bits as the least of these, since all of them lie above each size and
+-- outside of every range
+abbrev pub magnitude : Decimal → ℕ
+magnitude (Small n) = n
+magnitude Large = 2 ^ 64
+
+-- a number from the least to the most, both included
+abbrev pub IsIn : (least most n : ℕ) → Type 0
+IsIn least most n = (least ≤ n) × (n ≤ most)
+
+-- words, each behind a space
+abbrev pub behind_spaces : List (List ℕ) → List ℕ
+behind_spaces words = flat_map (λ w. 32 ∷ w) words

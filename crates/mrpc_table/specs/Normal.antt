@@ -27,6 +27,10 @@ field_at fs n = find (λ f. f.number == n) fs
 abbrev pub kind_at : List Field → ℕ → Kind
 kind_at fs n = unwrap_or (option_map (λ f. f.kind) (field_at fs n)) Uint64
 
+-- the label of the field of a number
+abbrev pub label_at : List Field → ℕ → Label
+label_at fs n = unwrap_or (option_map (λ f. f.label) (field_at fs n)) Plain
+
 -- a number of 0, or a run of nothing
 abbrev pub IsDefault : Item → Type 0
 IsDefault (number n) = n ≡ 0
@@ -48,7 +52,7 @@ abbrev pub KeysAscend : Kind → Pairs → Type 0
 KeysAscend k no_pairs = Unit {0}
 KeysAscend k (pair key value ps) = AscendFrom k key ps
 
--- whether the field of this number is a member of the oneof at place o
+-- 1 for the label of a member of the oneof at a place, else 0
 abbrev pub membership : Label → ℕ → ℕ
 membership (Member o) p = cond (o == p) 1 0
 membership _ p = 0

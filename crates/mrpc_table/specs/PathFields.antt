@@ -17,18 +17,19 @@ abbrev pub field_numbered : Table → ℕ → Decimal → Option Field
 field_numbered T msg (Small n) = if nat_lt n (2 ^ 32) then field_at (fields_of T msg) n else None
 field_numbered T msg Large = None
 
--- the message that a field on the way has: one that is plain, or a member of a oneof
+-- the message that a field on the way has
 abbrev pub message_of_kind : Kind → Option ℕ
 message_of_kind (Message i) = Some i
 message_of_kind _ = None
 
-abbrev pub is_single : Label → Bool
-is_single Plain = true
-is_single (Member o) = true
-is_single _ = false
+-- the label of a field on the way: one that has one message at most, and no field with a message is optional
+abbrev pub has_one_message : Label → Bool
+has_one_message Plain = true
+has_one_message (Member o) = true
+has_one_message _ = false
 
 abbrev pub step_of : Field → Option (ℕ × ℕ)
-step_of f = if is_single f.label then option_map (λ i. (f.number, i)) (message_of_kind f.kind) else None
+step_of f = if has_one_message f.label then option_map (λ i. (f.number, i)) (message_of_kind f.kind) else None
 
 abbrev pub step_in : Table → ℕ → Decimal → Option (ℕ × ℕ)
 step_in T msg n = option_and_then step_of (field_numbered T msg n)

@@ -3,7 +3,7 @@
 use Rattle.std.specs.Prelude.{ℕ, ◌+◌, ◌%◌, ◌^◌, ◌<◌, ◌≤◌, ◌⊎◌, Bool, true, false}
 use Rattle.mrpc_table.specs.declared.table.Kind.{Kind}
 use Rattle.mrpc_table.specs.declared.table.Label.{Label}
-use Rattle.mrpc_table.specs.declared.table.Label.TheVariants.{Map}
+use Rattle.mrpc_table.specs.declared.table.Label.TheVariants.{Plain, Optional, Map, Member}
 use Rattle.mrpc_table.specs.declared.table.Kind.TheVariants.{Int32, Int64, Uint32, Uint64, Sint32, Sint64, Bool as TheBool, Fixed32, Fixed64, Sfixed32, Sfixed64, Float, Double, Text, Octets, Message, Choice}
 
 -- a signed 32-bit number, sign extended to 64 bits
@@ -48,6 +48,12 @@ is_numeric Octets = false
 is_numeric (Message i) = false
 is_numeric _ = true
 
+-- a kind whose values are runs of bytes
+abbrev pub is_run : Kind → Bool
+is_run Text = true
+is_run Octets = true
+is_run _ = false
+
 -- a kind that a map's key may have: integral, bool or string
 abbrev pub is_key : Kind → Bool
 is_key Float = false
@@ -62,11 +68,18 @@ abbrev pub rank : Kind → ℕ → ℕ
 rank k n = elim (is_signed k) [ true ↦ (n + 2 ^ 63) % 2 ^ 64 | false ↦ n ]
 
 -- the message that a kind names
-abbrev pub message_of : Kind → ℕ
-message_of (Message i) = i
-message_of _ = 0
+abbrev pub nested_message : Kind → ℕ
+nested_message (Message i) = i
+nested_message _ = 0
 
 -- the kind of a map's keys
 abbrev pub key_kind : Label → Kind
 key_kind (Map key) = key
 key_kind _ = Uint64
+
+-- a label of a field that has one value at most
+abbrev pub has_one_value : Label → Bool
+has_one_value Plain = true
+has_one_value Optional = true
+has_one_value (Member o) = true
+has_one_value _ = false

@@ -33,7 +33,7 @@ const LARGE: u128 = 0x1_0000_0000_0000_0000;
 
 /// The number that digits spell, or 2 to the power of 64 where it is larger.
 #[tactic(auto, using(crate::proofs::CappedValues::capped_more))]
-pub fn capped(digits: &[u8], base: u8) -> u128
+pub fn number_capped(digits: &[u8], base: u8) -> u128
     requires { base ≤ 16 }
     ensures { 0 < base → result ≡ min (digits_value base digits.now) (2 ^ 64) }
 {
@@ -51,7 +51,7 @@ pub fn decimal_of(digits: &[u8], base: u8) -> Decimal
     requires positive { 0 < base }
     ensures { result ≡ in_64_bits (digits_value base digits.now) }
 {
-    match u64::try_from(capped(digits, base)) {
+    match u64::try_from(number_capped(digits, base)) {
         Ok(number) => Decimal::Small(number),
         Err(_) => Decimal::Large,
     }

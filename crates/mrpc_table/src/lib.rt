@@ -39,7 +39,7 @@ mod tree;
 mod words;
 
 pub use call::{Call, Sort};
-pub use digits::{capped, decimal_of, digit_value};
+pub use digits::{decimal_of, digit_value, number_capped};
 pub use field_number::is_field_number;
 pub use field_search::find_field;
 pub use limits::{

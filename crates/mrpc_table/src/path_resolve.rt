@@ -4,7 +4,7 @@ ghost use Rattle.std.specs.Prelude.{◌≡◌, IfOk, option_map};
 ghost use Rattle.std.specs.Option.{option_copied};
 ghost use Rattle.mrpc_table.specs.Normal.{fields_of, field_at};
 ghost use Rattle.mrpc_table.specs.Valid.{IsValid};
-ghost use Rattle.mrpc_table.specs.PathFields.{field_numbered, is_single, step_in, way_in, path_in};
+ghost use Rattle.mrpc_table.specs.PathFields.{field_numbered, has_one_message, step_in, way_in, path_in};
 
 use crate::memory::Memory;
 use crate::path::{Path, PathWord};
@@ -24,8 +24,8 @@ fn field_numbered(table: &Table, msg: u32, number: Decimal) -> Option<&Field>
     }
 }
 
-fn is_single(label: Label) -> bool
-    ensures { result ≡ is_single label }
+fn has_one_message(label: Label) -> bool
+    ensures { result ≡ has_one_message label }
 {
     matches!(label, Label::Plain | Label::Member(_))
 }
@@ -37,7 +37,7 @@ fn step_in(table: &Table, msg: u32, number: Decimal) -> Option<(u32, u32)>
 {
     let field = field_numbered(table, msg, number)?;
     match field.kind {
-        Kind::Message(inner) if is_single(field.label) => Some((field.number, inner)),
+        Kind::Message(inner) if has_one_message(field.label) => Some((field.number, inner)),
         _ => None,
     }
 }

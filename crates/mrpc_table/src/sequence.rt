@@ -1,8 +1,9 @@
 //! A list that is kept in a vector. Clauses see the list, and neither room nor place.
 
-ghost use Rattle.std.specs.Prelude.{◌≡◌, ◌≤◌, ◌<◌, ◌+◌, ◌↔◌, ℕ, List, [], ◌∷◌, ◌++◌, ◌⊎◌, length, IsTrue, OnOk, OnErr, IfOk};
+ghost use Rattle.std.specs.Prelude.{◌≡◌, ◌≤◌, ◌<◌, ◌+◌, ◌↔◌, ℕ, List, [], ◌∷◌, ◌++◌, ◌⊎◌, length, map, IsTrue, OnOk, OnErr, IfOk};
 ghost use Rattle.std.specs.Fmt.{decimal};
 ghost use Rattle.hex.specs.Hex.{encode_lower};
+ghost use Rattle.mrpc_table.specs.Lines.{behind_spaces};
 
 use crate::hexadecimal::{end_of_digits, write_digits};
 use crate::memory::Memory;
@@ -158,6 +159,26 @@ impl Sequence<u8> {
             return self.push(b'0' + number as u8);
         }
         self.append_decimal(number)
+    }
+
+    /// Appends a space and bytes, as a further word of a line. The only error is `Memory`.
+    pub fn append_spaced(&mut self, word: &[u8]) -> Result<(), Memory>
+        ensures { OnOk result (self.new ≡ self.old ++ 32 ∷ word.now) }
+    {
+        self.push(b' ')?;
+        self.append(word)
+    }
+
+    /// Appends bytes, and behind them the digits of decimal numbers, each as a further word of a line. The only error is
+    /// `Memory`.
+    pub fn append_row(&mut self, front: &[u8], numbers: &[u64]) -> Result<(), Memory>
+        ensures { OnOk result (self.new ≡ self.old ++ (front.now ++ behind_spaces (map decimal numbers.now))) }
+    {
+        self.append(front)?;
+        for number in numbers {
+            self.append_word(*number)?;
+        }
+        Ok(())
     }
 
     /// Appends bytes in lower-case hexadecimal digits, two for each byte. Without memory the list stays.

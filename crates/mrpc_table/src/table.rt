@@ -55,7 +55,7 @@ pub enum Kind {
 }
 
 impl Kind {
-    ghost use Rattle.mrpc_table.specs.Words.{message_of};
+    ghost use Rattle.mrpc_table.specs.Words.{nested_message};
 
     /// The scalar kind of a name of proto3.
     pub fn of_name(name: &[u8]) -> Option<Kind>
@@ -187,7 +187,7 @@ impl Kind {
 
     /// The message that this kind names, by its place in the table; 0 where it names none.
     pub fn message(self) -> u32
-        ensures { result ≡ message_of self }
+        ensures { result ≡ nested_message self }
     {
         match self {
             Kind::Message(message) => message,

@@ -89,13 +89,18 @@ fn content_among(fields: &[(u32, FieldValue)], number: u32) -> Option<&FieldValu
     Some(&fields[place].1)
 }
 
-/// The place of the field of a number among the fields of a tree, in time by the logarithm of the fields.
+/// The place of the field of a number among the fields of a tree: at once where each smaller number has a field in the
+/// tree, and else in time by the logarithm of the fields.
 pub fn find_content(fields: &[(u32, FieldValue)], number: u32) -> Option<usize>
     requires { NumbersAscend 0 (node_of fields.now) }
     ensures within { IfSome result (λ place. place < length fields.now) }
     ensures numbered { IfSome result (λ place. (f : ℕ × FieldValue) → (slice_index_or fields.now place f).0 ≡ number) }
     ensures none { IfNone result (content_at (node_of fields.now) number ≡ None) }
 {
+    let place = (number as usize).wrapping_sub(1);
+    if place < fields.len() && fields[place].0 == number {
+        return Some(place);
+    }
     match fields.binary_search_by_key(&number, |field| field.0) {
         Ok(place) => Some(place),
         Err(_) => None,

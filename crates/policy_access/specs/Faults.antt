@@ -36,6 +36,7 @@ abbrev pub name_in : Line → Option (List ℕ)
 name_in (Rule rule) = Some rule.name
 name_in (Default allow) = None
 
+-- The same of a line that is given by its bytes.
 abbrev pub named : List ℕ → Option (List ℕ)
 named line = option_and_then name_in (line_of line)
 
@@ -50,6 +51,7 @@ abbrev pub is_default_line : Line → Bool
 is_default_line (Rule rule) = false
 is_default_line (Default allow) = true
 
+-- The same of a line that is given by its bytes. A line out of form says none.
 abbrev pub is_default : List ℕ → Bool
 is_default line = option_map_or is_default_line (line_of line) false
 

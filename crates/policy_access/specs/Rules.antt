@@ -4,12 +4,11 @@ use Rattle.std.specs.Option.{option_map_or}
 use Rattle.std.specs.Result.{result_map_both}
 use Rattle.mrpc_table.specs.Calls.{message_of}
 use Rattle.mrpc_table.specs.PolicyLines.{index_of}
+use Rattle.mrpc_table.specs.Words.{has_one_value, is_run}
 use Rattle.mrpc_table.specs.declared.call.Sort.{Sort}
 use Rattle.mrpc_table.specs.declared.table.Table.{Table}
 use Rattle.mrpc_table.specs.declared.table.Kind.{Kind}
-use Rattle.mrpc_table.specs.declared.table.Kind.TheVariants.{Text, Octets, Float, Double, Message}
-use Rattle.mrpc_table.specs.declared.table.Label.{Label}
-use Rattle.mrpc_table.specs.declared.table.Label.TheVariants.{Plain, Optional, Member}
+use Rattle.mrpc_table.specs.declared.table.Kind.TheVariants.{Float, Double, Message}
 use Rattle.policy_access.specs.Values.{operand_of, has_no_form}
 use Rattle.policy_access.specs.declared.rule.Comparison.{Comparison}
 use Rattle.policy_access.specs.declared.rule.Comparison.TheVariants.{Equal, NotEqual, Less, Greater, Starts}
@@ -32,25 +31,12 @@ use Rattle.policy_access.specs.declared.fault.PartReason.TheVariants as reason
 
 -- ---- tests
 
--- a value is compared where its field is plain, optional or a member of a oneof
-abbrev pub has_value : Label → Bool
-has_value Plain = true
-has_value Optional = true
-has_value (Member o) = true
-has_value _ = false
-
 -- the kinds of which values are equal or not: all but floats and messages
 abbrev pub is_comparable : Kind → Bool
 is_comparable Float = false
 is_comparable Double = false
 is_comparable (Message i) = false
 is_comparable _ = true
-
--- the kinds of runs
-abbrev pub is_run : Kind → Bool
-is_run Text = true
-is_run Octets = true
-is_run _ = false
 
 -- which comparison goes with a kind
 abbrev pub suits : Comparison → Kind → Bool
@@ -63,11 +49,11 @@ suits Starts k = is_run k
 abbrev pub result_map : {A B : Type 0} → (A → B) → Result A PartReason → Result B PartReason
 result_map f r = result_map_both f (λ q. q) r
 
--- what a condition asks of the field at the end of a path
+-- what a condition asks of the field at the end of a path; a value is compared where the field has one
 abbrev pub condition_in : Path → ConditionLine → Result Condition PartReason
 condition_in p Present = Ok conditions.Present
 condition_in p (Compares c value) =
-    if has_value p.label && suits c p.kind
+    if has_one_value p.label && suits c p.kind
     then result_map (conditions.Compares c) (operand_of p.kind value)
     else Err reason.Path
 

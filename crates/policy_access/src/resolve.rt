@@ -2,7 +2,8 @@
 
 ghost use Rattle.std.specs.Prelude.{◌≡◌, ◌<◌, length, IfOk};
 ghost use Rattle.mrpc_table.specs.Valid.{IsValid};
-ghost use Rattle.policy_access.specs.Rules.{has_value, is_comparable, is_run, suits, condition_in, test_in, tests_in, of_unknown_method, calls_of_method, calls_in, about_in};
+ghost use Rattle.mrpc_table.specs.Words.{has_one_value, is_run};
+ghost use Rattle.policy_access.specs.Rules.{is_comparable, suits, condition_in, test_in, tests_in, of_unknown_method, calls_of_method, calls_in, about_in};
 
 use crate::fault::PartReason;
 use crate::line::{AboutLine, CallsLine, ConditionLine, TestLine};
@@ -11,8 +12,8 @@ use crate::value::{has_no_form, operand_of};
 use mrpc_table::{Decimal, Kind, Label, Memory, Path, Table};
 use std::alloc::Global;
 
-fn has_value(label: Label) -> bool
-    ensures { result ≡ has_value label }
+fn has_one_value(label: Label) -> bool
+    ensures { result ≡ has_one_value label }
 {
     match label {
         Label::Plain | Label::Optional | Label::Member(_) => true,
@@ -68,7 +69,7 @@ fn condition_in(
     match condition {
         ConditionLine::Present => Ok(Ok(Condition::Present)),
         ConditionLine::Compares(comparison, value) => {
-            if !has_value(path.label) || !suits(*comparison, path.kind) {
+            if !has_one_value(path.label) || !suits(*comparison, path.kind) {
                 return Ok(Err(PartReason::Path));
             }
             match operand_of(alloc, path.kind, value.as_slice())? {

@@ -2,10 +2,11 @@
 use Rattle.std.proofs.Common.{◌≡◌, ℕ, zero, suc, List, [], ◌∷◌, Some, refl, sym, ap, subst}
 use Rattle.std.specs.Prelude.{slice_get}
 use Rattle.std.proofs.lemmas.Option.{same_Some}
+use Rattle.mrpc_table.specs.Lines.{IsIn}
 use Rattle.mrpc_table.specs.Names.{IsName}
 use Rattle.script_words.specs.Forms.{sorts_of}
 use Rattle.script_words.specs.Lines.{AreSaid}
-use Rattle.script_words.specs.Sorts.{Meaning, word, number, unbounded, name, Says, IsIn, number_in, name_in, name_at, number_at}
+use Rattle.script_words.specs.Sorts.{Meaning, word, number, unbounded, name, Says, number_in, name_in, name_at, number_at}
 use Rattle.script_words.specs.declared.sort.Sort.{Sort}
 use Rattle.script_words.specs.declared.sort.Sort.TheVariants.{Number, Name}
 use Rattle.policy_blocks.specs.Items.{form_of}

@@ -20,8 +20,8 @@ pub(crate) struct Block<'a> {
     pub rest: Option<&'a [u8]>,
 }
 
-// Whether a line is empty, or begins with `#`.
-fn is_skipped(line: &[u8]) -> bool
+/// Whether a line is empty, or begins with `#`.
+pub fn is_skipped(line: &[u8]) -> bool
     ensures { result ≡ is_skipped line.now }
 {
     matches!(line, [] | [b'#', ..])

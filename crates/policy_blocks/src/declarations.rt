@@ -14,7 +14,7 @@ use std::marker::Model;
 pub struct Declarations {
     tenants: Sequence<Tenant>,
     policies: Sequence<NamedPolicy>,
-    /// Where each policy stands.
+    // Where each policy stands.
     places: BTreeMap<Vec<u8>, usize>,
 }
 

@@ -17,6 +17,7 @@ mod laws;
 mod limits;
 mod read;
 
+pub use block::is_skipped;
 pub use declarations::Declarations;
 pub use item::{Item, NamedPolicy, Tenant};
 pub use item_form::ItemForm;

@@ -13,7 +13,7 @@ use Rattle.mrpc_table.specs.declared.call.Call.{Call}
 use Rattle.mrpc_table.specs.Capped.{capped}
 use Rattle.receive_core.specs.declared.arrival.DropCause.TheVariants.{Hello, NoMethod, Decode, Denied, Oversize}
 use Rattle.receive_core.specs.Fates.{Fate, drops, arrives, IsFate, is_hello, has_no_method, is_faulty, is_denied}
-use Rattle.receive_core.specs.Fates.{is_too_large, arrived, IsCall, Allows, HasFate, HasOneFate, call_of, message_of}
+use Rattle.receive_core.specs.Fates.{is_too_large, arrived, IsCall, Allows, HasFate, HasOneFate, call_of, message_of_frame}
 use Rattle.receive_core.specs.Fates.{block_words}
 
 -- what is known of meanings and faults
@@ -45,15 +45,15 @@ judged (Some p) call = by_verdict (verdict p call).allow refl
     by_verdict false e = inl (p, refl, e)
     by_verdict true e = inr e
 
-fate_of_call : (T : Table) (policy : Option AccessPolicy) (conn words : ℕ) (f : Frame) (t : Node) → IsCall T f → Means T (message_of T f) f.payload t
+fate_of_call : (T : Table) (policy : Option AccessPolicy) (conn words : ℕ) (f : Frame) (t : Node) → IsCall T f → Means T (message_of_frame T f) f.payload t
     → (fate : Fate) × IsFate T policy conn words f fate
 fate_of_call T policy conn words f t call means =
     ⊎_elim
     (λ denied. (drops (Denied (verdict denied.0 (call_of conn f t)).rule), is_denied call t means denied.0 denied.1 denied.2 refl))
     (λ allows. ⊎_elim
-    (λ large. (drops (Oversize (capped (block_words T (message_of T f) t)) words), is_too_large call t means allows large refl))
+    (λ large. (drops (Oversize (capped (block_words T (message_of_frame T f) t)) words), is_too_large call t means allows large refl))
     (λ fits. (arrives t, arrived call t means allows fits refl))
-    (cases_lt (words - 1) (block_words T (message_of T f) t)))
+    (cases_lt (words - 1) (block_words T (message_of_frame T f) t)))
     (judged policy (call_of conn f t))
 
 pub has_fate : EitherOne → HasFate
@@ -65,7 +65,7 @@ has_fate either T policy conn words f =
     ⊎_elim
     (λ read. fate_of_call T policy conn words f read.0 call read.1)
     (λ fault. (drops (Decode fault.0 fault.1), is_faulty call fault.0 fault.1 fault.2 refl))
-    (either T (message_of T f) f.payload))
+    (either T (message_of_frame T f) f.payload))
     (λ unknown. (drops NoMethod, has_no_method other unknown refl))
     (cases_lt f.method (length T.methods)))
     (cases_eq f.kind 3)
@@ -95,46 +95,46 @@ has_one_fate once faults both T policy conn words f fate other (has_no_method k 
 has_one_fate once faults both T policy conn words f fate other (is_faulty e r p h a) (is_hello l b) = absurd (e.kind l)
 has_one_fate once faults both T policy conn words f fate other (is_faulty e r p h a) (has_no_method l m b) = absurd (omega (arith, m, e.method))
 has_one_fate once faults both T policy conn words f fate other (is_faulty e r p h a) (is_faulty c q o i b) =
-    let same = faults T (message_of T f) f.payload r q p o h i in
+    let same = faults T (message_of_frame T f) f.payload r q p o h i in
     a ∙ (λ j. drops (Decode (same.0 j) (same.1 j))) ∙ sym b
-has_one_fate once faults both T policy conn words f fate other (is_faulty e r p h a) (is_denied c t m q s d b) = absurd (both T (message_of T f) f.payload t r p m h)
-has_one_fate once faults both T policy conn words f fate other (is_faulty e r p h a) (is_too_large c t m s l b) = absurd (both T (message_of T f) f.payload t r p m h)
-has_one_fate once faults both T policy conn words f fate other (is_faulty e r p h a) (arrived c t m s l b) = absurd (both T (message_of T f) f.payload t r p m h)
+has_one_fate once faults both T policy conn words f fate other (is_faulty e r p h a) (is_denied c t m q s d b) = absurd (both T (message_of_frame T f) f.payload t r p m h)
+has_one_fate once faults both T policy conn words f fate other (is_faulty e r p h a) (is_too_large c t m s l b) = absurd (both T (message_of_frame T f) f.payload t r p m h)
+has_one_fate once faults both T policy conn words f fate other (is_faulty e r p h a) (arrived c t m s l b) = absurd (both T (message_of_frame T f) f.payload t r p m h)
 has_one_fate once faults both T policy conn words f fate other (is_denied e u n q s d a) (is_hello l b) = absurd (e.kind l)
 has_one_fate once faults both T policy conn words f fate other (is_denied e u n q s d a) (has_no_method l m b) = absurd (omega (arith, m, e.method))
-has_one_fate once faults both T policy conn words f fate other (is_denied e u n q s d a) (is_faulty c r p h b) = absurd (both T (message_of T f) f.payload u r p n h)
+has_one_fate once faults both T policy conn words f fate other (is_denied e u n q s d a) (is_faulty c r p h b) = absurd (both T (message_of_frame T f) f.payload u r p n h)
 has_one_fate once faults both T policy conn words f fate other (is_denied e u n q s d a) (is_denied c t m p z y b) =
-    let tree = once T (message_of T f) f.payload u t n m in
+    let tree = once T (message_of_frame T f) f.payload u t n m in
     let policies : Some q ≡ Some p = sym s ∙ z in
     let policy : q ≡ p = cc in
     a ∙ (λ j. drops (Denied (verdict (policy j) (call_of conn f (tree j))).rule)) ∙ sym b
 has_one_fate once faults both T policy conn words f fate other (is_denied e u n q s d a) (is_too_large c t m z l b) =
-    let tree = once T (message_of T f) f.payload u t n m in
+    let tree = once T (message_of_frame T f) f.payload u t n m in
     absurd (denied_allowed policy q (call_of conn f u) s d (subst (λ (v : Node). Allows policy (call_of conn f v)) (sym tree) z))
 has_one_fate once faults both T policy conn words f fate other (is_denied e u n q s d a) (arrived c t m z l b) =
-    let tree = once T (message_of T f) f.payload u t n m in
+    let tree = once T (message_of_frame T f) f.payload u t n m in
     absurd (denied_allowed policy q (call_of conn f u) s d (subst (λ (v : Node). Allows policy (call_of conn f v)) (sym tree) z))
 has_one_fate once faults both T policy conn words f fate other (is_too_large e u n s k a) (is_hello l b) = absurd (e.kind l)
 has_one_fate once faults both T policy conn words f fate other (is_too_large e u n s k a) (has_no_method l m b) = absurd (omega (arith, m, e.method))
-has_one_fate once faults both T policy conn words f fate other (is_too_large e u n s k a) (is_faulty c r p h b) = absurd (both T (message_of T f) f.payload u r p n h)
+has_one_fate once faults both T policy conn words f fate other (is_too_large e u n s k a) (is_faulty c r p h b) = absurd (both T (message_of_frame T f) f.payload u r p n h)
 has_one_fate once faults both T policy conn words f fate other (is_too_large e u n s k a) (is_denied c t m q z d b) =
-    let tree = once T (message_of T f) f.payload u t n m in
+    let tree = once T (message_of_frame T f) f.payload u t n m in
     absurd (denied_allowed policy q (call_of conn f t) z d (subst (λ (v : Node). Allows policy (call_of conn f v)) tree s))
 has_one_fate once faults both T policy conn words f fate other (is_too_large e u n s k a) (is_too_large c t m z l b) =
-    let tree = once T (message_of T f) f.payload u t n m in
-    a ∙ ap (λ (v : Node). drops (Oversize (capped (block_words T (message_of T f) v)) words)) tree ∙ sym b
+    let tree = once T (message_of_frame T f) f.payload u t n m in
+    a ∙ ap (λ (v : Node). drops (Oversize (capped (block_words T (message_of_frame T f) v)) words)) tree ∙ sym b
 has_one_fate once faults both T policy conn words f fate other (is_too_large e u n s k a) (arrived c t m z l b) =
-    let tree = once T (message_of T f) f.payload u t n m in
-    absurd (omega (arith, subst (λ (v : Node). words - 1 < block_words T (message_of T f) v) tree k, l))
+    let tree = once T (message_of_frame T f) f.payload u t n m in
+    absurd (omega (arith, subst (λ (v : Node). words - 1 < block_words T (message_of_frame T f) v) tree k, l))
 has_one_fate once faults both T policy conn words f fate other (arrived e u n s k a) (is_hello l b) = absurd (e.kind l)
 has_one_fate once faults both T policy conn words f fate other (arrived e u n s k a) (has_no_method l m b) = absurd (omega (arith, m, e.method))
-has_one_fate once faults both T policy conn words f fate other (arrived e u n s k a) (is_faulty c r p h b) = absurd (both T (message_of T f) f.payload u r p n h)
+has_one_fate once faults both T policy conn words f fate other (arrived e u n s k a) (is_faulty c r p h b) = absurd (both T (message_of_frame T f) f.payload u r p n h)
 has_one_fate once faults both T policy conn words f fate other (arrived e u n s k a) (is_denied c t m q z d b) =
-    let tree = once T (message_of T f) f.payload u t n m in
+    let tree = once T (message_of_frame T f) f.payload u t n m in
     absurd (denied_allowed policy q (call_of conn f t) z d (subst (λ (v : Node). Allows policy (call_of conn f v)) tree s))
 has_one_fate once faults both T policy conn words f fate other (arrived e u n s k a) (is_too_large c t m z l b) =
-    let tree = once T (message_of T f) f.payload u t n m in
-    absurd (omega (arith, subst (λ (v : Node). block_words T (message_of T f) v ≤ words - 1) tree k, l))
+    let tree = once T (message_of_frame T f) f.payload u t n m in
+    absurd (omega (arith, subst (λ (v : Node). block_words T (message_of_frame T f) v ≤ words - 1) tree k, l))
 has_one_fate once faults both T policy conn words f fate other (arrived e u n s k a) (arrived c t m z l b) =
-    let tree = once T (message_of T f) f.payload u t n m in
+    let tree = once T (message_of_frame T f) f.payload u t n m in
     a ∙ ap arrives tree ∙ sym b

@@ -15,7 +15,7 @@ use Rattle.frame_transport.specs.declared.fault.FeedFault.{FeedFault}
 use Rattle.frame_transport.specs.declared.fault.FeedFault.TheVariants.{Memory as NoMemory}
 use Rattle.policy_access.specs.Verdict.{AccessPolicy}
 use Rattle.receive_heap.specs.Layout.{Layout, IsSound}
-use Rattle.receive_core.specs.Fates.{arrives, IsFate, is_hello, has_no_method, is_faulty, is_denied, is_too_large, arrived, message_of, block_words}
+use Rattle.receive_core.specs.Fates.{arrives, IsFate, is_hello, has_no_method, is_faulty, is_denied, is_too_large, arrived, message_of_frame, block_words}
 use Rattle.receive_core.specs.Order.{HasTaken, goes_on, has_stopped}
 use Rattle.receive_core.specs.Turns.{Receiving, IsReady, Turns, HasStayed}
 use Rattle.receive_core.specs.Life.{Fated, was_dropped, was_placed, frame_of, stores_of, HasArrived, HasItsFate}
@@ -253,7 +253,7 @@ fates_on known T life old new m lives gives conn words next sound ready fate =
 
 -- a message that arrives has a block within the heap
 small_block : (T : Table) (policy : Option AccessPolicy) (conn words : ℕ) (f : Frame) (t : Node)
-    → IsFate T policy conn words f (arrives t) → block_words T (message_of T f) t ≤ words - 1
+    → IsFate T policy conn words f (arrives t) → block_words T (message_of_frame T f) t ≤ words - 1
 small_block T policy conn words f t (is_hello kind wrong) = absurd cc
 small_block T policy conn words f t (has_no_method kind method wrong) = absurd cc
 small_block T policy conn words f t (is_faulty call reason place fault wrong) = absurd cc
@@ -261,7 +261,7 @@ small_block T policy conn words f t (is_denied call u means p some denied wrong)
 small_block T policy conn words f t (is_too_large call u means allows large wrong) = absurd cc
 small_block T policy conn words f t (arrived call u means allows fits is) =
     let same : t ≡ u = cc in
-    subst (λ (v : Node). block_words T (message_of T f) v ≤ words - 1) (sym same) fits
+    subst (λ (v : Node). block_words T (message_of_frame T f) v ≤ words - 1) (sym same) fits
 
 no_more : (life : Life) → life ≡ fated life []
 no_more life = λ i. record { stream = life.stream; fault = life.fault; hello = life.hello; fates = sym (append-nil life.fates) i }

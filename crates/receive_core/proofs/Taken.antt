@@ -12,14 +12,14 @@ use Rattle.frame_transport.specs.declared.format.Frame.{Frame}
 use Rattle.mrpc_table.specs.declared.call.Call.{Call}
 use Rattle.receive_heap.specs.Layout.{Layout, IsFirstFit}
 use Rattle.receive_heap.specs.declared.extents.Block.{Block}
-use Rattle.receive_core.specs.Fates.{message_of, block_words}
+use Rattle.receive_core.specs.Fates.{message_of_frame, block_words}
 use Rattle.receive_core.specs.Opening.{IsOpened}
 use Rattle.graph_place.specs.Stored.{StandsIn, StandWithin}
 use Rattle.receive_core.specs.Turns.{IsPlaced}
 use Rattle.receive_core.specs.declared.opened.Opened.{Opened}
 
 -- the message of an opened call is that of its frame
-pub message_is : (T : Table) (conn : ℕ) (f : Frame) (o : Opened) → IsOpened T conn f o → message_at T o.call.method o.call.number ≡ message_of T f
+pub message_is : (T : Table) (conn : ℕ) (f : Frame) (o : Opened) → IsOpened T conn f o → message_at T o.call.method o.call.number ≡ message_of_frame T f
 message_is T conn f o is = ap (λ (c : Call). message_at T c.method c.number) is.call
 
 -- a number of words that is small is the number itself
@@ -64,9 +64,9 @@ placed_is T msg tree old new stores after block placed at words is cap inside sm
 
 -- the message of a call whose block lies in the heap lies there
 pub fits_in : (T : Table) (conn : ℕ) (f : Frame) (o : Opened) (at words : ℕ) → IsOpened T conn f o → at + o.words ≤ words → words ≤ 65536
-    → at + tree_words T (message_of T f) o.call.tree ≤ words
+    → at + tree_words T (message_of_frame T f) o.call.tree ≤ words
 fits_in T conn f o at words is inside small =
-    let exact : o.words ≡ block_words T (message_of T f) o.call.tree = uncapped (block_words T (message_of T f) o.call.tree) o.words is.words (omega (arith, inside, small)) in
+    let exact : o.words ≡ block_words T (message_of_frame T f) o.call.tree = uncapped (block_words T (message_of_frame T f) o.call.tree) o.words is.words (omega (arith, inside, small)) in
     omega (arith, exact, inside)
 
 -- and so do its words

@@ -11,7 +11,7 @@ use Rattle.frame_transport.specs.declared.format.Frame.{Frame}
 use Rattle.policy_access.specs.Verdict.{AccessPolicy, verdict}
 use Rattle.mrpc_table.specs.declared.call.Call.{Call}
 use Rattle.receive_heap.specs.Layout.{Layout, IsLargest}
-use Rattle.receive_core.specs.Fates.{Fate, drops, arrives, IsFate, is_denied, is_too_large, arrived, Allows, message_of, block_words}
+use Rattle.receive_core.specs.Fates.{Fate, drops, arrives, IsFate, is_denied, is_too_large, arrived, Allows, message_of_frame, block_words}
 use Rattle.receive_core.specs.Opening.{IsOpened, IsRefusal}
 use Rattle.receive_core.specs.Turns.{Receiving, IsFirst, IsPlaced, Turns, TakesCall, HasStayed}
 use Rattle.receive_core.specs.declared.arrival.Arrival.{Arrival}
@@ -41,7 +41,7 @@ pub allowed_fate : (T : Table) (policy : Option AccessPolicy) (conn words : ℕ)
     → IsOpened T conn f o → IsRefusal policy words o None → IsFate T policy conn words f (arrives o.call.tree)
 allowed_fate T policy conn words f o small is allowed =
     arrived is.is_call o.call.tree is.means (subst (Allows policy) is.call allowed.0)
-    (omega (arith, allowed.1, small, uncapped (block_words T (message_of T f) o.call.tree) o.words is.words (omega (arith, allowed.1, small)))) refl
+    (omega (arith, allowed.1, small, uncapped (block_words T (message_of_frame T f) o.call.tree) o.words is.words (omega (arith, allowed.1, small)))) refl
 
 -- ---- turns
 
@@ -63,7 +63,7 @@ waiting_turns T policy old new stores f o largest a small first is allowed none 
         first = first;
         tree = o.call.tree;
         fate = allowed_fate T policy old.conn old.heap.words f o small is allowed;
-        words = uncapped (block_words T (message_of T f) o.call.tree) o.words is.words (omega (arith, allowed.1, small));
+        words = uncapped (block_words T (message_of_frame T f) o.call.tree) o.words is.words (omega (arith, allowed.1, small));
         no_hole = none;
         hole = most;
         stays = stays.fed;
@@ -73,7 +73,7 @@ waiting_turns T policy old new stores f o largest a small first is allowed none 
     )
 
 pub taken_turns : (T : Table) (policy : Option AccessPolicy) (old new : Receiving) (stores after : List (ℕ × ℕ)) (f : Frame) (o : Opened) (a : Arrival)
-    → IsFate T policy old.conn old.heap.words f (arrives o.call.tree) → IsNormal T (message_of T f) o.call.tree → TakesCall T old new f o stores after a
+    → IsFate T policy old.conn old.heap.words f (arrives o.call.tree) → IsNormal T (message_of_frame T f) o.call.tree → TakesCall T old new f o stores after a
     → Turns T policy old new stores after a
 taken_turns T policy old new stores after f o NoFrame fate normal takes = absurd takes
 taken_turns T policy old new stores after f o (Dropped kind method number why) fate normal takes = absurd takes
@@ -83,7 +83,7 @@ taken_turns T policy old new stores after f o (Arrived kind method number block 
   taken = takes.0;
   says = takes.1;
   fate = subst (λ (t : Node). IsFate T policy old.conn old.heap.words f (arrives t)) (sym takes.2) fate;
-  normal = subst (IsNormal T (message_of T f)) (sym takes.2) normal;
+  normal = subst (IsNormal T (message_of_frame T f)) (sym takes.2) normal;
   placed = takes.3;
 }
 
@@ -146,7 +146,7 @@ turns_from T policy old mid new stores after f (Arrived kind method number block
   says = t.says;
   fate = fate_from T policy old mid t.frame (arrives tree) stays t.fate;
   normal = t.normal;
-  placed = subst (λ (h : Layout). IsPlaced T (message_of T t.frame) tree h new.heap stores after block) stays.heap t.placed;
+  placed = subst (λ (h : Layout). IsPlaced T (message_of_frame T t.frame) tree h new.heap stores after block) stays.heap t.placed;
 }
 
 pub ok_from : (T : Table) (policy : Option AccessPolicy) (old mid new : Receiving) (stores after : List (ℕ × ℕ)) (f : Frame) (r : Result Arrival Memory)

@@ -21,8 +21,8 @@ abbrev pub judged_number : Frame → ℕ
 judged_number f = if f.kind == 2 then max 1 f.number else 0
 
 -- the message of a frame's payload, by its place in the table
-abbrev pub message_of : Table → Frame → ℕ
-message_of T f = message_at T f.method (judged_number f)
+abbrev pub message_of_frame : Table → Frame → ℕ
+message_of_frame T f = message_at T f.method (judged_number f)
 
 -- the call that came on a connection, as policies judge it
 abbrev pub call_of : ℕ → Frame → Node → Call
@@ -54,16 +54,17 @@ pub data IsFate (T : Table) (policy : Option AccessPolicy) (conn words : ℕ) (f
   has_no_method : f.kind ≢ HELLO → length T.methods ≤ f.method → fate ≡ drops NoMethod
       → IsFate T policy conn words f fate
   is_faulty : IsCall T f → (reason : DecodeReason) (place : ℕ)
-      → IsFirstFault T (message_of T f) f.payload reason place
+      → IsFirstFault T (message_of_frame T f) f.payload reason place
       → fate ≡ drops (Decode reason place) → IsFate T policy conn words f fate
-  is_denied : IsCall T f → (t : Node) → Means T (message_of T f) f.payload t
+  is_denied : IsCall T f → (t : Node) → Means T (message_of_frame T f) f.payload t
       → (p : AccessPolicy) → policy ≡ Some p → (verdict p (call_of conn f t)).allow ≡ false
       → fate ≡ drops (Denied (verdict p (call_of conn f t)).rule) → IsFate T policy conn words f fate
-  is_too_large : IsCall T f → (t : Node) → Means T (message_of T f) f.payload t → Allows policy (call_of conn f t)
-      → words - 1 < block_words T (message_of T f) t
-      → fate ≡ drops (Oversize (capped (block_words T (message_of T f) t)) words) → IsFate T policy conn words f fate
-  arrived : IsCall T f → (t : Node) → Means T (message_of T f) f.payload t → Allows policy (call_of conn f t)
-      → block_words T (message_of T f) t ≤ words - 1
+  is_too_large : IsCall T f → (t : Node) → Means T (message_of_frame T f) f.payload t → Allows policy (call_of conn f t)
+      → words - 1 < block_words T (message_of_frame T f) t
+      → fate ≡ drops (Oversize (capped (block_words T (message_of_frame T f) t)) words)
+      → IsFate T policy conn words f fate
+  arrived : IsCall T f → (t : Node) → Means T (message_of_frame T f) f.payload t → Allows policy (call_of conn f t)
+      → block_words T (message_of_frame T f) t ≤ words - 1
       → fate ≡ arrives t → IsFate T policy conn words f fate
 
 -- each frame has a fate

@@ -14,7 +14,7 @@ use Rattle.frame_transport.specs.declared.fault.FeedFault.{FeedFault}
 use Rattle.policy_access.specs.Verdict.{AccessPolicy}
 use Rattle.receive_heap.specs.Layout.{IsSound}
 use Rattle.receive_heap.specs.declared.extents.Block.{Block}
-use Rattle.receive_core.specs.Fates.{drops, arrives, IsFate, message_of}
+use Rattle.receive_core.specs.Fates.{drops, arrives, IsFate, message_of_frame}
 use Rattle.receive_core.specs.Order.{HasTaken}
 use Rattle.receive_core.specs.Turns.{Receiving, IsReady}
 use Rattle.receive_core.specs.declared.arrival.Arrival.{Arrival}
@@ -40,8 +40,8 @@ stores_of (was_placed f policy t block placed) = placed.words
 pub record HasArrived (T : Table) (policy : Option AccessPolicy) (conn words : ℕ) (f : Frame) (t : Node)
     (block : Block) (placed : PlacedWords) : Type 0 where
   pub fate : IsFate T policy conn words f (arrives t)
-  pub normal : IsNormal T (message_of T f) t
-  pub stands : StandsIn T words (message_of T f) t block.at block.words placed
+  pub normal : IsNormal T (message_of_frame T f) t
+  pub stands : StandsIn T words (message_of_frame T f) t block.at block.words placed
   pub inside : block.words ≤ words - 1
 
 -- it is the frame's own fate, on a connection and a heap of so many words

@@ -6,7 +6,7 @@ use Rattle.wire_decode.specs.Means.{Means}
 use Rattle.mrpc_table.specs.Capped.{capped}
 use Rattle.frame_transport.specs.declared.format.Frame.{Frame}
 use Rattle.policy_access.specs.Verdict.{AccessPolicy, verdict}
-use Rattle.receive_core.specs.Fates.{IsFate, drops, IsCall, Allows, call_of, message_of, block_words}
+use Rattle.receive_core.specs.Fates.{IsFate, drops, IsCall, Allows, call_of, message_of_frame, block_words}
 use Rattle.receive_core.specs.declared.arrival.DropCause.{DropCause}
 use Rattle.receive_core.specs.declared.arrival.DropCause.TheVariants.{Denied, Oversize}
 use Rattle.receive_core.specs.declared.opened.Opened.{Opened}
@@ -16,10 +16,10 @@ use Rattle.receive_core.specs.declared.opened.Reading.TheVariants.{Call as Reads
 -- a frame was read as the call that it is, with the words of its block
 pub record IsOpened (T : Table) (conn : ℕ) (f : Frame) (o : Opened) : Type 0 where
   pub is_call : IsCall T f
-  pub means : Means T (message_of T f) f.payload o.call.tree
-  pub normal : IsNormal T (message_of T f) o.call.tree
+  pub means : Means T (message_of_frame T f) f.payload o.call.tree
+  pub normal : IsNormal T (message_of_frame T f) o.call.tree
   pub call : o.call ≡ call_of conn f o.call.tree
-  pub words : o.words ≡ capped (block_words T (message_of T f) o.call.tree)
+  pub words : o.words ≡ capped (block_words T (message_of_frame T f) o.call.tree)
 
 -- what a frame is read as: its call, or the cause for which it is dropped under each policy and on each heap
 abbrev pub IsReading : Table → ℕ → Frame → Reading → Type 0

@@ -12,7 +12,7 @@ use Rattle.frame_transport.specs.declared.format.Frame.{Frame}
 use Rattle.policy_access.specs.Verdict.{AccessPolicy}
 use Rattle.receive_heap.specs.Layout.{Layout, IsFirstFit, IsLargest}
 use Rattle.receive_heap.specs.declared.extents.Block.{Block}
-use Rattle.receive_core.specs.Fates.{drops, arrives, IsFate, message_of, block_words}
+use Rattle.receive_core.specs.Fates.{drops, arrives, IsFate, message_of_frame, block_words}
 use Rattle.receive_core.specs.declared.arrival.Arrival.{Arrival}
 use Rattle.receive_core.specs.declared.arrival.Arrival.TheVariants.{None as NoFrame, Arrived, Dropped, Waiting}
 use Rattle.receive_core.specs.declared.arrival.DropCause.{DropCause}
@@ -56,7 +56,7 @@ pub record LetsWait (T : Table) (policy : Option AccessPolicy) (old new : Receiv
   pub first : IsFirst old.fed frame
   pub tree : Node
   pub fate : IsFate T policy old.conn old.heap.words frame (arrives tree)
-  pub words : need ≡ block_words T (message_of T frame) tree
+  pub words : need ≡ block_words T (message_of_frame T frame) tree
   pub no_hole : All (λ hole. hole.words < need) old.heap.holes
   pub hole : IsLargest old.heap.holes largest
   pub stays : new.fed ≡ old.fed
@@ -82,8 +82,8 @@ pub record TakesIn (T : Table) (policy : Option AccessPolicy) (old new : Receivi
   pub taken : Gives old.fed frame new.fed
   pub says : (frame.kind ≡ kind) × (frame.method ≡ method) × (frame.number ≡ number)
   pub fate : IsFate T policy old.conn old.heap.words frame (arrives tree)
-  pub normal : IsNormal T (message_of T frame) tree
-  pub placed : IsPlaced T (message_of T frame) tree old.heap new.heap stores after block
+  pub normal : IsNormal T (message_of_frame T frame) tree
+  pub placed : IsPlaced T (message_of_frame T frame) tree old.heap new.heap stores after block
 
 -- what a turn answers, and what it makes of the receiver and of the stores to its heap
 abbrev pub Turns : Table → Option AccessPolicy → Receiving → Receiving → List (ℕ × ℕ) → List (ℕ × ℕ) → Arrival → Type 0
@@ -98,7 +98,7 @@ Turns T policy old new stores after (Arrived kind method number block tree) =
 abbrev pub TakesCall : Table → Receiving → Receiving → Frame → Opened → List (ℕ × ℕ) → List (ℕ × ℕ) → Arrival → Type 0
 TakesCall T old new f o stores after (Arrived kind method number block tree) = Gives old.fed f new.fed
     × ((f.kind ≡ kind) × (f.method ≡ method) × (f.number ≡ number)) × (tree ≡ o.call.tree)
-    × IsPlaced T (message_of T f) tree old.heap new.heap stores after block
+    × IsPlaced T (message_of_frame T f) tree old.heap new.heap stores after block
 TakesCall T old new f o stores after _ = ⊥
 
 -- all is as it was, but for what was read of the first frame

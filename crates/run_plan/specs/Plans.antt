@@ -1,5 +1,6 @@
 -- What a plan promises to those who run it (this project's own).
 use Rattle.std.specs.Prelude.{◌≡◌, ℕ, ◌*◌, ◌<◌, ◌≤◌, List, length, map, sum, All, Contains, Some, IfSome, slice_get}
+use Rattle.mrpc_table.specs.Lines.{IsIn}
 use Rattle.mrpc_table.specs.Names.{IsName, IsFullName}
 use Rattle.mrpc_table.specs.Valid.{IsValid, Ascends, AreDistinct}
 use Rattle.mrpc_table.specs.declared.limits.TheConstants.{MAX_LOADS}
@@ -12,7 +13,7 @@ use Rattle.policy_blocks.specs.declared.item.NamedPolicy.{NamedPolicy}
 use Rattle.policy_blocks.specs.declared.item.Tenant.{Tenant}
 use Rattle.app_program.specs.Programs.{IsClientProgram, IsServerProgram, submits_of}
 use Rattle.run_plan.specs.Chains.{policy_at, policy_of, IsReadUnder, SaysTheSame, lines_on, NeverRefuses}
-use Rattle.run_plan.specs.Ports.{IsIn, IsPort, ArePaired, connections_of}
+use Rattle.run_plan.specs.Ports.{IsPort, ArePaired, connections_of}
 use Rattle.run_plan.specs.declared.application.Application.{Application}
 use Rattle.run_plan.specs.declared.application.OwnPolicy.{OwnPolicy}
 use Rattle.run_plan.specs.declared.application.OwnSchema.{OwnSchema}

@@ -1,6 +1,7 @@
 -- Connections, and the links between them (this project's own).
-use Rattle.std.specs.Prelude.{◌≡◌, ◌⊎◌, ℕ, ◌≤◌, ◌==◌, Bool, ◌||◌, if◌then◌else◌, List, [], ◌∷◌, map, flat_map, All, Contains, Option, option_map}
+use Rattle.std.specs.Prelude.{◌≡◌, ◌⊎◌, ℕ, ◌==◌, Bool, ◌||◌, if◌then◌else◌, List, [], ◌∷◌, map, flat_map, All, Contains, Option, option_map}
 use Rattle.std.specs.List.{find}
+use Rattle.mrpc_table.specs.Lines.{IsIn}
 use Rattle.mrpc_table.specs.Valid.{AreDistinct}
 use Rattle.mrpc_table.specs.declared.limits.TheConstants.{MIN_HEAP, MAX_HEAP}
 use Rattle.run_plan.specs.declared.application.Application.{Application}
@@ -8,9 +9,6 @@ use Rattle.run_plan.specs.declared.application.Role.{Role}
 use Rattle.run_plan.specs.declared.application.Role.TheVariants as role
 use Rattle.run_plan.specs.declared.limits.TheConstants.{MAX_CONNECTIONS, MAX_RING, MAX_WEIGHT}
 use Rattle.run_plan.specs.declared.plan.Pair.{Pair}
-
-abbrev pub IsIn : (least most n : ℕ) → Type 0
-IsIn least most n = (least ≤ n) × (n ≤ most)
 
 -- the numbers of an application's connection are in their ranges
 pub record IsPort (app : Application) : Type 0 where

@@ -16,7 +16,7 @@ use Rattle.mrpc_table.specs.declared.words.Decimal.TheVariants.{Small, Large}
 use Rattle.policy_blocks.specs.Declarations.{Declared, policy_place}
 use Rattle.policy_blocks.specs.Items.{item_form}
 use Rattle.policy_blocks.specs.declared.item.NamedPolicy.{NamedPolicy}
-use Rattle.script_words.specs.Sorts.{Meaning, IsIn, number_at, unbounded_at, name_at}
+use Rattle.script_words.specs.Sorts.{Meaning, number_at, unbounded_at, name_at}
 use Rattle.script_words.specs.declared.form.Form.{Form}
 use Rattle.script_words.specs.declared.form.Form.TheVariants as form
 use Rattle.script_words.specs.declared.fault.ScriptReason.{ScriptReason}
@@ -29,7 +29,8 @@ use Rattle.script_text.specs.Keeping.{submit_said, attaching, detaching, upgradi
 use Rattle.script_text.specs.Keeping.{IsMade}
 use Rattle.script_text.specs.Kinds.{kind_of, is_kind, has_entry, has_other_entry, attach_at, attach_in, attach_against, detach_against, upgrade_against, engine_in}
 use Rattle.script_text.specs.Lines.{conn_of, heap_of, chain_of, submissions}
-use Rattle.script_text.specs.Words.{any_size, IsSaid}
+use Rattle.mrpc_table.specs.Lines.{magnitude, IsIn}
+use Rattle.script_text.specs.Words.{IsSaid}
 use Rattle.script_text.specs.declared.body.Body.{Body}
 use Rattle.script_text.specs.declared.body.Flaw.{Flaw}
 use Rattle.script_text.specs.declared.body.Flaw.TheVariants as flaw
@@ -107,19 +108,19 @@ place_large : (words : ℕ) → words ≤ 65536 → is_place words (2 ^ 64) ≡ 
 place_large words most = and_right (nat_le 1 (2 ^ 64)) (nat_lt (2 ^ 64) words) (le-ltb (2 ^ 64) words (omega (arith, most)))
 
 placed : (words : ℕ) → words ≤ 65536 → (make : ℕ → Line) (d : Decimal)
-    → (place_kept words d >>= (λ p. Ok (make p))) ≡ decided_by (make (any_size d))
-    (unless (is_place words (any_size d)) reason.Place)
+    → (place_kept words d >>= (λ p. Ok (make p))) ≡ decided_by (make (magnitude d))
+    (unless (is_place words (magnitude d)) reason.Place)
 placed words most make (Small p) = at_small make p (is_place words p) reason.Place
 placed words most make Large = sym (ap (λ b. decided_by (make (2 ^ 64)) (unless b reason.Place)) (place_large words most))
 
 race_placed : (words : ℕ) → words ≤ 65536 → (make : ℕ → ℕ → Line) (load : ℕ) (d : Decimal)
-    → (load_kept load >>= (λ q. place_kept words d >>= (λ p. Ok (make q p)))) ≡ decided_by (make load (any_size d)) (unless (nat_le 1 load && is_place words (any_size d)) reason.Place)
+    → (load_kept load >>= (λ q. place_kept words d >>= (λ p. Ok (make q p)))) ≡ decided_by (make load (magnitude d)) (unless (nat_le 1 load && is_place words (magnitude d)) reason.Place)
 race_placed words most make load (Small p) = raced make load p (nat_le 1 load) (is_place words p)
 race_placed words most make load Large = raced_far make load (2 ^ 64) (nat_le 1 load) (is_place words (2 ^ 64)) (place_large words most)
 
 turned : (es : List Entry) → length es ≤ 8 → (make : ℕ → Line) (d : Decimal)
-    → (engine_in (outline es) d >>= (λ at. Ok (make at))) ≡ decided_by (make (any_size d))
-    (unless (nat_lt (any_size d) (length es)) reason.At)
+    → (engine_in (outline es) d >>= (λ at. Ok (make at))) ≡ decided_by (make (magnitude d))
+    (unless (nat_lt (magnitude d) (length es)) reason.At)
 turned es few make (Small at) = ap (λ n. ((if nat_lt at n then Ok at else Err reason.At) >>= (λ x. Ok (make x))))
     (length-map es link_of) ∙ at_small make at (nat_lt at (length es)) reason.At
 turned es few make Large = sym (ap (λ b. decided_by (make (2 ^ 64)) (unless b reason.At)) (le-ltb (2 ^ 64) (length es) (omega (arith, few))))
@@ -149,7 +150,7 @@ attached_to make place count at = elim (cases_lt count at) [
 
 attached_in : (make : ℕ → ℕ → Line) (place count : ℕ) (d : Decimal) → count ≤ 8
     → ((attach_in count d >>= (λ n. Ok (both n place))) >>= (λ p. Ok (make p.0 p.1)))
-    ≡ decided_by (make (any_size d) place) (if nat_lt count (any_size d) then Some reason.At
+    ≡ decided_by (make (magnitude d) place) (if nat_lt count (magnitude d) then Some reason.At
     else if nat_le 8 count then Some reason.ChainFull else None)
 attached_in make place count (Small at) few = attached_to make place count at
 attached_in make place count Large few =
@@ -159,8 +160,8 @@ attached_in make place count Large few =
 
 attached : (es : List Entry) → length es ≤ 8 → (make : ℕ → ℕ → Line) (place : ℕ) (d : Decimal) (name : List ℕ)
     → ((attach_against (outline es) d name >>= (λ n. Ok (both n place))) >>= (λ p. Ok (make p.0 p.1)))
-    ≡ decided_by (make (any_size d) place) (if has_name name es then Some reason.Taken
-    else if nat_lt (length es) (any_size d) then Some reason.At
+    ≡ decided_by (make (magnitude d) place) (if has_name name es then Some reason.Taken
+    else if nat_lt (length es) (magnitude d) then Some reason.At
     else if nat_le 8 (length es) then Some reason.ChainFull else None)
 attached es few make place d name = elim (cases_Bool (has_name name es)) [
   | inl has ↦ rw (same_has name es, has) refl
@@ -241,26 +242,26 @@ module _ (loads : ℕ) (d : Declared) (b : Body) (k : IsKept loads d b) where
 
     store_decided : (at : Decimal) (value : ℕ)
         → (heap_kept (words_kept b conn) >>= (λ w. place_kept w at >>= (λ p. Ok (line.Store conn p value))))
-        ≡ Decided (line.Store conn (any_size at) value)
-    store_decided at value = by_heap (λ h. heap_kept h >>= (λ w. place_kept w at >>= (λ p. Ok (line.Store conn p value)))) (line.Store conn (any_size at) value) refl of where
+        ≡ Decided (line.Store conn (magnitude at) value)
+    store_decided at value = by_heap (λ h. heap_kept h >>= (λ w. place_kept w at >>= (λ p. Ok (line.Store conn p value)))) (line.Store conn (magnitude at) value) refl of where
       of : (found : Option ℕ) → heap_of b.lines conn ≡ found
           → (heap_kept found >>= (λ w. place_kept w at >>= (λ p. Ok (line.Store conn p value))))
-          ≡ Known (line.Store conn (any_size at) value) found
+          ≡ Known (line.Store conn (magnitude at) value) found
       of None e = refl
       of (Some w) e = placed w (heap_is w e) (λ p. line.Store conn p value) at
 
     race_decided : (load : ℕ) (at : Decimal) (value : ℕ)
         → (heap_kept (words_kept b conn) >>=
         (λ w. load_kept load >>= (λ q. place_kept w at >>= (λ p. Ok (line.Race conn q p value)))))
-        ≡ Decided (line.Race conn load (any_size at) value)
+        ≡ Decided (line.Race conn load (magnitude at) value)
     race_decided load at value =
         by_heap (λ h. heap_kept h >>=
         (λ w. load_kept load >>= (λ q. place_kept w at >>= (λ p. Ok (line.Race conn q p value)))))
-        (line.Race conn load (any_size at) value) refl of where
+        (line.Race conn load (magnitude at) value) refl of where
           of : (found : Option ℕ) → heap_of b.lines conn ≡ found
               → (heap_kept found >>=
               (λ w. load_kept load >>= (λ q. place_kept w at >>= (λ p. Ok (line.Race conn q p value)))))
-              ≡ Known (line.Race conn load (any_size at) value) found
+              ≡ Known (line.Race conn load (magnitude at) value) found
           of None e = refl
           of (Some w) e = race_placed w (heap_is w e) (λ q p. line.Race conn q p value) load at
 
@@ -283,11 +284,11 @@ module _ (loads : ℕ) (d : Declared) (b : Body) (k : IsKept loads d b) where
 
     turn_decided : (at : Decimal)
         → (heap_kept (words_kept b conn) >>= (λ w. engine_in (links_kept b conn) at >>= (λ p. Ok (line.Turn conn p))))
-        ≡ Decided (line.Turn conn (any_size at))
-    turn_decided at = by_heap (λ h. heap_kept h >>= (λ w. engine_in (links_kept b conn) at >>= (λ p. Ok (line.Turn conn p)))) (line.Turn conn (any_size at)) refl of where
+        ≡ Decided (line.Turn conn (magnitude at))
+    turn_decided at = by_heap (λ h. heap_kept h >>= (λ w. engine_in (links_kept b conn) at >>= (λ p. Ok (line.Turn conn p)))) (line.Turn conn (magnitude at)) refl of where
       of : (found : Option ℕ) → heap_of b.lines conn ≡ found
           → (heap_kept found >>= (λ w. engine_in (links_kept b conn) at >>= (λ p. Ok (line.Turn conn p))))
-          ≡ Known (line.Turn conn (any_size at)) found
+          ≡ Known (line.Turn conn (magnitude at)) found
       of None e = refl
       of (Some w) e = ap (λ (ls : List Link). engine_in ls at >>= (λ p. Ok (line.Turn conn p))) kept.links ∙ turned entries few (λ p. line.Turn conn p) at
 
@@ -306,7 +307,7 @@ module _ (loads : ℕ) (d : Declared) (b : Body) (k : IsKept loads d b) where
         (λ w. place_or_unknown policy >>=
         (λ p. attach_against (links_kept b conn) at name >>= (λ n. Ok (both n p))))) >>=
         (λ p. Ok (line.Attach conn p.0 name p.1)))
-        ≡ decided loads d.policies b.lines (option_map (line.Attach conn (any_size at) name) policy)
+        ≡ decided loads d.policies b.lines (option_map (line.Attach conn (magnitude at) name) policy)
     attach_decided at name None within = none (words_kept b conn) where
       none : (found : Option ℕ)
           → ((heap_kept found >>=
@@ -316,17 +317,17 @@ module _ (loads : ℕ) (d : Declared) (b : Body) (k : IsKept loads d b) where
       none (Some w) = refl
     attach_decided at name (Some p) within =
         by_heap (λ h. (heap_kept h >>= (λ w. attach_against (links_kept b conn) at name >>= (λ n. Ok (both n p)))) >>=
-        (λ p. Ok (line.Attach conn p.0 name p.1))) (line.Attach conn (any_size at) name p) refl of where
+        (λ p. Ok (line.Attach conn p.0 name p.1))) (line.Attach conn (magnitude at) name p) refl of where
           of : (found : Option ℕ) → heap_of b.lines conn ≡ found
               → ((heap_kept found >>= (λ w. attach_against (links_kept b conn) at name >>= (λ n. Ok (both n p)))) >>=
-              (λ p. Ok (line.Attach conn p.0 name p.1))) ≡ Known (line.Attach conn (any_size at) name p) found
+              (λ p. Ok (line.Attach conn p.0 name p.1))) ≡ Known (line.Attach conn (magnitude at) name p) found
           of None e = refl
           of (Some w) e =
               let q = there_is d.policies p (within p refl) in
               ap (λ (ls : List Link). (attach_against ls at name >>= (λ n. Ok (both n p))) >>= (λ p. Ok (line.Attach conn p.0 name p.1))) kept.links
               ∙ attached entries few (λ n p. line.Attach conn n name p) p at name
-              ∙ sym (ap (λ (o : Option NamedPolicy). decided_by (line.Attach conn (any_size at) name p)
-              (against_some_op (option_map (λ r. op.Attach (any_size at) name r.name r.policy) o) entries)) q.1)
+              ∙ sym (ap (λ (o : Option NamedPolicy). decided_by (line.Attach conn (magnitude at) name p)
+              (against_some_op (option_map (λ r. op.Attach (magnitude at) name r.name r.policy) o) entries)) q.1)
 
     upgrade_decided : (name : List ℕ) (policy : Option ℕ) → ((p : ℕ) → policy ≡ Some p → p < length d.policies)
         → ((heap_kept (words_kept b conn) >>=

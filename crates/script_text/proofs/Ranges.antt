@@ -11,13 +11,13 @@ use Rattle.std.proofs.lemmas.Bool.{and_parts, ltb-true, leb-true}
 use Rattle.std.proofs.lemmas.Grind.{common_steps}
 use Rattle.std.proofs.lemmas.Int.Digits.{digits_value-lt}
 use Rattle.std.proofs.lemmas.Option.{same_Some}
-use Rattle.mrpc_table.specs.Lines.{words_of}
+use Rattle.mrpc_table.specs.Lines.{words_of, IsIn}
 use Rattle.mrpc_table.specs.Names.{IsName}
 use Rattle.policy_blocks.specs.Declarations.{Declared, policy_place}
 use Rattle.policy_blocks.specs.Items.{item_form}
 use Rattle.script_words.specs.Forms.{sorts_of}
 use Rattle.script_words.specs.Lines.{AreSaid}
-use Rattle.script_words.specs.Sorts.{Meaning, word, number, unbounded, name, IsIn, Says, number_at, name_at}
+use Rattle.script_words.specs.Sorts.{Meaning, word, number, unbounded, name, Says, number_at, name_at}
 use Rattle.script_words.specs.Values.{Value, plain, negative, hexadecimal, IsValue, Fits, word_of, is_hexadecimal, are_hexadecimal}
 use Rattle.script_words.specs.declared.form.Form.{Form}
 use Rattle.script_words.specs.declared.form.Form.TheVariants as form

@@ -1,8 +1,6 @@
 -- What the words of a line say behind what is declared (this project's own).
-use Rattle.std.specs.Prelude.{◌≡◌, ℕ, ◌^◌, List, Option, Some, None, option_map}
-use Rattle.mrpc_table.specs.Lines.{words_of}
-use Rattle.mrpc_table.specs.declared.words.Decimal.{Decimal}
-use Rattle.mrpc_table.specs.declared.words.Decimal.TheVariants.{Small, Large}
+use Rattle.std.specs.Prelude.{◌≡◌, ℕ, List, Option, Some, None, option_map}
+use Rattle.mrpc_table.specs.Lines.{magnitude, words_of}
 use Rattle.policy_blocks.specs.Declarations.{Declared, policy_place}
 use Rattle.script_words.specs.Forms.{sorts_of, form_in}
 use Rattle.script_words.specs.Lines.{AreSaid}
@@ -17,11 +15,6 @@ pub record IsSaid (f : Form) (text : List ℕ) (meanings : List Meaning) : Type 
   pub has_form : form_in (words_of text) ≡ Some f
   pub said : AreSaid (sorts_of f) (words_of text) meanings
 
--- a place or a position; those above 64 bits are all alike, since no heap and no chain has them
-abbrev pub any_size : Decimal → ℕ
-any_size (Small n) = n
-any_size Large = 2 ^ 64
-
 -- the name of a declared policy that the words of an operator's line give
 abbrev pub policy_in : Form → List Meaning → Option (List ℕ)
 policy_in form.Attach meanings = Some (name_at meanings 4)
@@ -29,20 +22,21 @@ policy_in form.Upgrade meanings = Some (name_at meanings 3)
 policy_in _ meanings = None
 
 -- the line that words say, counted from 0; none where the policy that it names isn't declared, and none of a form that
--- declares something or closes the script
+-- declares something or closes the script (places and positions above 64 bits are all alike, since no heap and no chain
+-- has them)
 abbrev pub line_in : Declared → Form → List Meaning → Option Line
 line_in d form.Conn m = Some (line.Conn (number_at m 1) (number_at m 2))
-line_in d form.Store m = Some (line.Store (number_at m 1) (any_size (unbounded_at m 2)) (number_at m 3))
+line_in d form.Store m = Some (line.Store (number_at m 1) (magnitude (unbounded_at m 2)) (number_at m 3))
 line_in d form.Race m =
-    Some (line.Race (number_at m 1) (number_at m 2) (any_size (unbounded_at m 3)) (number_at m 4))
+    Some (line.Race (number_at m 1) (number_at m 2) (magnitude (unbounded_at m 3)) (number_at m 4))
 line_in d form.Submit m = Some (line.Submit (number_at m 1) (number_at m 2) 0 (number_at m 3))
 line_in d form.Reply m = Some (line.Submit (number_at m 1) (number_at m 2) (number_at m 4) (number_at m 3))
 line_in d form.Attach m =
-    option_map (line.Attach (number_at m 1) (any_size (unbounded_at m 2)) (name_at m 3)) (policy_place d (name_at m 4))
+    option_map (line.Attach (number_at m 1) (magnitude (unbounded_at m 2)) (name_at m 3)) (policy_place d (name_at m 4))
 line_in d form.Detach m = Some (line.Detach (number_at m 1) (name_at m 2))
 line_in d form.Upgrade m = option_map (line.Upgrade (number_at m 1) (name_at m 2)) (policy_place d (name_at m 3))
 line_in d form.Moment m = Some (line.Moment (number_at m 1) (number_at m 2))
-line_in d form.Turn m = Some (line.Turn (number_at m 1) (any_size (unbounded_at m 2)))
+line_in d form.Turn m = Some (line.Turn (number_at m 1) (magnitude (unbounded_at m 2)))
 line_in d form.Send m = Some (line.Send (number_at m 1))
 line_in d form.Drain m = Some (line.Drain (number_at m 1))
 line_in d _ m = None

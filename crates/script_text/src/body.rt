@@ -1,9 +1,10 @@
 //! What is kept of the lines so far, and what a line says behind them.
 
 ghost use Rattle.std.specs.Prelude.{◌≡◌, ◌+◌, ◌*◌, ◌<◌, ◌≤◌, ◌^◌, ◌++◌, ◌∷◌, [], ℕ, List, OnOk, IfOk};
+ghost use Rattle.mrpc_table.specs.Lines.{IsIn};
 ghost use Rattle.mrpc_table.specs.declared.limits.TheConstants.{MAX_HEAP, MAX_LOADS};
 ghost use Rattle.script_words.specs.Meanings.{meanings_of};
-ghost use Rattle.script_words.specs.Sorts.{IsIn, number_at};
+ghost use Rattle.script_words.specs.Sorts.{number_at};
 ghost use Rattle.script_text.specs.Stores.{drain_words, store_words, submit_words, turn_words};
 ghost use Rattle.script_text.specs.Words.{IsSaid};
 ghost use Rattle.script_text.specs.Keeping.{words_kept, links_kept, heap_kept, place_kept, load_kept, work_kept, policy_kept, kind_at, conn_said, store_said, race_said, submit_said, attaching, attach_said, detaching, detach_said, upgrading, upgrade_said, turn_said, moment_said, send_said, drain_said, line_said, IsMade, IsFreshBody, CanAdd, connections_after, submissions_after};

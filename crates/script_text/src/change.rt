@@ -5,7 +5,6 @@ ghost use Rattle.mrpc_table.specs.Lines.{pieces_of, words_of};
 ghost use Rattle.mrpc_table.specs.Valid.{IsValid};
 ghost use Rattle.mrpc_table.specs.declared.limits.TheConstants.{MAX_LOADS};
 ghost use Rattle.mrpc_table.specs.declared.table.Table.{Table as TheTable};
-ghost use Rattle.policy_blocks.specs.Blocks.{is_skipped};
 ghost use Rattle.policy_blocks.specs.Items.{item_form, Declares};
 ghost use Rattle.script_words.specs.Meanings.{meanings_of};
 ghost use Rattle.script_words.specs.Forms.{form_in};
@@ -23,7 +22,7 @@ use crate::short::{Submit, Turn, front_drain, front_submit, front_turn};
 use crate::store::{Store, front_store};
 use memchr::memchr;
 use mrpc_table::Table;
-use policy_blocks::{Declarations, Item, ItemForm, ItemLines, read_item};
+use policy_blocks::{Declarations, Item, ItemForm, ItemLines, is_skipped, read_item};
 use script_words::{Form, Said, ScriptFault, ScriptReason, form_of, judge};
 use std::alloc::Global;
 
@@ -49,13 +48,6 @@ fn cut_line(text: &[u8]) -> Option<(&[u8], &[u8])>
 {
     let at = memchr(b'\n', text)?;
     Some((&text[..at], &text[at + 1..]))
-}
-
-// Whether a line is empty, or begins with `#`.
-fn is_skipped(line: &[u8]) -> bool
-    ensures { result ≡ is_skipped line.now }
-{
-    matches!(line, [] | [b'#', ..])
 }
 
 // The fault of the first line of what is left.

@@ -3,7 +3,7 @@ use Rattle.std.proofs.Common.{◌≡◌, ◌≢◌, ◌⊎◌, ℕ, List, [], �
 use Rattle.std.specs.Str.{bytes_eq}
 use Rattle.std.proofs.lemmas.Bool.{cases_Bool, cases_lt, cases_eq, false≢true}
 use Rattle.std.proofs.lemmas.Slice.Eq.{bytes_eq-Decides}
-use Rattle.mrpc_table.specs.Lines.{number_of, in_64_bits}
+use Rattle.mrpc_table.specs.Lines.{number_of, in_64_bits, IsIn}
 use Rattle.mrpc_table.specs.Names.{is_name_form}
 use Rattle.mrpc_table.specs.declared.words.Decimal.{Decimal}
 use Rattle.mrpc_table.specs.declared.words.Decimal.TheVariants.{Small, Large}
@@ -11,7 +11,7 @@ use Rattle.script_words.specs.Keywords.{spelling}
 use Rattle.script_words.specs.Lines.{AreSaid, OneOffends, IsAgainst}
 use Rattle.script_words.specs.Reading.{value_in}
 use Rattle.script_words.specs.Reasons.{order_of, IsFirst}
-use Rattle.script_words.specs.Sorts.{Meaning, word, number, unbounded, name, Says, Offends, IsIn}
+use Rattle.script_words.specs.Sorts.{Meaning, word, number, unbounded, name, Says, Offends}
 use Rattle.script_words.specs.declared.fault.ScriptReason.{ScriptReason}
 use Rattle.script_words.specs.declared.fault.ScriptReason.TheVariants as reason
 use Rattle.script_words.specs.declared.sort.Sort.{Sort}

@@ -5,13 +5,13 @@ use Rattle.std.specs.Prelude.{nat_le}
 use Rattle.std.proofs.lemmas.Bool.{leb-true}
 use Rattle.std.proofs.lemmas.List.{map_push, take_all, take_more, length-take}
 use Rattle.std.proofs.lemmas.Option.{same_Some}
-use Rattle.mrpc_table.specs.Lines.{number_of, in_64_bits}
+use Rattle.mrpc_table.specs.Lines.{number_of, in_64_bits, IsIn}
 use Rattle.script_words.specs.Keywords.{spelling}
 use Rattle.script_words.specs.Lines.{AreSaid, OneOffends, IsAgainst, miscounted, in_word}
 use Rattle.script_words.specs.Meanings.{meaning_of, meanings_of}
 use Rattle.script_words.specs.Reasons.{order_of, IsFirst}
 use Rattle.script_words.specs.Rests.{earlier}
-use Rattle.script_words.specs.Sorts.{Meaning, word, number, unbounded, name, Says, Offends, IsIn}
+use Rattle.script_words.specs.Sorts.{Meaning, word, number, unbounded, name, Says, Offends}
 use Rattle.script_words.specs.Values.{word_of, Value, plain, negative, hexadecimal, IsValue, Fits}
 use Rattle.script_words.specs.declared.fault.ScriptReason.{ScriptReason}
 use Rattle.script_words.proofs.OneKeyword.{same_keyword}

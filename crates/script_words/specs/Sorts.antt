@@ -1,6 +1,6 @@
 -- What a word of a sort says, and what stands against it (this project's own).
-use Rattle.std.specs.Prelude.{◌≡◌, ◌≢◌, ◌⊎◌, ℕ, ◌≤◌, List, [], Option, Some, None, slice_get}
-use Rattle.mrpc_table.specs.Lines.{in_64_bits}
+use Rattle.std.specs.Prelude.{◌≡◌, ◌≢◌, ◌⊎◌, ℕ, List, [], Option, Some, None, slice_get}
+use Rattle.mrpc_table.specs.Lines.{IsIn, in_64_bits}
 use Rattle.mrpc_table.specs.Names.{IsName}
 use Rattle.mrpc_table.specs.declared.words.Decimal.{Decimal}
 use Rattle.mrpc_table.specs.declared.words.Decimal.TheVariants.{Small}
@@ -18,9 +18,6 @@ pub data Meaning : Type 0 where
   number : ℕ → Meaning
   unbounded : Decimal → Meaning
   name : List ℕ → Meaning
-
-abbrev pub IsIn : (least most n : ℕ) → Type 0
-IsIn least most n = (least ≤ n) × (n ≤ most)
 
 -- a word of the sort says this
 abbrev pub Says : Sort → List ℕ → Meaning → Type 0

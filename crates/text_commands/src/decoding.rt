@@ -84,9 +84,9 @@ pub(crate) fn decode_stream<K: Sink>(
 
 // Room that is used again for each frame.
 struct Room {
-    /// The encoding of a message.
+    // The encoding of a message.
     encoded: Output,
-    /// What the trees of earlier messages were made of.
+    // What the trees of earlier messages were made of.
     spare: Spare,
 }
 

@@ -1,15 +1,15 @@
 -- The encoding of a tree (Protocol Buffers, "Encoding"): the records of each field in the order of the
 -- tree, with shortest varints; a packed field is one record, a map is one record for each entry.
-use Rattle.std.specs.Prelude.{ℕ, zero, suc, ◌+◌, ◌-◌, ◌*◌, ◌/◌, ◌%◌, ◌^◌, List, [], ◌∷◌, ◌++◌, length, option_map, unwrap_or, if◌then◌else◌, nat_lt, Bool, true, false}
+use Rattle.std.specs.Prelude.{ℕ, zero, suc, ◌+◌, ◌-◌, ◌*◌, ◌/◌, ◌%◌, ◌^◌, List, [], ◌∷◌, ◌++◌, length, if◌then◌else◌, nat_lt, Bool, true, false}
 use Rattle.std.specs.Int.{w32, w64, to_le_bytes}
 use Rattle.mrpc_table.specs.Node.{Node, no_fields, field, Content, one, many, pairs, Item, number, run, node, Items, no_items, item, Pairs, no_pairs, pair}
-use Rattle.mrpc_table.specs.Normal.{fields_of, field_at, kind_at}
+use Rattle.mrpc_table.specs.Normal.{fields_of, kind_at, label_at}
 use Rattle.mrpc_table.specs.WireTypes.{wire_len, wire_type_of}
-use Rattle.mrpc_table.specs.Words.{key_kind, message_of}
+use Rattle.mrpc_table.specs.Words.{key_kind, nested_message}
 use Rattle.mrpc_table.specs.declared.table.Kind.{Kind}
 use Rattle.mrpc_table.specs.declared.table.Kind.TheVariants.{Sint32, Sint64, Fixed32, Fixed64, Sfixed32, Sfixed64, Float, Double}
 use Rattle.mrpc_table.specs.declared.table.Label.{Label}
-use Rattle.mrpc_table.specs.declared.table.Label.TheVariants.{Plain, Packed}
+use Rattle.mrpc_table.specs.declared.table.Label.TheVariants.{Packed}
 use Rattle.mrpc_table.specs.declared.table.Field.{Field}
 use Rattle.mrpc_table.specs.declared.table.Table.{Table}
 
@@ -46,10 +46,6 @@ number_bytes Sfixed32 n = to_le_bytes w32 (n % 2 ^ 32)
 number_bytes Float n = to_le_bytes w32 n
 number_bytes _ n = varint n
 
--- the label of the field of a number
-abbrev pub label_at : List Field → ℕ → Label
-label_at fs n = unwrap_or (option_map (λ f. f.label) (field_at fs n)) Plain
-
 abbrev pub is_packed : Label → Bool
 is_packed Packed = true
 is_packed _ = false
@@ -71,7 +67,7 @@ abbrev mutual
   pub item_bytes : Table → Kind → Item → List ℕ
   item_bytes T k (number n) = number_bytes k n
   item_bytes T k (run bytes) = delimited bytes
-  item_bytes T k (node t) = delimited (fields_bytes T (fields_of T (message_of k)) t)
+  item_bytes T k (node t) = delimited (fields_bytes T (fields_of T (nested_message k)) t)
 
   -- the elements of a packed field, one after another
   pub joined_bytes : Table → Kind → Items → List ℕ

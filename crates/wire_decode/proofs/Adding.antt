@@ -1,10 +1,10 @@
 -- One content more among the contents of fields.
 use Rattle.std.proofs.Common.{◌≡◌, ◌≢◌, ℕ, ◌<◌, ◌≤◌, List, [], ◌∷◌, ◌++◌, Some, refl, ap, sym, subst, ◌∙◌, arith, append_assoc, ⊎_elim}
 use Rattle.std.proofs.lemmas.Bool.Decides.{nat_tests, eqb_tells}
-use Rattle.mrpc_table.specs.Node.{Node, no_fields, field, Content, push_field}
+use Rattle.mrpc_table.specs.Node.{Node, no_fields, field, Content, push_field, NumbersAscend}
 use Rattle.wire_decode.specs.Merged.{contents_of, field_content}
 use Rattle.wire_decode.specs.TwoInOne.{form_of, MeansBoth}
-use Rattle.wire_decode.specs.NumberOrder.{NumbersRiseFrom, NumbersRise, NumbersAreAtMost}
+use Rattle.wire_decode.specs.NumberOrder.{NumbersRise, NumbersAreAtMost}
 use Rattle.wire_decode.specs.Gathered.{HasOneMore, IsGathered}
 use Rattle.mrpc_table.specs.Normal.{field_at}
 use Rattle.mrpc_table.specs.declared.table.Field.{Field}
@@ -42,7 +42,7 @@ abbrev pub AreBelow : ℕ → Node → Type 0
 AreBelow n no_fields = Unit {0}
 AreBelow n (field m c t) = (m < n) × AreBelow n t
 
-pub rise_from-pushed : (last n : ℕ) (c : Content) (t : Node) → last < n → NumbersRiseFrom last t → AreBelow n t → NumbersRiseFrom last (push_field t n c)
+pub rise_from-pushed : (last n : ℕ) (c : Content) (t : Node) → last < n → NumbersAscend last t → AreBelow n t → NumbersAscend last (push_field t n c)
 rise_from-pushed last n c no_fields more h below = (more, tt)
 rise_from-pushed last n c (field m d t) more h below = (h.0, rise_from-pushed m n c t below.0 h.1 below.1)
 
@@ -55,7 +55,7 @@ most-pushed m n c no_fields le h = (le, tt)
 most-pushed m n c (field k d t) le h = (h.0, most-pushed m n c t le h.1)
 
 -- the last number stays where the last content is another one
-pub rise_from-swapped : (last n : ℕ) (c d : Content) (t : Node) → NumbersRiseFrom last (push_field t n c) → NumbersRiseFrom last (push_field t n d)
+pub rise_from-swapped : (last n : ℕ) (c d : Content) (t : Node) → NumbersAscend last (push_field t n c) → NumbersAscend last (push_field t n d)
 rise_from-swapped last n c d no_fields h = h
 rise_from-swapped last n c d (field m e t) h = (h.0, rise_from-swapped m n c d t h.1)
 
@@ -68,13 +68,13 @@ most-swapped m n c d no_fields h = h
 most-swapped m n c d (field k e t) h = (h.0, most-swapped m n c d t h.1)
 
 -- where the last number is another one, all are below the number that is added
-below-from : (last n m : ℕ) (c : Content) (t : Node) → NumbersRiseFrom last (push_field t m c) → m < n → AreBelow n (push_field t m c)
+below-from : (last n m : ℕ) (c : Content) (t : Node) → NumbersAscend last (push_field t m c) → m < n → AreBelow n (push_field t m c)
 below-from last n m c no_fields h less = (less, tt)
 below-from last n m c (field k d t) h less =
     let rest = below-from k n m c t h.1 less in
     (omega (arith, first-below k n m c t h.1 less), rest)
   where
-    first-below : (last n m : ℕ) (c : Content) (t : Node) → NumbersRiseFrom last (push_field t m c) → m < n → last < n
+    first-below : (last n m : ℕ) (c : Content) (t : Node) → NumbersAscend last (push_field t m c) → m < n → last < n
     first-below last n m c no_fields h less = let a = h.0 in omega (arith, a)
     first-below last n m c (field k d t) h less = let a = h.0 in let b = first-below k n m c t h.1 less in omega (arith, a, b)
 
@@ -82,7 +82,7 @@ pub below-last : (n m : ℕ) (c : Content) (t : Node) → NumbersRise (push_fiel
 below-last n m c no_fields h less = (less, tt)
 below-last n m c (field k d t) h less = let rest = below-from k n m c t h less in (first k n m c t h less, rest)
   where
-    first : (last n m : ℕ) (c : Content) (t : Node) → NumbersRiseFrom last (push_field t m c) → m < n → last < n
+    first : (last n m : ℕ) (c : Content) (t : Node) → NumbersAscend last (push_field t m c) → m < n → last < n
     first last n m c no_fields h less = let a = h.0 in omega (arith, a)
     first last n m c (field k d t) h less = let a = h.0 in let b = first k n m c t h.1 less in omega (arith, a, b)
 

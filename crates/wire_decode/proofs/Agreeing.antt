@@ -17,7 +17,8 @@ use Rattle.wire_decode.specs.Merged.{element, entry, field_content}
 use Rattle.wire_decode.specs.Contents.{present, present_if_set, some_items, some_pairs}
 use Rattle.wire_decode.specs.Merged.{counted}
 use Rattle.wire_decode.specs.Contents.{with_content}
-use Rattle.wire_decode.specs.Contents.{is_single, single_content}
+use Rattle.mrpc_table.specs.Words.{has_one_value}
+use Rattle.wire_decode.specs.Contents.{single_content}
 use Rattle.wire_decode.specs.Meaning as rule
 use Rattle.wire_decode.specs.Meaning.{Value, single, packed, delimited, counted_values, values_of, values_but}
 use Rattle.wire_decode.specs.Meaning.{joined_payloads, item_or_default, MeansIn, means_in, AreFields, no_field}
@@ -36,11 +37,11 @@ use Rattle.wire_decode.proofs.Alike.{AllEntries, values-of, contents-of}
 
 -- ---- labels
 
-single-no_map : (label : Label) → is_single label ≡ true → is_map label ≡ false
+single-no_map : (label : Label) → has_one_value label ≡ true → is_map label ≡ false
 single-no_map (Map key) h = absurd (cc)
 single-no_map _ h = refl
 
-single-no_list : (label : Label) → is_single label ≡ true → is_list label ≡ true → ⊥
+single-no_list : (label : Label) → has_one_value label ≡ true → is_list label ≡ true → ⊥
 single-no_list Repeated h l = (cc)
 single-no_list Packed h l = (cc)
 single-no_list Plain h l = (cc)
@@ -59,7 +60,7 @@ message-clash : (k : Kind) (i : ℕ) → is_message k ≡ false → k ≡ OfMess
 message-clash k i outside e = (let h : false ≡ true = sym outside ∙ ap is_message e in cc)
 
 single-content : (inner : ℕ → Node → Node) (label : Label) (k : Kind) (cs : List Content) (i : Item)
-    → is_single label ≡ true → singular inner k (singles_in cs) ≡ Some i
+    → has_one_value label ≡ true → singular inner k (singles_in cs) ≡ Some i
     → field_content inner label k cs ≡ single_content label i
 single-content inner Plain k cs i h e = ap present_if_set e
 single-content inner Optional k cs i h e = ap present e
@@ -98,7 +99,7 @@ means-plain T room k v is plain (of_piece ns e i) = i ∙ sym (ap plain_items e)
 means-plain T room k v is plain (of_run bytes p e i) = i ∙ sym (ap plain_items e)
 means-plain T room k v is plain (of_message m inside bytes t kind room_is e means i) = absurd (message-clash k m plain kind)
 
-alike-item : (T : Table) (room : ℕ) (label : Label) (k : Kind) (v : Value) (c : Content) → is_single label ≡ true
+alike-item : (T : Table) (room : ℕ) (label : Label) (k : Kind) (v : Value) (c : Content) → has_one_value label ≡ true
     → is_message k ≡ false → Alike T room label k v c → (i : Item) × (c ≡ one i) × ValueMeans T room k v (i ∷ [])
 alike-item T room label k v c one_only plain (alike_number n no_map p e i) = (number n, i, of_number n e refl)
 alike-item T room label k v c one_only plain (alike_piece ns list p e i) = absurd (single-no_list label one_only list)
@@ -130,7 +131,7 @@ pub record IsLast (T : Table) (room : ℕ) (k : Kind) (vs : List Value) (cs : Li
   pub means : ValueMeans T room k last (item ∷ [])
   pub found : last_value (singles_in cs) ≡ Some item
 
-last-to : (T : Table) (room : ℕ) (label : Label) (k : Kind) (v : Value) (vs : List Value) (c : Content) (cs : List Content) → is_single label ≡ true → is_message k ≡ false
+last-to : (T : Table) (room : ℕ) (label : Label) (k : Kind) (v : Value) (vs : List Value) (c : Content) (cs : List Content) → has_one_value label ≡ true → is_message k ≡ false
     → Alike T room label k v c → AllAlike T room label k vs cs → IsLast T room k (v ∷ vs) (c ∷ cs)
 last-to T room label k v [] c [] one_only plain h more =
     let i = alike-item T room label k v c one_only plain h in
@@ -200,7 +201,7 @@ taken-room : (T : Table) (room inside i : ℕ) (raw : Node) → room ≡ suc ins
 taken-room T room inside i raw e = ap (λ x. merged_taken T x i raw) e ∙ taken-suc T inside i raw
 
 message-content : (T : Table) (room inside : ℕ) (label : Label) (k : Kind) (i : ℕ) (v : Value) (c : Content)
-    (cs : List Content) → is_single label ≡ true → k ≡ OfMessage i → room ≡ suc inside → Alike T room label k v c
+    (cs : List Content) → has_one_value label ≡ true → k ≡ OfMessage i → room ≡ suc inside → Alike T room label k v c
     → field_content (merged_taken T room) label k (c ∷ cs) ≡ single_content label (node (meaning T inside (fields_of T i) (joined (singles_in (c ∷ cs)))))
 message-content T room inside label k i v c cs one_only kind room_is h =
     let m = is-message T room inside label k i v c (single-no_map label one_only) kind room_is h in
@@ -370,14 +371,14 @@ pairs-back law T room label key k (v ∷ vs) (c ∷ cs) es agree m h (more_entri
 
 -- ---- a field
 
-plain-to : (T : Table) (room : ℕ) (label : Label) (k : Kind) (v : Value) (vs : List Value) (c : Content) (cs : List Content) → is_single label ≡ true → is_message k ≡ false
+plain-to : (T : Table) (room : ℕ) (label : Label) (k : Kind) (v : Value) (vs : List Value) (c : Content) (cs : List Content) → has_one_value label ≡ true → is_message k ≡ false
     → Alike T room label k v c → AllAlike T room label k vs cs → FieldMeans T room label k (v ∷ vs) (field_content (merged_taken T room) label k (c ∷ cs))
 plain-to T room label k v vs c cs one_only plain h more =
     let r = last-to T room label k v vs c cs one_only plain h more in
     rule.last_value r.before r.last r.item one_only plain r.split r.means
     (single-content (merged_taken T room) label k (c ∷ cs) r.item one_only (singular-last (merged_taken T room) k (singles_in (c ∷ cs)) plain ∙ r.found))
 
-single-to : (T : Table) (room : ℕ) (label : Label) (k : Kind) (v : Value) (vs : List Value) (c : Content) (cs : List Content) → Inner T room → is_single label ≡ true
+single-to : (T : Table) (room : ℕ) (label : Label) (k : Kind) (v : Value) (vs : List Value) (c : Content) (cs : List Content) → Inner T room → has_one_value label ≡ true
     → Alike T room label k v c → AllAlike T room label k vs cs → FieldMeans T room label k (v ∷ vs) (field_content (merged_taken T room) label k (c ∷ cs))
 single-to T room label (OfMessage i) v vs c cs inner one_only h more =
     let no_map = single-no_map label one_only in
@@ -417,7 +418,7 @@ append-some [] v e = cc
 append-some (b ∷ bs) v e = cc
 
 last-back : (T : Table) (room : ℕ) (label : Label) (k : Kind) (vs : List Value) (cs : List Content)
-    (before : List Value) (last : Value) (i : Item) → is_single label ≡ true → is_message k ≡ false
+    (before : List Value) (last : Value) (i : Item) → has_one_value label ≡ true → is_message k ≡ false
     → AllAlike T room label k vs cs → vs ≡ before ++ last ∷ [] → ValueMeans T room k last (i ∷ []) → field_content (merged_taken T room) label k cs ≡ single_content label i
 last-back T room label k [] [] before last i one_only plain h split means = absurd (append-some before last (sym split))
 last-back T room label k [] (c ∷ cs) before last i one_only plain h split means = absurd h
@@ -431,7 +432,7 @@ last-back T room label k (v ∷ vs) (c ∷ cs) before last i one_only plain h sp
     single-content (merged_taken T room) label k (c ∷ cs) i one_only (singular-last (merged_taken T room) k (singles_in (c ∷ cs)) plain ∙ r.found ∙ ap Some item)
 
 message-back : Law → (T : Table) (room inside i : ℕ) (label : Label) (k : Kind) (vs : List Value) (cs : List Content)
-    (t : Node) → Inner T room → is_single label ≡ true → k ≡ OfMessage i → room ≡ suc inside → vs ≢ []
+    (t : Node) → Inner T room → has_one_value label ≡ true → k ≡ OfMessage i → room ≡ suc inside → vs ≢ []
     → AllAlike T room label k vs cs → MeansIn T inside (fields_of T i) (joined_payloads vs) t → field_content (merged_taken T room) label k cs ≡ single_content label (node t)
 message-back law T room inside i label k [] [] t inner one_only kind room_is some h means = absurd (some refl)
 message-back law T room inside i label k [] (c ∷ cs) t inner one_only kind room_is some h means = absurd h

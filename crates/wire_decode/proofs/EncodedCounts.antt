@@ -4,13 +4,13 @@ use Rattle.std.proofs.Common.{false, not, cond, refl, ap, sym, subst, ◌∙◌,
 use Rattle.std.proofs.lemmas.Bool.{eq-eqb}
 use Rattle.std.proofs.lemmas.Bool.Decides.{eqb_tells}
 use Rattle.mrpc_table.specs.Node.{Node, no_fields, field, Content, one, many, pairs, Items, no_items, item, Pairs, no_pairs, pair}
-use Rattle.mrpc_table.specs.Normal.{field_at, membership, members_in, HasFields, HasContent, OneMemberEach, kind_at}
+use Rattle.mrpc_table.specs.Normal.{field_at, membership, members_in, HasFields, HasContent, OneMemberEach, kind_at, label_at}
 use Rattle.mrpc_table.specs.declared.table.Kind.{Kind}
 use Rattle.mrpc_table.specs.declared.table.Label.{Label}
 use Rattle.mrpc_table.specs.declared.table.Label.TheVariants.{Plain, Optional, Repeated, Packed, Map, Member}
 use Rattle.mrpc_table.specs.declared.table.Field.{Field}
 use Rattle.mrpc_table.specs.declared.table.Table.{Table}
-use Rattle.wire_base.specs.Encoding.{label_at, is_packed}
+use Rattle.wire_base.specs.Encoding.{is_packed}
 use Rattle.mrpc_table.specs.Words.{key_kind}
 use Rattle.wire_decode.specs.Merged.{contents_of, join_fields, is_overtaken, counted}
 use Rattle.wire_decode.specs.Oneofs.{oneof_of, oneof_at, is_same, are_rivals}

@@ -6,8 +6,8 @@ use Rattle.std.proofs.lemmas.Bool.Decides.{nat_tests, eqb_tells}
 use Rattle.std.specs.Ordering.{nat_cmp, ordering_then}
 use Rattle.std.specs.declared.cmp.Ordering.TheVariants.{Less, Equal, Greater}
 use Rattle.mrpc_table.specs.Node.{Node, no_fields, field, Content, one, many, pairs, Item, number, run, node, Items, no_items, item, Pairs, no_pairs, pair}
-use Rattle.mrpc_table.specs.Words.{is_numeric, rank, key_kind, message_of}
-use Rattle.mrpc_table.specs.Normal.{fields_of, field_at, IsDefault, IsBefore, AscendFrom, KeysAscend, TakesOne}
+use Rattle.mrpc_table.specs.Words.{is_numeric, rank, key_kind, nested_message}
+use Rattle.mrpc_table.specs.Normal.{fields_of, field_at, IsDefault, IsBefore, AscendFrom, KeysAscend, TakesOne, label_at}
 use Rattle.mrpc_table.specs.Normal.{TakesMany, HasFields, HasContent, IsItem, AreItems, ArePairs, IsNormal, depth}
 use Rattle.mrpc_table.specs.Normal.{content_depth, item_depth, items_depth, pairs_depth, kind_at}
 use Rattle.mrpc_table.specs.Fits.{FitsWithin}
@@ -17,7 +17,7 @@ use Rattle.mrpc_table.specs.declared.table.Label.{Label}
 use Rattle.mrpc_table.specs.declared.table.Label.TheVariants.{Plain, Optional, Repeated, Packed, Map, Member}
 use Rattle.mrpc_table.specs.declared.table.Field.{Field}
 use Rattle.mrpc_table.specs.declared.table.Table.{Table}
-use Rattle.wire_base.specs.Encoding.{label_at, is_packed, encoding}
+use Rattle.wire_base.specs.Encoding.{is_packed, encoding}
 use Rattle.wire_decode.specs.Reads.{Reads, read_end}
 use Rattle.wire_decode.specs.Known.{is_message}
 use Rattle.wire_decode.specs.Merges.{Merges}
@@ -55,10 +55,10 @@ item-back T room inner k (run bytes) back h d = element-same inner k (run bytes)
 item-back T zero inner k (node t) back h d = absurd (let p = depth-positive t in omega (arith, d, p))
 item-back T (suc inside) inner k (node t) back h d =
     let m = h.0 in
-    let same : message_of k ≡ m = ap message_of h.1 in
+    let same : nested_message k ≡ m = ap nested_message h.1 in
     let raw = raw_fields T (fields_of T m) t in
     let whole : inner m raw ≡ t = back.each inside m t refl (record { fields = h.2; oneofs = h.3; depth = omega (arith, d) }) in
-    ap (λ x. element inner x (node (raw_fields T (fields_of T (message_of k)) t))) h.1
+    ap (λ x. element inner x (node (raw_fields T (fields_of T (nested_message k)) t))) h.1
     ∙ ap (λ x. node (inner m (join_fields (raw_fields T (fields_of T x) t) no_fields))) same
     ∙ ap (λ x. node (inner m x)) (join-none raw)
     ∙ ap node whole

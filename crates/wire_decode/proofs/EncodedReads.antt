@@ -7,17 +7,17 @@ use Rattle.std.specs.Str.{IsUtf8}
 use Rattle.std.proofs.lemmas.List.{length-append}
 use Rattle.std.proofs.lemmas.Bool.Decides.{eqb_tells}
 use Rattle.mrpc_table.specs.Node.{Node, no_fields, field, Content, one, many, pairs, Item, number, run, node, Items, no_items, item, Pairs, no_pairs, pair}
-use Rattle.mrpc_table.specs.Normal.{fields_of, field_at, IsRun, HasFields, HasContent, TakesOne, TakesMany, IsItem}
+use Rattle.mrpc_table.specs.Normal.{fields_of, field_at, IsRun, HasFields, HasContent, TakesOne, TakesMany, IsItem, label_at}
 use Rattle.mrpc_table.specs.Normal.{AreItems, ArePairs, depth, content_depth, item_depth, items_depth, pairs_depth}
 use Rattle.mrpc_table.specs.Normal.{kind_at}
-use Rattle.mrpc_table.specs.Words.{is_numeric, IsWordForm, key_kind, message_of}
+use Rattle.mrpc_table.specs.Words.{is_numeric, IsWordForm, key_kind, nested_message}
 use Rattle.mrpc_table.specs.declared.table.Kind.{Kind}
 use Rattle.mrpc_table.specs.declared.table.Kind.TheVariants.{Uint64, Fixed32, Fixed64, Sfixed32, Sfixed64, Float, Double, Text, Octets, Message as OfMessage}
 use Rattle.mrpc_table.specs.declared.table.Label.{Label}
 use Rattle.mrpc_table.specs.declared.table.Label.TheVariants.{Plain, Optional, Packed, Map}
 use Rattle.mrpc_table.specs.declared.table.Field.{Field}
 use Rattle.mrpc_table.specs.declared.table.Table.{Table}
-use Rattle.wire_base.specs.Encoding.{number_bytes, tag, delimited, label_at, is_packed, fields_bytes, content_bytes, item_bytes, joined_bytes, records_bytes, entries_bytes}
+use Rattle.wire_base.specs.Encoding.{number_bytes, tag, delimited, is_packed, fields_bytes, content_bytes, item_bytes, joined_bytes, records_bytes, entries_bytes}
 use Rattle.mrpc_table.specs.WireTypes.{wire_type_of}
 use Rattle.wire_base.specs.Records.{PayloadAt}
 use Rattle.wire_base.specs.declared.records.Payload.{Payload}
@@ -182,17 +182,17 @@ run-item back_read T room label k bytes at text single few h stands =
     (run-kinds k text h)
 
 abbrev inner_bytes : Table → Kind → Node → List ℕ
-inner_bytes T k t = fields_bytes T (fields_of T (message_of k)) t
+inner_bytes T k t = fields_bytes T (fields_of T (nested_message k)) t
 
 -- a message, whose records are read
 message-item : ReadsBack → (T : Table) (room inside : ℕ) (label : Label) (k : Kind) (bytes : List ℕ) (at : ℕ)
     (t : Node) (i : ℕ) → is_map label ≡ false → length bytes < 2 ^ 64 → k ≡ OfMessage i → room ≡ suc inside
     → Stands bytes at (delimited (inner_bytes T k t))
-    → AreReadInFront T inside (fields_of T (message_of k)) (take (end_of at (inner_bytes T k t)) bytes)
+    → AreReadInFront T inside (fields_of T (nested_message k)) (take (end_of at (inner_bytes T k t)) bytes)
     (start_of at (inner_bytes T k t)) (end_of at (inner_bytes T k t))
-    (raw_fields T (fields_of T (message_of k)) t) → ItemAt T room label k bytes at (node t)
+    (raw_fields T (fields_of T (nested_message k)) t) → ItemAt T room label k bytes at (node t)
 message-item back_read T room inside label k bytes at t i single few kind has_room stands read =
-    let fs = fields_of T (message_of k) in
+    let fs = fields_of T (nested_message k) in
     let body = inner_bytes T k t in
     let start = start_of at body in
     let end = end_of at body in
@@ -201,11 +201,11 @@ message-item back_read T room inside label k bytes at t i single few kind has_ro
     let ends : end ≡ length (take end bytes) = sym (cut-length bytes start body end refl (stands-inner body stands)) in
     let reads : Reads T inside fs (take end bytes) start raw = subst (λ (x : Node). Reads T inside fs (take end bytes) start x) (join-none raw) (read no_fields (read_end ends refl)) in
     let type : wire_type_of k ≡ 2 = ap wire_type_of kind in
-    let named : k ≡ OfMessage (message_of k) = kind ∙ ap OfMessage (sym (ap message_of kind)) in
+    let named : k ≡ OfMessage (nested_message k) = kind ∙ ap OfMessage (sym (ap nested_message kind)) in
     record {
       payload = Len start end;
       stands = (type, here.1, here.2, here.3, here.4, here.5);
-      holds = holds_message inside (message_of k) start end raw single named refl has_room reads refl;
+      holds = holds_message inside (nested_message k) start end raw single named refl has_room reads refl;
     }
 
 -- the value of an entry has room
@@ -331,11 +331,11 @@ mutual
   item-reads back_read T usable room label k bytes at (run text) single few h d stands = run-item back_read T room label k bytes at text single few h stands
   item-reads back_read T usable zero label k bytes at (node t) single few h d stands = absurd (let p = depth-positive t in omega (arith, d, p))
   item-reads back_read T usable (suc inside) label k bytes at (node t) single few h d stands =
-      let m = message_of k in
+      let m = nested_message k in
       let body = inner_bytes T k t in
       let start = start_of at body in
       let end = end_of at body in
-      let fields : HasFields T (fields_of T m) 0 t = subst (λ (x : ℕ). HasFields T (fields_of T x) 0 t) (sym (ap message_of h.1)) h.2 in
+      let fields : HasFields T (fields_of T m) 0 t = subst (λ (x : ℕ). HasFields T (fields_of T x) 0 t) (sym (ap nested_message h.1)) h.2 in
       let inner = stands-inner body stands in
       let fewer : length (take end bytes) < 2 ^ 64 = (let e = cut-length bytes start body end refl inner in let w = stands-within bytes start body inner in omega (arith, e, w, few)) in
       message-item back_read T (suc inside) inside label k bytes at t h.0 single few h.1 refl stands

@@ -4,7 +4,7 @@ use Rattle.std.proofs.Common.{None, false, refl, ap, sym, subst, ◌∙◌, arit
 use Rattle.std.specs.Option.{option_and_then, unwrap_or}
 use Rattle.std.proofs.lemmas.Bool.Decides.{nat_tests, eqb_tells}
 use Rattle.std.proofs.lemmas.Bool.{cases_lt}
-use Rattle.mrpc_table.specs.Node.{Node, no_fields, field, Content, one, many, pairs, Item, item, push_field}
+use Rattle.mrpc_table.specs.Node.{Node, no_fields, field, Content, one, many, pairs, Item, item, push_field, NumbersAscend}
 use Rattle.mrpc_table.specs.View.{item_of, items_of, pairs_of}
 use Rattle.mrpc_table.specs.Normal.{fields_of, field_at}
 use Rattle.mrpc_table.specs.declared.tree.Value.{Value}
@@ -21,7 +21,7 @@ use Rattle.wire_decode.specs.Contents.{items_from, default_of}
 use Rattle.wire_decode.specs.Contents.{some_items, some_pairs, present, present_if_set, with_content}
 use Rattle.wire_decode.specs.Merged.{field_content}
 use Rattle.wire_decode.specs.Merged.{with_fields, counted, merged}
-use Rattle.wire_decode.specs.NumberOrder.{NumbersRiseFrom, NumbersRise}
+use Rattle.wire_decode.specs.NumberOrder.{NumbersRise}
 use Rattle.wire_decode.specs.Finished.{finish_at, finished_of}
 use Rattle.wire_decode.specs.EntryParts.{MeansAll, IsWithOneMore, found_part}
 use Rattle.wire_decode.specs.Gathered.{IsGathered}
@@ -74,7 +74,7 @@ means-more k is None i v h w inner after = ap (λ x. singular inner k (x ∷ aft
 means-more k is (Some b) i v h w inner after = w inner after ∙ h inner (i ∷ after) ∙ ap (singular inner k) (sym (again is i after))
 
 -- the fields by ascending number, each with one content
-rise-above : (m n : ℕ) (t : Node) → NumbersRiseFrom n t → m ≤ n → contents_of m t ≡ []
+rise-above : (m n : ℕ) (t : Node) → NumbersAscend n t → m ≤ n → contents_of m t ≡ []
 rise-above m n no_fields h le = refl
 rise-above m n (field k c t) h le = contents-other m k c t (let a = h.0 in omega (arith, a, le)) ∙ rise-above m k t h.1 (let a = h.0 in omega (arith, a, le))
 
@@ -124,22 +124,22 @@ fields-empty inner [] = refl
 fields-empty inner (f ∷ fs) = ap (λ o. with_content f.number o (with_fields inner no_fields fs)) (content-none inner f.label f.kind) ∙ fields-empty inner fs
 
 -- numbers above the first field don't see it
-finished-skip : (inner : ℕ → Node → Node) (f : Field) (fs : List Field) (t : Node) → NumbersRiseFrom f.number t → finished_of inner (f ∷ fs) t ≡ finished_of inner fs t
+finished-skip : (inner : ℕ → Node → Node) (f : Field) (fs : List Field) (t : Node) → NumbersAscend f.number t → finished_of inner (f ∷ fs) t ≡ finished_of inner fs t
 finished-skip inner f fs no_fields h = refl
 finished-skip inner f fs (field n c t) h =
     let other : f.number ≢ n = (let a = h.0 in omega (arith, a)) in
     ap (λ o. with_content n (option_and_then (λ f. field_content inner f.label f.kind (c ∷ [])) o) (finished_of inner (f ∷ fs) t)) (field-later f fs n other)
     ∙ ap (with_content n (finish_at inner fs n c)) (finished-skip inner f fs t (rise-lower f.number n t h.1 (let a = h.0 in omega (arith, a))))
   where
-    rise-lower : (m n : ℕ) (t : Node) → NumbersRiseFrom n t → m ≤ n → NumbersRiseFrom m t
+    rise-lower : (m n : ℕ) (t : Node) → NumbersAscend n t → m ≤ n → NumbersAscend m t
     rise-lower m n no_fields h le = tt
     rise-lower m n (field k c t) h le = (let a = h.0 in omega (arith, a, le), h.1)
 
-rise-low : (m n : ℕ) (t : Node) → NumbersRiseFrom n t → m ≤ n → NumbersRiseFrom m t
+rise-low : (m n : ℕ) (t : Node) → NumbersAscend n t → m ≤ n → NumbersAscend m t
 rise-low m n no_fields h le = tt
 rise-low m n (field k c t) h le = (let a = h.0 in omega (arith, a, le), h.1)
 
-rise-tail : (n : ℕ) (t : Node) → NumbersRiseFrom n t → NumbersRise t
+rise-tail : (n : ℕ) (t : Node) → NumbersAscend n t → NumbersRise t
 rise-tail n no_fields h = tt
 rise-tail n (field k c t) h = h.1
 
@@ -152,7 +152,7 @@ finished-none inner no_fields = refl
 finished-none inner (field n c t) = finished-none inner t
 
 finished-first : (inner : ℕ → Node → Node) (f : Field) (fs : List Field) (n : ℕ) (c : Content) (t : Node)
-    → FieldsAscend (f ∷ fs) → NumbersRiseFrom n t → f.number ≡ n → finished_of inner fs t ≡ with_fields inner t fs
+    → FieldsAscend (f ∷ fs) → NumbersAscend n t → f.number ≡ n → finished_of inner fs t ≡ with_fields inner t fs
     → finished_of inner (f ∷ fs) (field n c t) ≡ with_fields inner (field n c t) (f ∷ fs)
 finished-first inner f fs n c t a r e rest =
     let left : finished_of inner (f ∷ fs) (field n c t) ≡ with_content n (field_content inner f.label f.kind (c ∷ [])) (finished_of inner fs t) =
@@ -168,7 +168,7 @@ finished-first inner f fs n c t a r e rest =
     left ∙ ap (with_content n (field_content inner f.label f.kind (c ∷ []))) rest ∙ sym (subst P (sym e) here)
 
 finished-higher : (inner : ℕ → Node → Node) (f : Field) (fs : List Field) (n : ℕ) (c : Content) (t : Node)
-    → NumbersRiseFrom n t → f.number < n → finished_of inner fs (field n c t) ≡ with_fields inner (field n c t) fs
+    → NumbersAscend n t → f.number < n → finished_of inner fs (field n c t) ≡ with_fields inner (field n c t) fs
     → finished_of inner (f ∷ fs) (field n c t) ≡ with_fields inner (field n c t) (f ∷ fs)
 finished-higher inner f fs n c t r less rest =
     let none : contents_of f.number (field n c t) ≡ [] = contents-other f.number n c t (omega (arith, less)) ∙ rise-above f.number n t r (omega (arith, less)) in
@@ -186,7 +186,7 @@ finished-lower inner f fs n c t a low rest =
     ∙ rest ∙ sym (fields-skip inner n c t (f ∷ fs) above)
 
 finished-step : (inner : ℕ → Node → Node) (f : Field) (fs : List Field) (n : ℕ) (c : Content) (t : Node)
-    → FieldsAscend (f ∷ fs) → NumbersRiseFrom n t → finished_of inner fs t ≡ with_fields inner t fs
+    → FieldsAscend (f ∷ fs) → NumbersAscend n t → finished_of inner fs t ≡ with_fields inner t fs
     → finished_of inner fs (field n c t) ≡ with_fields inner (field n c t) fs
     → finished_of inner (f ∷ fs) t ≡ with_fields inner t (f ∷ fs)
     → finished_of inner (f ∷ fs) (field n c t) ≡ with_fields inner (field n c t) (f ∷ fs)

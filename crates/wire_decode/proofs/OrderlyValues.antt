@@ -8,7 +8,7 @@ use Rattle.std.specs.Result.{result_ok}
 use Rattle.std.specs.Str.{IsUtf8}
 use Rattle.mrpc_table.specs.Node.{Node, no_fields, field, Content, one, many, Item, number, run, node}
 use Rattle.mrpc_table.specs.Normal.{fields_of}
-use Rattle.mrpc_table.specs.Words.{is_numeric}
+use Rattle.mrpc_table.specs.Words.{is_numeric, has_one_value, is_run}
 use Rattle.mrpc_table.specs.declared.table.Kind.{Kind}
 use Rattle.mrpc_table.specs.declared.table.Kind.TheVariants.{Text, Octets, Message as OfMessage}
 use Rattle.mrpc_table.specs.declared.table.Label.{Label}
@@ -29,8 +29,8 @@ use Rattle.wire_decode.specs.Merged.{items_in, values_in, join_fields, merged, f
 use Rattle.wire_decode.specs.Contents.{with_content}
 use Rattle.wire_decode.specs.Merged.{element, entry}
 use Rattle.wire_decode.specs.Contents.{present, present_if_set, some_items, some_pairs, default_of}
-use Rattle.wire_decode.specs.Ordered.{IsWhole, IsValue, AreRun, none_yet, one_more, IsFieldRead, AreValues, AreEntries, IsPair, is_run}
-use Rattle.wire_decode.specs.Contents.{is_single, single_content}
+use Rattle.wire_decode.specs.Ordered.{IsWhole, IsValue, AreRun, none_yet, one_more, IsFieldRead, AreValues, AreEntriesRead, IsPair}
+use Rattle.wire_decode.specs.Contents.{single_content}
 use Rattle.wire_decode.proofs.Merging.{element-same, singular-one, merged-suc, map-pushed}
 use Rattle.wire_decode.proofs.Reading.{join-none}
 
@@ -99,11 +99,11 @@ node-value T room i bytes at w first end t more is stands whole =
 
 -- ---- what a field has
 
-single-no_map : (label : Label) → is_single label ≡ true → is_map label ≡ false
+single-no_map : (label : Label) → has_one_value label ≡ true → is_map label ≡ false
 single-no_map (Map key) h = absurd (cc)
 single-no_map _ h = refl
 
-single-has : (inner : ℕ → Node → Node) (label : Label) (k : Kind) (held i : Item) → is_single label ≡ true
+single-has : (inner : ℕ → Node → Node) (label : Label) (k : Kind) (held i : Item) → has_one_value label ≡ true
     → i ≡ element inner k held → single_content label i ≡ field_content inner label k (one held ∷ [])
 single-has inner Plain k held i h e = ap present_if_set (ap Some e ∙ sym (singular-one inner k held))
 single-has inner Optional k held i h e = ap present (ap Some e ∙ sym (singular-one inner k held))
@@ -111,7 +111,7 @@ single-has inner (Member o) k held i h e = ap present (ap Some e ∙ sym (singul
 single-has inner _ k held i h e = absurd (cc)
 
 pub single-field : (T : Table) (room : ℕ) (label : Label) (k : Kind) (bytes : List ℕ) (tag start next : ℕ) (i : Item)
-    (old new : Node) → is_single label ≡ true → IsValue T room k bytes start (tag % 8) i next
+    (old new : Node) → has_one_value label ≡ true → IsValue T room k bytes start (tag % 8) i next
     → new ≡ join_fields old (with_content (tag / 8) (single_content label i) no_fields)
     → IsFieldRead T room label k bytes tag start next old new
 single-field T room label k bytes tag start next i old new single v e = record {
@@ -176,7 +176,7 @@ piece-field T room label k bytes tag start first end ws is old new list numeric 
     }
 
 pub map-field : (T : Table) (room : ℕ) (key k : Kind) (bytes : List ℕ) (tag start next : ℕ) (es : List (Item × Item))
-    (old new : Node) → AreEntries T room key k bytes tag start next es
+    (old new : Node) → AreEntriesRead T room key k bytes tag start next es
     → new ≡ join_fields old (with_content (tag / 8) (some_pairs (last_of_each key es)) no_fields)
     → IsFieldRead T room (Map key) k bytes tag start next old new
 map-field T room key k bytes tag start next es old new v e = record {
@@ -229,7 +229,7 @@ entries-start T room key k bytes tag start = record { held = []; run = λ at tag
 pub entries-more : (T : Table) (room : ℕ) (key k : Kind) (bytes : List ℕ) (tag start first inside next : ℕ)
     (es : List (Item × Item)) (e : Item × Item) → tag % 8 ≡ 2 → EntriesBefore T room key k bytes tag start first es
     → PayloadAt bytes first 2 (Len inside next) next → IsPair T room key k (take next bytes) inside e
-    → AreEntries T room key k bytes tag start next (es ++ e ∷ [])
+    → AreEntriesRead T room key k bytes tag start next (es ++ e ∷ [])
 entries-more T room key k bytes tag start first inside next es e delimited h stands p =
     let here = subst (λ x. PayloadAt bytes first x (Len inside next) next) (sym delimited) stands in
     record {
@@ -244,7 +244,7 @@ entries-more T room key k bytes tag start first inside next es e delimited h sta
     }
 
 pub entries-again : (T : Table) (room : ℕ) (key k : Kind) (bytes : List ℕ) (tag start next behind : ℕ)
-    (es : List (Item × Item)) → AreEntries T room key k bytes tag start next es → TagAt bytes next tag behind
+    (es : List (Item × Item)) → AreEntriesRead T room key k bytes tag start next es → TagAt bytes next tag behind
     → EntriesBefore T room key k bytes tag start behind es
 entries-again T room key k bytes tag start next behind es h tagged = record {
   held = h.held;

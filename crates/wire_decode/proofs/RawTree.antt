@@ -1,12 +1,12 @@
 -- What the records of an encoding have: the contents of a tree, a record for each that has its own.
 use Rattle.std.proofs.Common.{ℕ, List, cond}
 use Rattle.mrpc_table.specs.Node.{Node, no_fields, field, Content, one, many, pairs, Item, number, run, node, Items, no_items, item, Pairs, no_pairs, pair}
-use Rattle.mrpc_table.specs.Normal.{fields_of, kind_at}
+use Rattle.mrpc_table.specs.Normal.{fields_of, kind_at, label_at}
 use Rattle.mrpc_table.specs.declared.table.Kind.{Kind}
 use Rattle.mrpc_table.specs.declared.table.Field.{Field}
 use Rattle.mrpc_table.specs.declared.table.Table.{Table}
-use Rattle.wire_base.specs.Encoding.{label_at, is_packed}
-use Rattle.mrpc_table.specs.Words.{key_kind, message_of}
+use Rattle.wire_base.specs.Encoding.{is_packed}
+use Rattle.mrpc_table.specs.Words.{key_kind, nested_message}
 use Rattle.wire_decode.specs.Merged.{join_fields}
 
 abbrev mutual
@@ -22,7 +22,7 @@ abbrev mutual
   pub raw_item : Table → Kind → Item → Item
   raw_item T k (number n) = number n
   raw_item T k (run bytes) = run bytes
-  raw_item T k (node t) = node (raw_fields T (fields_of T (message_of k)) t)
+  raw_item T k (node t) = node (raw_fields T (fields_of T (nested_message k)) t)
 
   pub raw_records : Table → ℕ → Kind → Items → Node
   raw_records T n k no_items = no_fields

@@ -4,7 +4,7 @@ use Rattle.mrpc_table.specs.Node.{Node, no_fields, field, Content, one, many, pa
 use Rattle.mrpc_table.specs.declared.table.Kind.{Kind}
 use Rattle.mrpc_table.specs.declared.table.Kind.TheVariants.{Text, Octets, Message as OfMessage}
 use Rattle.mrpc_table.specs.declared.table.Label.{Label}
-use Rattle.mrpc_table.specs.declared.table.Label.TheVariants.{Plain, Optional, Member}
+use Rattle.mrpc_table.specs.declared.table.Label.TheVariants.{Plain}
 
 -- whether an item is the number 0, or a run of no bytes
 abbrev pub is_default : Item → Bool
@@ -19,13 +19,6 @@ default_of Text = run []
 default_of Octets = run []
 default_of (OfMessage i) = node no_fields
 default_of _ = number 0
-
--- a label of a field that has one value at most
-abbrev pub is_single : Label → Bool
-is_single Plain = true
-is_single Optional = true
-is_single (Member o) = true
-is_single _ = false
 
 -- what a field with explicit presence has: its item, if there is one
 abbrev pub present : Option Item → Option Content

@@ -25,43 +25,44 @@ mutual
   -- Records stand from a place on, and this is the first fault behind them: no record stands there, or the
   -- payload of a known field is at fault.
   pub data MeetsFault (T : Table) : ℕ → List Field → List ℕ → ℕ → DecodeReason → ℕ → Type 0 where
-    no_record : {room : ℕ} {fs : List Field} {bytes : List ℕ} {at : ℕ} {reason : DecodeReason} {place : ℕ}
+    no_record : {room : ℕ} {fields : List Field} {bytes : List ℕ} {at : ℕ} {reason : DecodeReason} {place : ℕ}
         (f : WireFault) → at < length bytes → FaultAt bytes at f → reason ≡ reason_of f.reason → place ≡ f.place
-        → MeetsFault T room fs bytes at reason place
-    behind_other : {room : ℕ} {fs : List Field} {bytes : List ℕ} {at : ℕ} {reason : DecodeReason} {place : ℕ}
-        (r : Record) → RecordAt bytes at r → is_known fs r ≡ false → MeetsFault T room fs bytes r.next reason place
-        → MeetsFault T room fs bytes at reason place
-    behind_known : {room : ℕ} {fs : List Field} {bytes : List ℕ} {at : ℕ} {reason : DecodeReason} {place : ℕ}
-        (r : Record) (f : Field) (c : Content) → RecordAt bytes at r → field_at fs r.number ≡ Some f
-        → Holds T room f.label f.kind bytes r.payload c → MeetsFault T room fs bytes r.next reason place
-        → MeetsFault T room fs bytes at reason place
-    in_payload : {room : ℕ} {fs : List Field} {bytes : List ℕ} {at : ℕ} {reason : DecodeReason} {place : ℕ}
-        (r : Record) (f : Field) → RecordAt bytes at r → field_at fs r.number ≡ Some f
-        → Fails T room f.label f.kind bytes r.payload reason place → MeetsFault T room fs bytes at reason place
+        → MeetsFault T room fields bytes at reason place
+    behind_other : {room : ℕ} {fields : List Field} {bytes : List ℕ} {at : ℕ} {reason : DecodeReason} {place : ℕ}
+        (r : Record) → RecordAt bytes at r → is_known fields r ≡ false
+        → MeetsFault T room fields bytes r.next reason place → MeetsFault T room fields bytes at reason place
+    behind_known : {room : ℕ} {fields : List Field} {bytes : List ℕ} {at : ℕ} {reason : DecodeReason} {place : ℕ}
+        (r : Record) (f : Field) (c : Content) → RecordAt bytes at r → field_at fields r.number ≡ Some f
+        → Holds T room f.label f.kind bytes r.payload c → MeetsFault T room fields bytes r.next reason place
+        → MeetsFault T room fields bytes at reason place
+    in_payload : {room : ℕ} {fields : List Field} {bytes : List ℕ} {at : ℕ} {reason : DecodeReason} {place : ℕ}
+        (r : Record) (f : Field) → RecordAt bytes at r → field_at fields r.number ≡ Some f
+        → Fails T room f.label f.kind bytes r.payload reason place → MeetsFault T room fields bytes at reason place
 
   -- the first fault of the payload of a field
   pub data Fails (T : Table) : ℕ → Label → Kind → List ℕ → Payload → DecodeReason → ℕ → Type 0 where
     -- no join of whole elements
-    no_elements : {room : ℕ} {label : Label} {k : Kind} {bytes : List ℕ} {p : Payload} {reason : DecodeReason}
-        {place : ℕ} (end : ℕ) → may_be_packed label k ≡ true → p ≡ Len place end → reason ≡ PackedLength
-        → ((ws : List ℕ) → AreElements k (take end bytes) place ws → ⊥) → Fails T room label k bytes p reason place
-    no_text : {room : ℕ} {label : Label} {k : Kind} {bytes : List ℕ} {p : Payload} {reason : DecodeReason} {place : ℕ}
-        (end : ℕ) → is_map label ≡ false → k ≡ Text → p ≡ Len place end → reason ≡ Utf8
-        → (IsUtf8 (slice_range bytes place end) → ⊥) → Fails T room label k bytes p reason place
+    no_elements : {room : ℕ} {label : Label} {kind : Kind} {bytes : List ℕ} {payload : Payload} {reason : DecodeReason}
+        {place : ℕ} (end : ℕ) → may_be_packed label kind ≡ true → payload ≡ Len place end → reason ≡ PackedLength
+        → ((ws : List ℕ) → AreElements kind (take end bytes) place ws → ⊥)
+        → Fails T room label kind bytes payload reason place
+    no_text : {room : ℕ} {label : Label} {kind : Kind} {bytes : List ℕ} {payload : Payload} {reason : DecodeReason}
+        {place : ℕ} (end : ℕ) → is_map label ≡ false → kind ≡ Text → payload ≡ Len place end → reason ≡ Utf8
+        → (IsUtf8 (slice_range bytes place end) → ⊥) → Fails T room label kind bytes payload reason place
     -- it would be the 33rd message
-    too_deep : {room : ℕ} {label : Label} {k : Kind} {bytes : List ℕ} {p : Payload} {reason : DecodeReason} {place : ℕ}
-        (i end : ℕ) → is_map label ≡ false → k ≡ OfMessage i → p ≡ Len place end → room ≡ 0 → reason ≡ Depth
-        → Fails T room label k bytes p reason place
-    in_message : {room : ℕ} {label : Label} {k : Kind} {bytes : List ℕ} {p : Payload} {reason : DecodeReason}
-        {place : ℕ} (inside i start end : ℕ) → is_map label ≡ false → k ≡ OfMessage i → p ≡ Len start end
+    too_deep : {room : ℕ} {label : Label} {kind : Kind} {bytes : List ℕ} {payload : Payload} {reason : DecodeReason}
+        {place : ℕ} (i end : ℕ) → is_map label ≡ false → kind ≡ OfMessage i → payload ≡ Len place end → room ≡ 0
+        → reason ≡ Depth → Fails T room label kind bytes payload reason place
+    in_message : {room : ℕ} {label : Label} {kind : Kind} {bytes : List ℕ} {payload : Payload} {reason : DecodeReason}
+        {place : ℕ} (inside i start end : ℕ) → is_map label ≡ false → kind ≡ OfMessage i → payload ≡ Len start end
         → room ≡ suc inside → MeetsFault T inside (fields_of T i) (take end bytes) start reason place
-        → Fails T room label k bytes p reason place
-    in_entry : {room : ℕ} {label : Label} {k : Kind} {bytes : List ℕ} {p : Payload} {reason : DecodeReason} {place : ℕ}
-        (key : Kind) (start end : ℕ) → label ≡ Map key → p ≡ Len start end
-        → MeetsFault T room (entry_fields key k) (take end bytes) start reason place
-        → Fails T room label k bytes p reason place
+        → Fails T room label kind bytes payload reason place
+    in_entry : {room : ℕ} {label : Label} {kind : Kind} {bytes : List ℕ} {payload : Payload} {reason : DecodeReason}
+        {place : ℕ} (key : Kind) (start end : ℕ) → label ≡ Map key → payload ≡ Len start end
+        → MeetsFault T room (entry_fields key kind) (take end bytes) start reason place
+        → Fails T room label kind bytes payload reason place
     -- the default of the entry's value would be the 33rd message
-    no_room : {room : ℕ} {label : Label} {k : Kind} {bytes : List ℕ} {p : Payload} {reason : DecodeReason} {place : ℕ}
-        (key : Kind) (end : ℕ) (t : Node) → label ≡ Map key → p ≡ Len place end
-        → Reads T room (entry_fields key k) (take end bytes) place t → (HasRoom room k → ⊥) → reason ≡ Depth
-        → Fails T room label k bytes p reason place
+    no_room : {room : ℕ} {label : Label} {kind : Kind} {bytes : List ℕ} {payload : Payload} {reason : DecodeReason}
+        {place : ℕ} (key : Kind) (end : ℕ) (tree : Node) → label ≡ Map key → payload ≡ Len place end
+        → Reads T room (entry_fields key kind) (take end bytes) place tree → (HasRoom room kind → ⊥) → reason ≡ Depth
+        → Fails T room label kind bytes payload reason place

@@ -24,61 +24,61 @@ use Rattle.wire_decode.specs.declared.fault.DecodeReason.{DecodeReason}
 use Rattle.wire_decode.specs.declared.fault.DecodeReason.TheVariants.{Utf8, PackedLength, Depth}
 
 -- a record that is skipped, or one of a known field whose payload is sound by itself
-pub data IsSound (T : Table) (room : ℕ) (fs : List Field) (bytes : List ℕ) (r : Record) : Type 0 where
-  is_skipped : is_known fs r ≡ false → IsSound T room fs bytes r
-  is_known_and_sound : (f : Field) (v : Value) → field_at fs r.number ≡ Some f
-      → HasValue T room f.label f.kind bytes r.payload v → IsSound T room fs bytes r
+pub data IsSound (T : Table) (room : ℕ) (fields : List Field) (bytes : List ℕ) (r : Record) : Type 0 where
+  is_skipped : is_known fields r ≡ false → IsSound T room fields bytes r
+  is_known_and_sound : (f : Field) (value : Value) → field_at fields r.number ≡ Some f
+      → HasValue T room f.label f.kind bytes r.payload value → IsSound T room fields bytes r
 
 -- sound records stand one behind another from one place up to another
 abbrev pub AreSound : Table → ℕ → List Field → List ℕ → ℕ → List Record → ℕ → Type 0
-AreSound T room fs bytes from [] at = from ≡ at
-AreSound T room fs bytes from (r ∷ rs) at = RecordAt bytes from r × IsSound T room fs bytes r
-    × AreSound T room fs bytes r.next rs at
+AreSound T room fields bytes from [] at = from ≡ at
+AreSound T room fields bytes from (r ∷ records) at = RecordAt bytes from r × IsSound T room fields bytes r
+    × AreSound T room fields bytes r.next records at
 
 -- a delimited payload of a field of the message, from one place up to another, in the record at a place
-pub record HasPayload (fs : List Field) (bytes : List ℕ) (at : ℕ) (f : Field) (start end : ℕ) : Type 0 where
+pub record HasPayload (fields : List Field) (bytes : List ℕ) (at : ℕ) (f : Field) (start end : ℕ) : Type 0 where
   pub number : ℕ
   pub next : ℕ
   pub stands : RecordAt bytes at (record { number = number; payload = Len start end; next = next })
-  pub known : field_at fs number ≡ Some f
+  pub known : field_at fields number ≡ Some f
 
 mutual
   -- the first fault behind a place, of the bytes as a message of these fields; so many messages may stand in one
   -- another inside
   pub data FirstFault (T : Table) : ℕ → List Field → List ℕ → ℕ → DecodeReason → ℕ → Type 0 where
-    first_fault : {room : ℕ} {fs : List Field} {bytes : List ℕ} {from : ℕ} {reason : DecodeReason} {place : ℕ}
-        (before : List Record) (at : ℕ) → AreSound T room fs bytes from before at
-        → IsFault T room fs bytes at reason place → FirstFault T room fs bytes from reason place
+    first_fault : {room : ℕ} {fields : List Field} {bytes : List ℕ} {from : ℕ} {reason : DecodeReason} {place : ℕ}
+        (before : List Record) (at : ℕ) → AreSound T room fields bytes from before at
+        → IsFault T room fields bytes at reason place → FirstFault T room fields bytes from reason place
 
   -- why no sound record stands at a place, and the place of the fault: that of a payload is where it starts
   pub data IsFault (T : Table) : ℕ → List Field → List ℕ → ℕ → DecodeReason → ℕ → Type 0 where
-    no_record_there : {room : ℕ} {fs : List Field} {bytes : List ℕ} {at : ℕ} {reason : DecodeReason} {place : ℕ}
+    no_record_there : {room : ℕ} {fields : List Field} {bytes : List ℕ} {at : ℕ} {reason : DecodeReason} {place : ℕ}
         (f : WireFault) → at < length bytes → FaultAt bytes at f → reason ≡ reason_of f.reason → place ≡ f.place
-        → IsFault T room fs bytes at reason place
-    not_whole_elements : {room : ℕ} {fs : List Field} {bytes : List ℕ} {at : ℕ} {reason : DecodeReason} {place : ℕ}
-        (f : Field) (end : ℕ) → HasPayload fs bytes at f place end → may_be_packed f.label f.kind ≡ true
+        → IsFault T room fields bytes at reason place
+    not_whole_elements : {room : ℕ} {fields : List Field} {bytes : List ℕ} {at : ℕ} {reason : DecodeReason} {place : ℕ}
+        (f : Field) (end : ℕ) → HasPayload fields bytes at f place end → may_be_packed f.label f.kind ≡ true
         → ((ns : List ℕ) → AreElements f.kind (slice_range bytes place end) 0 ns → ⊥) → reason ≡ PackedLength
-        → IsFault T room fs bytes at reason place
-    not_utf8 : {room : ℕ} {fs : List Field} {bytes : List ℕ} {at : ℕ} {reason : DecodeReason} {place : ℕ}
-        (f : Field) (end : ℕ) → HasPayload fs bytes at f place end → is_map f.label ≡ false → f.kind ≡ Text
-        → (IsUtf8 (slice_range bytes place end) → ⊥) → reason ≡ Utf8 → IsFault T room fs bytes at reason place
-    message_too_deep : {room : ℕ} {fs : List Field} {bytes : List ℕ} {at : ℕ} {reason : DecodeReason} {place : ℕ}
-        (f : Field) (i end : ℕ) → HasPayload fs bytes at f place end → is_map f.label ≡ false → f.kind ≡ OfMessage i
-        → room ≡ 0 → reason ≡ Depth → IsFault T room fs bytes at reason place
-    inside_message : {room : ℕ} {fs : List Field} {bytes : List ℕ} {at : ℕ} {reason : DecodeReason} {place : ℕ}
-        (f : Field) (i inside start end : ℕ) → HasPayload fs bytes at f start end → is_map f.label ≡ false
+        → IsFault T room fields bytes at reason place
+    not_utf8 : {room : ℕ} {fields : List Field} {bytes : List ℕ} {at : ℕ} {reason : DecodeReason} {place : ℕ}
+        (f : Field) (end : ℕ) → HasPayload fields bytes at f place end → is_map f.label ≡ false → f.kind ≡ Text
+        → (IsUtf8 (slice_range bytes place end) → ⊥) → reason ≡ Utf8 → IsFault T room fields bytes at reason place
+    message_too_deep : {room : ℕ} {fields : List Field} {bytes : List ℕ} {at : ℕ} {reason : DecodeReason} {place : ℕ}
+        (f : Field) (i end : ℕ) → HasPayload fields bytes at f place end → is_map f.label ≡ false → f.kind ≡ OfMessage i
+        → room ≡ 0 → reason ≡ Depth → IsFault T room fields bytes at reason place
+    inside_message : {room : ℕ} {fields : List Field} {bytes : List ℕ} {at : ℕ} {reason : DecodeReason} {place : ℕ}
+        (f : Field) (i inside start end : ℕ) → HasPayload fields bytes at f start end → is_map f.label ≡ false
         → f.kind ≡ OfMessage i → room ≡ suc inside
         → FirstFault T inside (fields_of T i) (take end bytes) start reason place
-        → IsFault T room fs bytes at reason place
-    inside_entry : {room : ℕ} {fs : List Field} {bytes : List ℕ} {at : ℕ} {reason : DecodeReason} {place : ℕ}
-        (f : Field) (key : Kind) (start end : ℕ) → HasPayload fs bytes at f start end → f.label ≡ Map key
+        → IsFault T room fields bytes at reason place
+    inside_entry : {room : ℕ} {fields : List Field} {bytes : List ℕ} {at : ℕ} {reason : DecodeReason} {place : ℕ}
+        (f : Field) (key : Kind) (start end : ℕ) → HasPayload fields bytes at f start end → f.label ≡ Map key
         → FirstFault T room (entry_fields key f.kind) (take end bytes) start reason place
-        → IsFault T room fs bytes at reason place
+        → IsFault T room fields bytes at reason place
     -- the entry is sound, but the default of its value would be one message too deep
-    default_too_deep : {room : ℕ} {fs : List Field} {bytes : List ℕ} {at : ℕ} {reason : DecodeReason} {place : ℕ}
-        (f : Field) (key : Kind) (end : ℕ) (t : Node) → HasPayload fs bytes at f place end → f.label ≡ Map key
-        → MeansIn T room (entry_fields key f.kind) (slice_range bytes place end) t → (HasRoom room f.kind → ⊥)
-        → reason ≡ Depth → IsFault T room fs bytes at reason place
+    default_too_deep : {room : ℕ} {fields : List Field} {bytes : List ℕ} {at : ℕ} {reason : DecodeReason} {place : ℕ}
+        (f : Field) (key : Kind) (end : ℕ) (tree : Node) → HasPayload fields bytes at f place end → f.label ≡ Map key
+        → MeansIn T room (entry_fields key f.kind) (slice_range bytes place end) tree → (HasRoom room f.kind → ⊥)
+        → reason ≡ Depth → IsFault T room fields bytes at reason place
 
 -- the first fault of the bytes as a message at a place of the table
 abbrev pub IsFirstFault : Table → ℕ → List ℕ → DecodeReason → ℕ → Type 0

@@ -1,16 +1,11 @@
 -- The code's own: in which order the numbers of fields come.
-use Rattle.std.specs.Prelude.{ℕ, ◌<◌, ◌≤◌}
-use Rattle.mrpc_table.specs.Node.{Node, no_fields, field}
-
--- each number is above the one before it, and the first above the last one so far
-abbrev pub NumbersRiseFrom : ℕ → Node → Type 0
-NumbersRiseFrom last no_fields = Unit {0}
-NumbersRiseFrom last (field number content others) = (last < number) × NumbersRiseFrom number others
+use Rattle.std.specs.Prelude.{ℕ, ◌≤◌}
+use Rattle.mrpc_table.specs.Node.{Node, NumbersAscend, no_fields, field}
 
 -- each number is above the one before it
 abbrev pub NumbersRise : Node → Type 0
 NumbersRise no_fields = Unit {0}
-NumbersRise (field number content others) = NumbersRiseFrom number others
+NumbersRise (field number content others) = NumbersAscend number others
 
 -- no number is below the one before it, nor the first below the last one so far
 abbrev pub NumbersNeverFallFrom : ℕ → Node → Type 0

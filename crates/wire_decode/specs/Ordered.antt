@@ -2,7 +2,6 @@
 use Rattle.std.specs.Prelude.{◌≡◌, ℕ, ◌+◌, ◌/◌, ◌%◌, nat_le, Bool, true, false, List, [], ◌∷◌, ◌++◌, map}
 use Rattle.mrpc_table.specs.Node.{Node, no_fields, Content, one, Item, node}
 use Rattle.mrpc_table.specs.declared.table.Kind.{Kind}
-use Rattle.mrpc_table.specs.declared.table.Kind.TheVariants.{Text, Octets}
 use Rattle.mrpc_table.specs.declared.table.Label.{Label}
 use Rattle.mrpc_table.specs.declared.table.Label.TheVariants.{Map, Member}
 use Rattle.mrpc_table.specs.declared.table.Field.{Field}
@@ -55,7 +54,7 @@ pub record AreValues (T : Table) (room : ℕ) (k : Kind) (bytes : List ℕ) (tag
   pub same : is ≡ map (element (merged T room) k) held
 
 -- entries of a map, a record for each
-pub record AreEntries (T : Table) (room : ℕ) (key k : Kind) (bytes : List ℕ) (tag start next : ℕ)
+pub record AreEntriesRead (T : Table) (room : ℕ) (key k : Kind) (bytes : List ℕ) (tag start next : ℕ)
     (es : List (Item × Item)) : Type 0 where
   pub held : List Item
   pub run : (at : ℕ) → TagAt bytes at tag start → AreRun T room (Map key) k bytes tag at (map one held) next
@@ -77,9 +76,3 @@ may_follow _ oneofs = true
 abbrev pub oneofs_with : Label → ℕ → ℕ
 oneofs_with (Member o) oneofs = o + 1
 oneofs_with _ oneofs = oneofs
-
--- a kind whose values are runs of bytes
-abbrev pub is_run : Kind → Bool
-is_run Text = true
-is_run Octets = true
-is_run _ = false

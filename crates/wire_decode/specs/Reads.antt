@@ -26,37 +26,39 @@ numbers [] = no_items
 numbers (w ∷ ws) = item (number w) (numbers ws)
 
 mutual
-  -- The records are the bytes from a place to their end, and t has the contents of the known ones in order.
+  -- The records are the bytes from a place to their end, and the tree has the contents of the known ones in order.
   -- So many messages may still stand in one another inside.
   pub data Reads (T : Table) : ℕ → List Field → List ℕ → ℕ → Node → Type 0 where
-    read_end : {room : ℕ} {fs : List Field} {bytes : List ℕ} {at : ℕ} {t : Node} → at ≡ length bytes → t ≡ no_fields
-        → Reads T room fs bytes at t
-    read_other : {room : ℕ} {fs : List Field} {bytes : List ℕ} {at : ℕ} {t : Node} (r : Record) → RecordAt bytes at r
-        → is_known fs r ≡ false → Reads T room fs bytes r.next t → Reads T room fs bytes at t
-    read_known : {room : ℕ} {fs : List Field} {bytes : List ℕ} {at : ℕ} {t : Node} (r : Record) (f : Field)
-        (c : Content) (rest : Node) → RecordAt bytes at r → field_at fs r.number ≡ Some f
-        → Holds T room f.label f.kind bytes r.payload c → t ≡ field r.number c rest → Reads T room fs bytes r.next rest
-        → Reads T room fs bytes at t
+    read_end : {room : ℕ} {fields : List Field} {bytes : List ℕ} {at : ℕ} {tree : Node} → at ≡ length bytes
+        → tree ≡ no_fields → Reads T room fields bytes at tree
+    read_other : {room : ℕ} {fields : List Field} {bytes : List ℕ} {at : ℕ} {tree : Node} (r : Record)
+        → RecordAt bytes at r → is_known fields r ≡ false → Reads T room fields bytes r.next tree
+        → Reads T room fields bytes at tree
+    read_known : {room : ℕ} {fields : List Field} {bytes : List ℕ} {at : ℕ} {tree : Node} (r : Record) (f : Field)
+        (c : Content) (rest : Node) → RecordAt bytes at r → field_at fields r.number ≡ Some f
+        → Holds T room f.label f.kind bytes r.payload c → tree ≡ field r.number c rest
+        → Reads T room fields bytes r.next rest → Reads T room fields bytes at tree
 
   -- what a record of a field has: a number, the elements of a packed piece, text, bytes, a message, or an entry
   pub data Holds (T : Table) : ℕ → Label → Kind → List ℕ → Payload → Content → Type 0 where
-    holds_number : {room : ℕ} {label : Label} {k : Kind} {bytes : List ℕ} {p : Payload} {c : Content}
-        → is_map label ≡ false → is_numeric k ≡ true → payload_type p ≡ wire_type_of k
-        → c ≡ one (number (word_of k (number_in p))) → Holds T room label k bytes p c
-    holds_piece : {room : ℕ} {label : Label} {k : Kind} {bytes : List ℕ} {p : Payload} {c : Content} (start end : ℕ)
-        (ws : List ℕ) → may_be_packed label k ≡ true → p ≡ Len start end → AreElements k (take end bytes) start ws
-        → c ≡ many (numbers ws) → Holds T room label k bytes p c
-    holds_text : {room : ℕ} {label : Label} {k : Kind} {bytes : List ℕ} {p : Payload} {c : Content} (start end : ℕ)
-        → is_map label ≡ false → k ≡ Text → p ≡ Len start end → IsUtf8 (slice_range bytes start end)
-        → c ≡ one (run (slice_range bytes start end)) → Holds T room label k bytes p c
-    holds_octets : {room : ℕ} {label : Label} {k : Kind} {bytes : List ℕ} {p : Payload} {c : Content} (start end : ℕ)
-        → is_map label ≡ false → k ≡ Octets → p ≡ Len start end → c ≡ one (run (slice_range bytes start end))
-        → Holds T room label k bytes p c
-    holds_message : {room : ℕ} {label : Label} {k : Kind} {bytes : List ℕ} {p : Payload} {c : Content}
-        (inside i start end : ℕ) (t : Node) → is_map label ≡ false → k ≡ OfMessage i → p ≡ Len start end
-        → room ≡ suc inside → Reads T inside (fields_of T i) (take end bytes) start t → c ≡ one (node t)
-        → Holds T room label k bytes p c
-    holds_entry : {room : ℕ} {label : Label} {k : Kind} {bytes : List ℕ} {p : Payload} {c : Content} (key : Kind)
-        (start end : ℕ) (t : Node) → label ≡ Map key → p ≡ Len start end
-        → Reads T room (entry_fields key k) (take end bytes) start t → HasRoom room k → c ≡ one (node t)
-        → Holds T room label k bytes p c
+    holds_number : {room : ℕ} {label : Label} {kind : Kind} {bytes : List ℕ} {payload : Payload} {c : Content}
+        → is_map label ≡ false → is_numeric kind ≡ true → payload_type payload ≡ wire_type_of kind
+        → c ≡ one (number (word_of kind (number_in payload))) → Holds T room label kind bytes payload c
+    holds_piece : {room : ℕ} {label : Label} {kind : Kind} {bytes : List ℕ} {payload : Payload} {c : Content}
+        (start end : ℕ) (ws : List ℕ) → may_be_packed label kind ≡ true → payload ≡ Len start end
+        → AreElements kind (take end bytes) start ws → c ≡ many (numbers ws) → Holds T room label kind bytes payload c
+    holds_text : {room : ℕ} {label : Label} {kind : Kind} {bytes : List ℕ} {payload : Payload} {c : Content}
+        (start end : ℕ) → is_map label ≡ false → kind ≡ Text → payload ≡ Len start end
+        → IsUtf8 (slice_range bytes start end) → c ≡ one (run (slice_range bytes start end))
+        → Holds T room label kind bytes payload c
+    holds_octets : {room : ℕ} {label : Label} {kind : Kind} {bytes : List ℕ} {payload : Payload} {c : Content}
+        (start end : ℕ) → is_map label ≡ false → kind ≡ Octets → payload ≡ Len start end
+        → c ≡ one (run (slice_range bytes start end)) → Holds T room label kind bytes payload c
+    holds_message : {room : ℕ} {label : Label} {kind : Kind} {bytes : List ℕ} {payload : Payload} {c : Content}
+        (inside i start end : ℕ) (tree : Node) → is_map label ≡ false → kind ≡ OfMessage i → payload ≡ Len start end
+        → room ≡ suc inside → Reads T inside (fields_of T i) (take end bytes) start tree → c ≡ one (node tree)
+        → Holds T room label kind bytes payload c
+    holds_entry : {room : ℕ} {label : Label} {kind : Kind} {bytes : List ℕ} {payload : Payload} {c : Content}
+        (key : Kind) (start end : ℕ) (tree : Node) → label ≡ Map key → payload ≡ Len start end
+        → Reads T room (entry_fields key kind) (take end bytes) start tree → HasRoom room kind → c ≡ one (node tree)
+        → Holds T room label kind bytes payload c

@@ -6,7 +6,7 @@ ghost use Rattle.std.specs.Prelude.{◌≡◌, ℕ, ◌/◌, ◌%◌, ◌<◌, �
 ghost use Rattle.mrpc_table.specs.View.{item_of, content_of, node_of};
 ghost use Rattle.mrpc_table.specs.declared.table.Kind.TheVariants.{Text, Octets, Message as OfMessage};
 ghost use Rattle.mrpc_table.specs.declared.table.Label.TheVariants.{Map};
-ghost use Rattle.mrpc_table.specs.Words.{is_numeric};
+ghost use Rattle.mrpc_table.specs.Words.{is_numeric, has_one_value};
 ghost use Rattle.mrpc_table.specs.SortedEntries.{items_of_entry};
 ghost use Rattle.wire_base.specs.Records.{TagAt, PayloadAt};
 ghost use Rattle.mrpc_table.specs.WireTypes.{wire_type_of};
@@ -14,8 +14,8 @@ ghost use Rattle.wire_base.specs.declared.records.Payload.{Payload};
 ghost use Rattle.wire_base.specs.declared.records.Payload.TheVariants.{Len};
 ghost use Rattle.mrpc_table.specs.Ascending.{AllAscend, FieldsAscend};
 ghost use Rattle.wire_decode.specs.Words.{is_list, number_in};
-ghost use Rattle.wire_decode.specs.Ordered.{IsWhole, IsValue, IsFieldRead, AreValues, AreEntries, IsPair, may_follow, oneofs_with};
-ghost use Rattle.wire_decode.specs.Contents.{is_single, single_content};
+ghost use Rattle.wire_decode.specs.Ordered.{IsWhole, IsValue, IsFieldRead, AreValues, AreEntriesRead, IsPair, may_follow, oneofs_with};
+ghost use Rattle.wire_decode.specs.Contents.{single_content};
 
 use crate::merge::{many, pairs, present, present_if_set, push_content};
 use crate::number::word_of;
@@ -144,7 +144,7 @@ fn ordered_single(
 ) -> Option<usize>
     requires all { AllAscend table.now }
     requires place { start ≤ length bytes.now }
-    requires single { is_single label ≡ true }
+    requires single { has_one_value label ≡ true }
     ensures found { IfSome result
         (λ next. IsFieldRead table.now room label kind bytes.now tag start next
         (node_of whole.old.items) (node_of whole.new.items)) }
@@ -172,7 +172,7 @@ fn ordered_number(
     room: u32,
 ) -> Option<usize>
     requires place { start ≤ length bytes.now }
-    requires single { is_single label ≡ true }
+    requires single { has_one_value label ≡ true }
     requires numeric { is_numeric kind ≡ true }
     ensures found { IfSome result
         (λ next. IsFieldRead table.now room label kind bytes.now tag start next
@@ -394,7 +394,7 @@ fn ordered_entries(
     requires all { AllAscend table.now }
     requires place { start ≤ length bytes.now }
     ensures found { IfSome result
-        (λ r. AreEntries table.now room key kind bytes.now tag start r.1 (map items_of_entry r.0.items)) }
+        (λ r. AreEntriesRead table.now room key kind bytes.now tag start r.1 (map items_of_entry r.0.items)) }
     ensures ahead { IfSome result (λ r. start < r.1) }
     ensures within { IfSome result (λ r. r.1 ≤ length bytes.now) }
 {

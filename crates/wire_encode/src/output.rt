@@ -17,7 +17,7 @@ const FIRST_ROOM: usize = 32;
 #[derive(Drop)]
 pub struct Output {
     alloc: Global,
-    /// What was written stands from `start` on.
+    // What was written stands from `start` on.
     bytes: Vec<u8>,
     start: usize,
 }

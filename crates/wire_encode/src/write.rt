@@ -1,10 +1,10 @@
 //! Writing from the end of a message to its front: each call writes its bytes in front of those that were written.
 
 ghost use Rattle.std.specs.Prelude.{◌≡◌, ◌-◌, ◌<◌, ◌≤◌, List, ◌++◌, length, OnOk};
-ghost use Rattle.mrpc_table.specs.Normal.{kind_at};
+ghost use Rattle.mrpc_table.specs.Normal.{kind_at, label_at};
 ghost use Rattle.mrpc_table.specs.View.{item_of, items_of, pairs_of, content_of};
 ghost use Rattle.mrpc_table.specs.declared.table.Field.{Field};
-ghost use Rattle.wire_base.specs.Encoding.{varint, tag, delimited, label_at, number_bytes, item_bytes, joined_bytes, records_bytes, entries_bytes, content_bytes, fields_bytes};
+ghost use Rattle.wire_base.specs.Encoding.{varint, tag, delimited, number_bytes, item_bytes, joined_bytes, records_bytes, entries_bytes, content_bytes, fields_bytes};
 ghost use Rattle.mrpc_table.specs.Ascending.{AllAscend, FieldsAscend};
 ghost use Rattle.wire_encode.specs.Written.{record_bytes, entry_bytes};
 

@@ -1,7 +1,7 @@
 use Rattle.std.proofs.Common.{map}
 use Rattle.std.specs.Fmt.{decimal}
+use Rattle.mrpc_table.specs.Lines.{behind_spaces}
 use Rattle.wire_encode.specs.Written.{StandBefore}
-use Rattle.audit_text.specs.Pieces.{behind_spaces}
 use Rattle.audit_text.proofs.Written.{if-some, in-front}
 use Rattle.audit_text.proofs.row.put_front.Goals as goal
 

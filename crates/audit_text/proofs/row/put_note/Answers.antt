@@ -1,6 +1,7 @@
 use Rattle.std.proofs.Common.{◌≡◌, ℕ, List, ◌∷◌, ◌++◌, [], ap, refl, append_assoc, length, map, subst, sym, ◌∙◌, rules}
 use Rattle.std.specs.Fmt.{decimal}
-use Rattle.audit_text.specs.Pieces.{behind_spaces, note_line}
+use Rattle.mrpc_table.specs.Lines.{behind_spaces}
+use Rattle.audit_text.specs.Pieces.{note_line}
 use Rattle.wire_encode.specs.Written.{StandBefore}
 use Rattle.audit_text.proofs.Pieces.{line-pieces, spaced-append}
 use Rattle.audit_text.proofs.Written.{if-some, in-front}

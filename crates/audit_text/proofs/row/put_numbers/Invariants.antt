@@ -1,6 +1,6 @@
 use Rattle.std.proofs.Common.{drop, map}
 use Rattle.std.specs.Fmt.{decimal}
-use Rattle.audit_text.specs.Pieces.{behind_spaces}
+use Rattle.mrpc_table.specs.Lines.{behind_spaces}
 use Rattle.wire_encode.specs.Written.{StandBefore}
 use Rattle.audit_text.proofs.row.put_numbers.Given as goal
 

@@ -1,9 +1,10 @@
 use Rattle.std.proofs.Common.{◌≡◌, ◌∷◌, ◌++◌, [], List, ℕ, map, ap, ◌∙◌, sym, append_assoc, codes, refl, rules}
 use Rattle.std.specs.Fmt.{decimal}
 use Rattle.mrpc_table.specs.Calls.{message_at}
+use Rattle.mrpc_table.specs.Lines.{behind_spaces}
 use Rattle.mrpc_table.specs.Text.{line}
 use Rattle.audit_text.specs.Lines.{copy_words}
-use Rattle.audit_text.specs.Pieces.{behind_spaces, told_copy}
+use Rattle.audit_text.specs.Pieces.{told_copy}
 use Rattle.audit_text.proofs.Pieces.{line-pieces, told-copy, spaced-append, on-ok}
 use Rattle.audit_text.proofs.writing.append_took_line.Goals as goal
 

@@ -9,7 +9,7 @@ use Rattle.mrpc_table.specs.MapEntries.{last_of_each}
 use Rattle.mrpc_table.specs.SortedEntries.{items_of_entry}
 use Rattle.wire_decode.specs.Merged.{join_fields}
 use Rattle.wire_decode.specs.Contents.{with_content, some_pairs}
-use Rattle.wire_decode.specs.Ordered.{IsWhole, AreValues, AreEntries}
+use Rattle.wire_decode.specs.Ordered.{IsWhole, AreValues, AreEntriesRead}
 use Rattle.wire_decode.proofs.Merging.{map-pushed}
 use Rattle.wire_decode.proofs.Payloads.{VarintAt-moves}
 use Rattle.wire_decode.proofs.Orderly.{SoFar, sofar-first, sofar-more, sofar-last}
@@ -34,7 +34,7 @@ ordered_entries-returns-in-None-clause-found t c =
     subst (λ b. c.push.new.self.items ≡ cond b (roomy ++ e ∷ []) roomy) (sym c.in_ok-ok.ensures.variant)
     c.push.ensures.items in
     let all : c.push.new.self.items ≡ es ++ e ∷ [] = pushed ∙ ap (λ xs. xs ++ e ∷ []) c.room_ahead.ensures in
-    let P : List (Item × Item) → Type 0 = λ xs. AreEntries c.args.table.now c.args.room c.args.key c.args.kind c.args.bytes.now c.args.tag c.args.start c.in_ok-inside.next xs in
+    let P : List (Item × Item) → Type 0 = λ xs. AreEntriesRead c.args.table.now c.args.room c.args.key c.args.kind c.args.bytes.now c.args.tag c.args.start c.in_ok-inside.next xs in
     subst P (sym (ap (map items_of_entry) all ∙ map-pushed items_of_entry es e))
     (entries-more c.args.table.now c.args.room c.args.key c.args.kind c.args.bytes.now c.args.tag c.args.start
     c.loop-first.first c.in_ok-inside.inside c.in_ok-inside.next (map items_of_entry es)
@@ -50,7 +50,7 @@ ordered_entries-loop-first-preserved t c =
     subst (λ b. c.push.new.self.items ≡ cond b (roomy ++ e ∷ []) roomy) (sym c.in_ok-ok.ensures.variant)
     c.push.ensures.items in
     let all : c.push.new.self.items ≡ es ++ e ∷ [] = pushed ∙ ap (λ xs. xs ++ e ∷ []) c.room_ahead.ensures in
-    let P : List (Item × Item) → Type 0 = λ xs. AreEntries c.args.table.now c.args.room c.args.key c.args.kind c.args.bytes.now c.args.tag c.args.start c.in_ok-inside.next xs in
+    let P : List (Item × Item) → Type 0 = λ xs. AreEntriesRead c.args.table.now c.args.room c.args.key c.args.kind c.args.bytes.now c.args.tag c.args.start c.in_ok-inside.next xs in
     let more = subst P (sym (ap (map items_of_entry) all ∙ map-pushed items_of_entry es e))
     (entries-more c.args.table.now c.args.room c.args.key c.args.kind c.args.bytes.now c.args.tag c.args.start
     c.loop-first.first c.in_ok-inside.inside c.in_ok-inside.next (map items_of_entry es)

@@ -2,8 +2,8 @@ use Rattle.std.proofs.Common.{◌≡◌, ℕ, List, [], ◌∷◌, ◌++◌, ref
 use Rattle.std.specs.List.{flat_map}
 use Rattle.std.proofs.lemmas.Grind.{common_steps}
 use Rattle.std.specs.Fmt.{decimal}
-use Rattle.arrival_text.specs.Pieces.{behind_spaces}
-use Rattle.arrival_text.proofs.pieces.begin.Goals as goal
+use Rattle.mrpc_table.specs.Lines.{behind_spaces}
+use Rattle.mrpc_table.proofs.sequence.Sequence+u8.append_row.Goals as goal
 
 -- numbers, each behind a space
 numbers-spaced : (ns : List ℕ) → flat_map (λ n. 32 ∷ decimal n) ns ≡ behind_spaces (map decimal ns)
@@ -12,9 +12,9 @@ numbers-spaced (n ∷ ns) = ap (λ l. 32 ∷ decimal n ++ l) (numbers-spaced ns)
 
 pub returns : goal.returns
 returns c =
-    let out = c.args.out.now in
+    let old = c.args.self.now in
     let numbers = c.args.numbers.now in
     let front = c.args.front.now in
     let pieces = flat_map (λ n. 32 ∷ decimal n) numbers in
-    let made : c.loop-number.out ≡ (out ++ front) ++ pieces = grind (arith, common_steps) in
-    made ∙ append_assoc out front pieces ∙ ap (λ l. out ++ (front ++ l)) (numbers-spaced numbers)
+    let made : c.loop-number.self ≡ (old ++ front) ++ pieces = grind (arith, common_steps) in
+    made ∙ append_assoc old front pieces ∙ ap (λ l. old ++ (front ++ l)) (numbers-spaced numbers)

@@ -1,8 +1,8 @@
 use Rattle.std.proofs.Common.{◌≡◌, ◌++◌, ◌∷◌, take}
 use Rattle.std.specs.List.{flat_map}
 use Rattle.std.specs.Fmt.{decimal}
-use Rattle.arrival_text.proofs.pieces.begin.Given as goal
+use Rattle.mrpc_table.proofs.sequence.Sequence+u8.append_row.Given as goal
 
 abbrev pub invariant-loop-number : goal.invariant-loop-number
 invariant-loop-number l =
-    l.out ≡ (l.fn.out ++ l.front) ++ flat_map (λ n. 32 ∷ decimal n) (take l.number-index l.numbers)
+    l.self ≡ (l.fn.self ++ l.front) ++ flat_map (λ n. 32 ∷ decimal n) (take l.number-index l.numbers)

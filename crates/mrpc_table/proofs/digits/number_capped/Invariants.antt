@@ -1,7 +1,7 @@
 -- The value of the digits so far, if it is no larger.
 use Rattle.std.proofs.Common.{◌≡◌, ◌≤◌, ◌<◌, ◌^◌, min, take}
 use Rattle.std.specs.Str.Parse.{digits_value}
-use Rattle.mrpc_table.proofs.digits.capped.Given as goal
+use Rattle.mrpc_table.proofs.digits.number_capped.Given as goal
 
 abbrev pub invariant-loop-digit : goal.invariant-loop-digit
 invariant-loop-digit l = record { small : l.number ≤ 2 ^ 64; value : 0 < l.base → l.number ≡ min (digits_value l.base (take l.digit-index l.digits)) (2 ^ 64) }
