@@ -10,8 +10,8 @@ use Rattle.engine_core.specs.Answers.{Past, drawn, Answer, pass, note, ticket_in
 use Rattle.engine_core.specs.Answers.{was_charged, charges, holds, refuses, is_within, is_over, draws, was_counted}
 use Rattle.engine_core.specs.Answers.{counts, is_clear, redacts}
 use Rattle.engine_core.specs.Chains.{Chain, Entry}
-use Rattle.engine_core.specs.Engines.{EngineParts}
-use Rattle.engine_core.specs.Marks.{IsTrueFor, StandingCall, note_of, past_of}
+use Rattle.engine_core.specs.Engines.{EngineParts, chain_of}
+use Rattle.engine_core.specs.Marks.{IsTrueFor, StandingCall, note_of, past_of, seqs_of}
 use Rattle.engine_core.specs.Turns.{ComesOut, form_after, passes, is_noted, is_held, is_refused, is_noted_and_refused, is_redacted}
 use Rattle.engine_core.specs.Working.{Works}
 use Rattle.engine_core.specs.declared.outcome.Noted.{Noted}
@@ -24,8 +24,8 @@ use Rattle.engine_core.specs.declared.policy.Policy.TheVariants.{Access, Rate, Q
 use Rattle.call_history.specs.Behind.{Behind, chain, form, level, moment, noted}
 use Rattle.call_history.specs.Legal.{IsPrefix}
 use Rattle.call_history.specs.Rules.{Gives, Lets, Under}
-use Rattle.call_history.specs.Ties.{AreNumbersApart, AreTied, IsCallBehind, IsEngineBehind, IsNumberApart, WorksOn, chain_of, worked}
-use Rattle.audit_rules.specs.Asking.{LetsAll, answer_of, seqs_of}
+use Rattle.call_history.specs.Ties.{AreNumbersApart, AreTied, IsCallBehind, IsEngineBehind, IsNumberApart, WorksOn, worked}
+use Rattle.audit_rules.specs.Asking.{LetsAll, answer_of}
 
 -- ---- lists
 

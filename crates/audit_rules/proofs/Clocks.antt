@@ -2,9 +2,8 @@
 use Rattle.std.proofs.Common.{◌≡◌, ℕ, ◌+◌, ◌-◌, ◌<◌, max, List, [], ◌∷◌, ◌++◌, length, take, drop, set, get_or, map, ap, sym, ◌∙◌, arith, get_or-drop}
 use Rattle.std.proofs.lemmas.List.{drop-drop, drop-set-lt, map_more, take_at, take_more_set}
 use Rattle.engine_core.specs.Chains.{Entry}
-use Rattle.engine_core.specs.Engines.{EngineParts}
+use Rattle.engine_core.specs.Engines.{EngineParts, clocked}
 use Rattle.engine_core.specs.Policies.{level_at}
-use Rattle.call_history.specs.Ties.{shown}
 
 -- ---- one engine more
 
@@ -27,7 +26,7 @@ others-one-more {X = X} items init i y others =
     drop-set-lt (i + 1) items i y (omega arith) ∙ (sym (drop-drop 1 i items) ∙ (ap (λ (zs : List X). drop 1 zs) others ∙ drop-drop 1 i init))
 
 pub shown-is : (now : ℕ) (e e' : EngineParts) → e'.entry ≡ e.entry → e'.level ≡ level_at e.entry.policy e.level (now - e.last)
-    → e'.last ≡ max e.last now → e' ≡ shown now e
+    → e'.last ≡ max e.last now → e' ≡ clocked now e
 shown-is now e e' entry level last =
     ap {B = EngineParts} (λ (x : Entry). record { entry = x; level = e'.level; last = e'.last }) entry
     ∙ (ap {B = EngineParts} (λ (l : ℕ). record { entry = e.entry; level = l; last = e'.last }) level

@@ -13,13 +13,13 @@ use Rattle.std.proofs.lemmas.Option.{slice_get-get_or}
 use Rattle.std.proofs.lemmas.Slice.Eq.{bytes_eq-Decides}
 use Rattle.mrpc_table.specs.Valid.{AreDistinct}
 use Rattle.engine_core.specs.Chains.{Chain, Entry, is_named, names_of}
-use Rattle.engine_core.specs.Engines.{EngineParts}
-use Rattle.engine_core.specs.Marks.{StandingCall}
+use Rattle.engine_core.specs.Engines.{EngineParts, chain_of}
+use Rattle.engine_core.specs.Marks.{StandingCall, seqs_of}
 use Rattle.engine_core.specs.Moves.{place_of}
 use Rattle.call_history.specs.Behind.{Behind, chain, standing}
 use Rattle.call_history.specs.Rules.{IsAt, Lets, Under}
-use Rattle.call_history.specs.Ties.{AreNumbersApart, IsNumberApart, chain_of}
-use Rattle.audit_rules.specs.Asking.{IsRising, LetsAll, seqs_of}
+use Rattle.call_history.specs.Ties.{AreNumbersApart, IsNumberApart}
+use Rattle.audit_rules.specs.Asking.{IsRising, LetsAll}
 use Rattle.audit_rules.proofs.Asked.{map-at}
 
 -- ---- names

@@ -5,9 +5,9 @@ use Rattle.std.proofs.lemmas.List.{length-map}
 use Rattle.mrpc_table.specs.declared.table.Table.{Table}
 use Rattle.engine_core.specs.Chains.{Chain, Entry}
 use Rattle.engine_core.specs.Engines.{EngineParts}
-use Rattle.engine_core.specs.Marks.{StandingCall}
+use Rattle.engine_core.specs.Marks.{StandingCall, seqs_of}
 use Rattle.call_history.specs.Behind.{Behind, chain, noted_calls, standing}
-use Rattle.audit_rules.specs.Asking.{IsAsked, IsRising, LetsAll, seqs_of}
+use Rattle.audit_rules.specs.Asking.{IsAsked, IsRising, LetsAll}
 use Rattle.audit_rules.specs.Knowing.{IsFree, IsLatest, Knows, greatest, under, with_waiting}
 use Rattle.audit_rules.specs.declared.ask.Asked.{Asked}
 use Rattle.audit_rules.specs.declared.checker.Checker.{Checker}

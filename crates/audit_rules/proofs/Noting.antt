@@ -27,7 +27,8 @@ use Rattle.call_history.specs.Ties.{AreTied, worked}
 use Rattle.call_history.specs.declared.happening.Happening.{Happening}
 use Rattle.call_history.specs.declared.happening.Happening.TheVariants.{Charged, Counted, Drawn, Redacted, Refused}
 use Rattle.call_history.specs.declared.happening.Cause.{Cause}
-use Rattle.audit_rules.specs.Asking.{IsAsked, IsRising, LetsAll, seqs_of}
+use Rattle.engine_core.specs.Marks.{seqs_of}
+use Rattle.audit_rules.specs.Asking.{IsAsked, IsRising, LetsAll}
 use Rattle.audit_rules.specs.Knowing.{HasRoom, IsFree, IsLatest, Knows, LeavesOpen, under}
 use Rattle.audit_rules.specs.declared.ask.Asked.{Asked}
 use Rattle.audit_rules.specs.declared.checker.Checker.{Checker}

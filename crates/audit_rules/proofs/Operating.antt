@@ -6,14 +6,14 @@ use Rattle.std.proofs.lemmas.List.Elements.{All-cons, All-head, All-nil, All-tai
 use Rattle.mrpc_table.specs.declared.table.Table.{Table}
 use Rattle.engine_core.specs.Chains.{Entry}
 use Rattle.engine_core.specs.Engines.{EngineParts}
-use Rattle.engine_core.specs.Marks.{StandingCall}
+use Rattle.engine_core.specs.Marks.{StandingCall, seqs_of}
 use Rattle.engine_core.specs.declared.op.Op.{Op as Step}
 use Rattle.call_history.specs.Behind.{Behind, chain, noted}
 use Rattle.call_history.specs.Rules.{Lets, May}
 use Rattle.call_history.specs.Ties.{AreTied}
 use Rattle.call_history.specs.declared.happening.Happening.{Happening}
 use Rattle.call_history.specs.declared.happening.Happening.TheVariants.{Away, Op}
-use Rattle.audit_rules.specs.Asking.{LetsAll, seqs_of}
+use Rattle.audit_rules.specs.Asking.{LetsAll}
 use Rattle.audit_rules.specs.Knowing.{HasRoom, IsLatest, Knows, LeavesOpen, under}
 use Rattle.audit_rules.specs.declared.checker.Checker.{Checker}
 use Rattle.audit_rules.specs.declared.left.Left.{Left}

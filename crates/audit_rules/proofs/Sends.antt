@@ -5,12 +5,12 @@ use Rattle.std.proofs.lemmas.List.Elements.{All-cons, All-head, All-nil, All-tai
 use Rattle.mrpc_table.specs.declared.call.Call.{Call}
 use Rattle.frame_transport.specs.declared.format.TheConstants.{HEADER_LEN}
 use Rattle.engine_core.specs.Engines.{EngineParts}
-use Rattle.engine_core.specs.Marks.{StandingCall}
+use Rattle.engine_core.specs.Marks.{StandingCall, seqs_of}
 use Rattle.call_history.specs.Behind.{Behind, chain, form, standing}
 use Rattle.call_history.specs.Rules.{IsSentNext, Lets, Under, payload}
 use Rattle.call_history.specs.Ties.{AreTied, IsCallBehind}
 use Rattle.call_history.specs.declared.happening.Taken.{Taken}
-use Rattle.audit_rules.specs.Asking.{LetsAll, seqs_of}
+use Rattle.audit_rules.specs.Asking.{LetsAll}
 use Rattle.audit_rules.proofs.Asked.{All-at, map-at}
 
 all-taken : {X : Type 0} (P : X → Type 0) (xs : List X) (m : ℕ) → length xs ≤ m → All P (take m xs) → All P xs

@@ -7,11 +7,11 @@ use Rattle.std.proofs.lemmas.List.{length-map}
 use Rattle.mrpc_table.specs.Calls.{IsCallOf}
 use Rattle.mrpc_table.specs.declared.table.Table.{Table}
 use Rattle.engine_core.specs.Chains.{Entry}
-use Rattle.engine_core.specs.Engines.{EngineParts}
-use Rattle.engine_core.specs.Marks.{StandingCall}
+use Rattle.engine_core.specs.Engines.{EngineParts, clocked}
+use Rattle.engine_core.specs.Marks.{StandingCall, seqs_of}
 use Rattle.call_history.specs.Behind.{Behind, has_failed, moment, standing, taken}
 use Rattle.call_history.specs.Rules.{IsRefusedAtOnce, May, RefusesDrawn, RefusesMalformed, Under}
-use Rattle.call_history.specs.Ties.{AreTied, ShowsOn, shown}
+use Rattle.call_history.specs.Ties.{AreTied, ShowsOn}
 use Rattle.call_history.specs.declared.happening.Happening.{Happening}
 use Rattle.call_history.specs.declared.happening.Happening.TheVariants.{Drawn, Moment, Refused, Sent, Took}
 use Rattle.call_history.specs.declared.happening.Cause.{Cause}
@@ -20,7 +20,7 @@ use Rattle.call_history.specs.declared.happening.Taken.{Taken}
 use Rattle.call_history.specs.declared.happening.TookCopy.{TookCopy}
 use Rattle.call_history.specs.declared.happening.TookCopy.TheVariants.{Copy, Malformed}
 use Rattle.call_history.specs.Legal.{HasNoCopy}
-use Rattle.audit_rules.specs.Asking.{IsRising, LetsAll, seqs_of}
+use Rattle.audit_rules.specs.Asking.{IsRising, LetsAll}
 use Rattle.audit_rules.specs.Knowing.{IsFree, Knows, LeavesOpen, under}
 use Rattle.audit_rules.specs.Sorts.{IsNoLinkCause}
 use Rattle.audit_rules.specs.declared.checker.Checker.{Checker}
@@ -120,7 +120,7 @@ is-free past what (Over seq at ticket cap) opened malformed other = tt
 
 -- ---- a moment
 
-shown-entries : (now : ℕ) (es : List EngineParts) → map (λ e. e.entry) (map (λ e. shown now e) es) ≡ map (λ e. e.entry) es
+shown-entries : (now : ℕ) (es : List EngineParts) → map (λ e. e.entry) (map (λ e. clocked now e) es) ≡ map (λ e. e.entry) es
 shown-entries now [] = refl
 shown-entries now (e ∷ es) = ap (λ (xs : List Entry). e.entry ∷ xs) (shown-entries now es)
 
@@ -128,7 +128,7 @@ pub moment-apart : (past : Behind) (now : ℕ) → IsApart past (Moment now)
 moment-apart past now = record { chained = refl; notes = λ name seq. refl; calls = λ name. refl; forms = λ conn seq. refl }
 
 module _ (T : Table) (past : Behind) (now : ℕ) (c c' : Checker) (knows : Knows T past c) (may : May (under T c) past (Moment now)) (shows : ShowsOn)
-    (rest : c' ≡ record c { engines = c'.engines; moment = now }) (items : c'.engines.items ≡ map (λ e. shown now e) c.engines.items)
+    (rest : c' ≡ record c { engines = c'.engines; moment = now }) (items : c'.engines.items ≡ map (λ e. clocked now e) c.engines.items)
     (capacity : vec_capacity c'.engines ≡ vec_capacity c.engines) where
   later : Checker
   later = record c { engines = c'.engines; moment = now }

@@ -9,7 +9,7 @@ use Rattle.std.proofs.lemmas.List.Elements.{All-append, All-cons, All-nil}
 use Rattle.mrpc_table.specs.Calls.{IsCallOf}
 use Rattle.mrpc_table.specs.declared.table.Table.{Table}
 use Rattle.engine_core.specs.Engines.{EngineParts}
-use Rattle.engine_core.specs.Marks.{StandingCall}
+use Rattle.engine_core.specs.Marks.{StandingCall, seqs_of}
 use Rattle.call_history.specs.Behind.{Behind, chain, copied, form, standing, taken}
 use Rattle.call_history.specs.Legal.{AwaitsMalformed, HasNoCopy, IsPrefix}
 use Rattle.call_history.specs.Rules.{IsFirst, IsRefusedAtOnce, Lets, May, RefusesMalformed, Under}
@@ -20,7 +20,7 @@ use Rattle.call_history.specs.declared.happening.Happening.TheVariants.{Refused,
 use Rattle.call_history.specs.declared.happening.Taken.{Taken}
 use Rattle.call_history.specs.declared.happening.TookCopy.{TookCopy}
 use Rattle.call_history.specs.declared.happening.TookCopy.TheVariants.{Copy, Malformed}
-use Rattle.audit_rules.specs.Asking.{IsRising, LetsAll, seqs_of}
+use Rattle.audit_rules.specs.Asking.{IsRising, LetsAll}
 use Rattle.audit_rules.specs.Knowing.{IsFree, IsLatest, Knows, LeavesOpen, under, with_waiting}
 use Rattle.audit_rules.specs.declared.checker.Checker.{Checker}
 use Rattle.audit_rules.specs.declared.left.Left.{Left}

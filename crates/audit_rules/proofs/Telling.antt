@@ -9,14 +9,14 @@ use Rattle.mrpc_table.specs.declared.table.Table.{Table}
 use Rattle.engine_core.specs.Answers.{Answer, Answers, Past, hold}
 use Rattle.engine_core.specs.Chains.{Chain, Entry}
 use Rattle.engine_core.specs.Engines.{EngineParts}
-use Rattle.engine_core.specs.Marks.{StandingCall, past_of}
+use Rattle.engine_core.specs.Marks.{StandingCall, past_of, seqs_of}
 use Rattle.engine_core.specs.declared.TheConstants.{MAX_ENGINES}
 use Rattle.call_history.specs.Behind.{Behind, chain, level, moment, noted, standing}
 use Rattle.call_history.specs.Legal.{AwaitsMalformed, IsSettledUp}
 use Rattle.call_history.specs.Rules.{Gives, Under}
 use Rattle.call_history.specs.Ties.{AreTied, IsCallBehind, IsEngineBehind}
 use Rattle.call_history.specs.declared.happening.Taken.{Taken}
-use Rattle.audit_rules.specs.Asking.{LetsAll, seqs_of}
+use Rattle.audit_rules.specs.Asking.{LetsAll}
 use Rattle.audit_rules.specs.Knowing.{IsFree, Knows, KnowsTold, LeavesOpen, lowest, under}
 use Rattle.audit_rules.specs.Telling.{TellsHeld, TellsNext, name_at}
 use Rattle.audit_rules.specs.declared.checker.Checker.{Checker}

@@ -6,13 +6,13 @@ use Rattle.std.proofs.lemmas.List.{length-map}
 use Rattle.mrpc_table.specs.Valid.{AreDistinct}
 use Rattle.engine_core.specs.Chains.{Chain, Entry, is_named, names_of}
 use Rattle.engine_core.specs.Engines.{EngineParts}
-use Rattle.engine_core.specs.Marks.{StandingCall}
+use Rattle.engine_core.specs.Marks.{StandingCall, seqs_of}
 use Rattle.engine_core.specs.Working.{Works}
 use Rattle.engine_core.specs.declared.outcome.Outcome.{Outcome}
 use Rattle.call_history.specs.Behind.{Behind, chain, standing}
 use Rattle.call_history.specs.Rules.{Gives, Under}
 use Rattle.call_history.specs.Ties.{AreNumbersApart, AreTied, WorksOn, worked}
-use Rattle.audit_rules.specs.Asking.{IsAsked, IsRowBehind, LetsAll, answer_of, seqs_of}
+use Rattle.audit_rules.specs.Asking.{IsAsked, IsRowBehind, LetsAll, answer_of}
 use Rattle.audit_rules.proofs.Asked.{entries-same, map-at, numbers-same, turn-gives}
 use Rattle.audit_rules.proofs.Entries.{found, is-at, set-there, there-split, zip-length, zip-set}
 use Rattle.audit_rules.proofs.Numbers.{within}

@@ -24,7 +24,8 @@ use Rattle.call_history.specs.Rules.{Lets, Under}
 use Rattle.call_history.specs.Ties.{AreTied, worked}
 use Rattle.call_history.specs.declared.happening.Happening.{Happening}
 use Rattle.call_history.specs.declared.happening.Taken.{Taken}
-use Rattle.audit_rules.specs.Asking.{IsRising, LetsAll, seqs_of}
+use Rattle.engine_core.specs.Marks.{seqs_of}
+use Rattle.audit_rules.specs.Asking.{IsRising, LetsAll}
 use Rattle.audit_rules.specs.Knowing.{HasRoom, IsFree, IsLatest, Knows, LeavesOpen, greatest, under}
 use Rattle.audit_rules.specs.declared.checker.Checker.{Checker}
 use Rattle.audit_rules.proofs.Going.{all-on, entries-same-all, lets-on, zip-except}

@@ -1,10 +1,10 @@
 -- How far the calls that stand are known to pass, and what an entry answers to one of them.
-use Rattle.std.specs.Prelude.{◌≡◌, ℕ, ◌<◌, ◌≤◌, List, [], ◌∷◌, All, length, map, take, slice_get, Some}
+use Rattle.std.specs.Prelude.{◌≡◌, ℕ, ◌<◌, ◌≤◌, List, [], ◌∷◌, All, length, take, slice_get, Some}
 use Rattle.std.specs.List.{AllZip}
 use Rattle.engine_core.specs.Answers.{Answer, pass, note, hold, redact}
 use Rattle.engine_core.specs.Chains.{Entry}
 use Rattle.engine_core.specs.Engines.{EngineParts}
-use Rattle.engine_core.specs.Marks.{StandingCall}
+use Rattle.engine_core.specs.Marks.{StandingCall, seqs_of}
 use Rattle.engine_core.specs.Turns.{refusal}
 use Rattle.engine_core.specs.declared.outcome.Noted.TheVariants.{Nothing}
 use Rattle.engine_core.specs.declared.outcome.Outcome.{Outcome}
@@ -14,10 +14,6 @@ use Rattle.call_history.specs.Legal.{IsPrefix}
 use Rattle.call_history.specs.Rules.{Gives, IsAt, Lets, Under}
 use Rattle.call_history.specs.Ties.{AreTied, worked}
 use Rattle.audit_rules.specs.declared.ask.Asked.{Asked}
-
--- the numbers of calls
-abbrev pub seqs_of : List StandingCall → List ℕ
-seqs_of calls = map (λ s. s.call.seq) calls
 
 -- numbers ascend, from above one, and none is above another
 abbrev pub IsRising : (below top : ℕ) → List ℕ → Type 0

@@ -22,7 +22,8 @@ use Rattle.call_history.specs.declared.happening.Happening.TheVariants.{Took, Op
 use Rattle.call_history.specs.declared.happening.Taken.{Taken}
 use Rattle.call_history.specs.declared.happening.TookCopy.{TookCopy}
 use Rattle.call_history.specs.declared.happening.TookCopy.TheVariants.{Copy, Malformed}
-use Rattle.audit_rules.specs.Asking.{IsRising, IsRowBehind, seqs_of}
+use Rattle.engine_core.specs.Marks.{seqs_of}
+use Rattle.audit_rules.specs.Asking.{IsRising, IsRowBehind}
 use Rattle.audit_rules.specs.declared.checker.Checker.{Checker}
 use Rattle.audit_rules.specs.declared.left.Left.{Left}
 use Rattle.audit_rules.specs.declared.rule.Rule.{Rule}

@@ -6,14 +6,14 @@ ghost use Rattle.std.specs.VecDeque.{deque_capacity};
 ghost use Rattle.mrpc_table.specs.Calls.{IsCallOf};
 ghost use Rattle.engine_core.specs.Answers.{pass};
 ghost use Rattle.engine_core.specs.Chains.{Entry};
-ghost use Rattle.engine_core.specs.Marks.{StandingCall};
+ghost use Rattle.engine_core.specs.Marks.{StandingCall, seqs_of};
 ghost use Rattle.engine_core.specs.Turns.{noted_in};
 ghost use Rattle.engine_core.specs.Working.{Works};
 ghost use Rattle.call_history.specs.Behind.{Behind, moment, standing};
 ghost use Rattle.call_history.specs.Legal.{IsPrefix};
 ghost use Rattle.call_history.specs.Rules.{IsAt, Under};
 ghost use Rattle.call_history.specs.Ties.{AreNumbersApart, AreTied};
-ghost use Rattle.audit_rules.specs.Asking.{IsAsked, IsRising, IsRowBehind, LetsAll, answer_of, seqs_of};
+ghost use Rattle.audit_rules.specs.Asking.{IsAsked, IsRising, IsRowBehind, LetsAll, answer_of};
 
 use crate::drawn::Draws;
 use crate::engines::place_named;

@@ -3,7 +3,7 @@
 ghost use Rattle.std.specs.Prelude.{◌≡◌, ◌<◌, ◌≤◌, insert, length, map, min, position, vec_capacity};
 ghost use Rattle.std.specs.VecDeque.{deque_capacity};
 ghost use Rattle.engine_core.specs.Chains.{is_named};
-ghost use Rattle.call_history.specs.Ties.{shown};
+ghost use Rattle.engine_core.specs.Engines.{clocked};
 
 use engine_core::Engine;
 use mrpc_table::Name;
@@ -40,7 +40,7 @@ pub(crate) fn put<T>(items: &mut Vec<T>, at: usize, item: T)
 
 // Brings every bucket to a moment.
 pub(crate) fn clock_all(engines: &mut [Engine], now: u64)
-    ensures { engines.new ≡ map (λ e. shown now e) engines.old }
+    ensures { engines.new ≡ map (λ e. clocked now e) engines.old }
 {
     for engine in engines.iter_mut() {
         engine.clock(now);

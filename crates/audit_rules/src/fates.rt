@@ -22,7 +22,8 @@ ghost use Rattle.call_history.specs.declared.happening.Cause.TheVariants as caus
 ghost use Rattle.call_history.specs.declared.happening.Happening.{Happening as TheHappening};
 ghost use Rattle.call_history.specs.declared.happening.Happening.TheVariants.{Drawn};
 ghost use Rattle.call_history.specs.declared.happening.Happening.TheVariants.{Redacted, Refused, Sent};
-ghost use Rattle.audit_rules.specs.Asking.{IsAsked, seqs_of};
+ghost use Rattle.engine_core.specs.Marks.{seqs_of};
+ghost use Rattle.audit_rules.specs.Asking.{IsAsked};
 ghost use Rattle.audit_rules.specs.Knowing.{HasRoom, IsFree, IsFreeFor, IsKnowing};
 ghost use Rattle.audit_rules.specs.Knowing.{Knows, LeavesOpen, under};
 ghost use Rattle.audit_rules.specs.Sorts.{IsNoLinkCause};

@@ -6,7 +6,7 @@ use Rattle.std.proofs.lemmas.List.{length-append}
 use Rattle.mrpc_table.specs.Calls.{message_at}
 use Rattle.mrpc_table.specs.Node.{Node, no_fields, field, Content, one, many, pairs, Item, number, run, node}
 use Rattle.mrpc_table.specs.Normal.{fields_of, kind_at}
-use Rattle.mrpc_table.specs.Words.{message_of}
+use Rattle.mrpc_table.specs.Words.{nested_message}
 use Rattle.mrpc_table.specs.WireTypes.{wire_type_of}
 use Rattle.mrpc_table.specs.declared.call.Call.{Call}
 use Rattle.mrpc_table.specs.declared.table.Field.{Field}
@@ -82,8 +82,8 @@ mutual
   item-falls : (T : Table) (k : Kind) (at : List ℕ → Bool) (i : Item) → length (item_bytes T k (item_without at i)) ≤ length (item_bytes T k i)
   item-falls T k at (number n) = omega arith
   item-falls T k at (run bytes) = omega arith
-  item-falls T k at (node t) = delimited-falls (fields_bytes T (fields_of T (message_of k)) (without at t))
-      (fields_bytes T (fields_of T (message_of k)) t) (fields-fall T (fields_of T (message_of k)) at t)
+  item-falls T k at (node t) = delimited-falls (fields_bytes T (fields_of T (nested_message k)) (without at t))
+      (fields_bytes T (fields_of T (nested_message k)) t) (fields-fall T (fields_of T (nested_message k)) at t)
 
 -- what the clears leave of a call
 pub payload-falls : (T : Table) (clears : List Clear) (call : Call) → length (payload T (cleared_call clears call)) ≤ length (payload T call)

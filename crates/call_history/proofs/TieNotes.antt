@@ -7,8 +7,8 @@ use Rattle.mrpc_table.specs.declared.call.Call.{Call}
 use Rattle.policy_redact.specs.Redacting.{cleared_call}
 use Rattle.engine_core.specs.Answers.{Past, charged, drawn, counted, past_after, level_left}
 use Rattle.engine_core.specs.Chains.{Chain, Entry, IsChain, attachments_of, names_of}
-use Rattle.engine_core.specs.Engines.{EngineParts}
-use Rattle.engine_core.specs.Marks.{IsTrueFor, StandingCall, note_of, past_of}
+use Rattle.engine_core.specs.Engines.{EngineParts, chain_of}
+use Rattle.engine_core.specs.Marks.{HasMarksUpTo, IsTrueFor, StandingCall, note_of, past_of}
 use Rattle.engine_core.specs.Turns.{form_after, noted_in}
 use Rattle.engine_core.specs.Working.{Works, LeavesCall}
 use Rattle.engine_core.specs.declared.outcome.Noted.{Noted}
@@ -19,7 +19,7 @@ use Rattle.engine_core.specs.declared.policy.Policy.{Policy}
 use Rattle.engine_core.specs.declared.policy.Policy.TheVariants.{Access, Rate, Quota, Count, Redact}
 use Rattle.call_history.specs.Behind.{Behind, chain, form, level, moment, noted, policy_of, redacted}
 use Rattle.call_history.specs.Events.{note_behind}
-use Rattle.call_history.specs.Ties.{AreNumbersApart, AreTied, IsCallBehind, IsEngineBehind, IsMarkedUpTo, chain_of, worked}
+use Rattle.call_history.specs.Ties.{AreNumbersApart, AreTied, IsCallBehind, IsEngineBehind, worked}
 use Rattle.call_history.specs.declared.happening.Happening.TheVariants as what
 use Rattle.call_history.proofs.Further.{contains-cases}
 use Rattle.call_history.proofs.GoingOn.{form-cleared, level-charged, level-charged_other, noted-charged, noted-drawn, noted-counted}
@@ -262,7 +262,7 @@ module _ (conn : ℕ) (past : Behind) (es : List EngineParts) (n : ℕ) (calls :
       (contains-map (λ (e : EngineParts). e.entry) es (get_or es k d) (Contains-get_or es k d inside)) entry-in)
       (true-met k d inside)
 
-  marked-left : IsMarkedUpTo n w.call'
+  marked-left : HasMarksUpTo n w.call'
   marked-left attach above =
       let own : w.engine.entry.attach ≤ n = attached-apart (map (λ (e : EngineParts). e.entry) es) n w.engine.entry own-chain.numbered entry-in in
       let other : attach ≢ w.engine.entry.attach = λ same. omega arith in

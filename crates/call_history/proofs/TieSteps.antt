@@ -10,15 +10,15 @@ use Rattle.mrpc_table.specs.Valid.{AreDistinct}
 use Rattle.mrpc_table.specs.declared.call.Call.{Call}
 use Rattle.engine_core.specs.Answers.{Past, nothing, charged, drawn, counted}
 use Rattle.engine_core.specs.Chains.{Chain, Changes, Entry, IsAgainst, IsChain, changed, is_named, is_taken, names_of, new_entry, taken as taken_name, upgraded}
-use Rattle.engine_core.specs.Engines.{EngineParts}
-use Rattle.engine_core.specs.Marks.{IsTrueFor, StandingCall, note_of, past_by, past_of}
+use Rattle.engine_core.specs.Engines.{EngineParts, chain_of, clocked}
+use Rattle.engine_core.specs.Marks.{HasMarksUpTo, IsTrueFor, StandingCall, note_of, past_by, past_of}
 use Rattle.engine_core.specs.Policies.{first_level, level_at, level_under}
 use Rattle.engine_core.specs.declared.op.Op.TheVariants.{Attach, Detach, Upgrade}
 use Rattle.engine_core.specs.declared.policy.Policy.{Policy}
 use Rattle.call_history.specs.Behind.{Behind, chain, converted, copied, filled, form, level, moment, noted, noted_calls, policy_of, taken, with_tree}
 use Rattle.call_history.specs.Legal.{IsPrefix}
 use Rattle.call_history.specs.Rules.{Under}
-use Rattle.call_history.specs.Ties.{AreTied, IsCallBehind, IsEngineBehind, IsMarkedUpTo, IsNumberApart, chain_of, shown}
+use Rattle.call_history.specs.Ties.{AreTied, IsCallBehind, IsEngineBehind, IsNumberApart}
 use Rattle.call_history.specs.declared.happening.Happening.TheVariants.{Took, Op, Moment, Charged, Drawn, Counted}
 use Rattle.call_history.specs.declared.happening.Taken.{Taken}
 use Rattle.call_history.specs.declared.happening.TookCopy.{TookCopy}
@@ -295,25 +295,25 @@ upgrades-on stays u past es n calls name label policy p e e' prefix ties is same
 
 -- ---- the clock shows a later moment
 
-same-entries : (now : ℕ) (es : List EngineParts) → map (λ e. e.entry) (map (λ e. shown now e) es) ≡ map (λ e. e.entry) es
+same-entries : (now : ℕ) (es : List EngineParts) → map (λ e. e.entry) (map (λ e. clocked now e) es) ≡ map (λ e. e.entry) es
 same-entries now [] = refl
 same-entries now (e ∷ es) = let rest = same-entries now es in cc
 
 pub shows-on : StaysChain → (u : Under) (past : Behind) (es : List EngineParts) (n : ℕ) (calls : List StandingCall) (now : ℕ) → IsPrefix u past → AreTied u.conn past es n calls
-    → moment past < now → AreTied u.conn (Moment now ∷ past) (map (λ e. shown now e) es) n calls
+    → moment past < now → AreTied u.conn (Moment now ∷ past) (map (λ e. clocked now e) es) n calls
 shows-on stays u past es n calls now prefix ties later = record {
   same_chain = ap (λ (xs : List Entry). let c : Chain = record { entries = xs; attached = n } in c) (same-entries now es) ∙ ties.same_chain;
-  engines_behind = All-map (IsEngineBehind (Moment now ∷ past)) (λ (e : EngineParts). shown now e) es
-      (all-step (IsEngineBehind past) (λ e. IsEngineBehind (Moment now ∷ past) (shown now e)) es engine-kept ties.engines_behind);
+  engines_behind = All-map (IsEngineBehind (Moment now ∷ past)) (λ (e : EngineParts). clocked now e) es
+      (all-step (IsEngineBehind past) (λ e. IsEngineBehind (Moment now ∷ past) (clocked now e)) es engine-kept ties.engines_behind);
   calls_behind = λ k d inside. (let was = ties.calls_behind k d inside in record {
     is_form = was.is_form;
-    notes = All-map (λ e. past_of (get_or calls k d).marks e.entry.attach ≡ noted e.entry.name (get_or calls k d).call.seq past) (λ (e : EngineParts). shown now e) es was.notes;
+    notes = All-map (λ e. past_of (get_or calls k d).marks e.entry.attach ≡ noted e.entry.name (get_or calls k d).call.seq past) (λ (e : EngineParts). clocked now e) es was.notes;
     marked = was.marked;
-    true_for = All-map (λ e. IsTrueFor e.entry (get_or calls k d)) (λ (e : EngineParts). shown now e) es was.true_for;
+    true_for = All-map (λ e. IsTrueFor e.entry (get_or calls k d)) (λ (e : EngineParts). clocked now e) es was.true_for;
   });
 }
   where
-    engine-kept : (e : EngineParts) → Contains es e → IsEngineBehind past e → IsEngineBehind (Moment now ∷ past) (shown now e)
+    engine-kept : (e : EngineParts) → Contains es e → IsEngineBehind past e → IsEngineBehind (Moment now ∷ past) (clocked now e)
     engine-kept e has was = record {
       level =
           ap (λ (l : ℕ). level_at e.entry.policy l (now - e.last)) was.level

@@ -6,11 +6,11 @@ use Rattle.std.proofs.lemmas.List.{map-append, take-map, drop-map}
 use Rattle.std.proofs.lemmas.List.Elements.{All-append, All-cons, All-drop, All-head, All-nil, All-tail, All-take}
 use Rattle.mrpc_table.specs.Valid.{AreDistinct}
 use Rattle.engine_core.specs.Chains.{Chain, Entry, IsChain, attachments_of, is_named, names_of}
-use Rattle.engine_core.specs.Engines.{EngineParts}
+use Rattle.engine_core.specs.Engines.{EngineParts, chain_of}
 use Rattle.engine_core.specs.Marks.{StandingCall}
 use Rattle.engine_core.specs.declared.policy.Policy.{Policy}
 use Rattle.call_history.specs.Behind.{Behind, chain, policy_of}
-use Rattle.call_history.specs.Ties.{AreNumbersApart, IsNumberApart, chain_of}
+use Rattle.call_history.specs.Ties.{AreNumbersApart, IsNumberApart}
 use Rattle.call_history.proofs.Chained.{all-step, named-there}
 use Rattle.call_history.proofs.Further.{contains-cases, contains-first, contains-later}
 use Rattle.call_history.proofs.Looking.{equal-name, other-name}

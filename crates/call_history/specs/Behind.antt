@@ -116,11 +116,12 @@ stands past call = not (list_any (is_fate_of call.seq) past)
 abbrev pub standing : Behind → List Taken
 standing past = filter (stands past) (taken past)
 
--- the link has failed: a call was refused for it
+-- the happening refuses a call since the link failed
 abbrev pub is_transport_refusal : Happening → Bool
 is_transport_refusal (Refused seq cause.Transport) = true
 is_transport_refusal _ = false
 
+-- the link has failed: a call was refused for it
 abbrev pub has_failed : Behind → Bool
 has_failed past = list_any is_transport_refusal past
 

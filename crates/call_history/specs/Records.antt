@@ -38,6 +38,7 @@ pub record Kept : Type 0 where
 abbrev pub step_at : List Step → ℕ → Step
 step_at steps place = get_or steps place (Detach [])
 
+-- the cause that a kept refusal stands for
 abbrev pub cause_of : List Step → Refusal → Cause
 cause_of steps by.Malformed = cause.Malformed
 cause_of steps (by.Access step version rule) =

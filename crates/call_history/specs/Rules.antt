@@ -62,10 +62,12 @@ IsRefusedAtOnce (Copy tree) seq (Refused call cause.Malformed) = ⊥
 IsRefusedAtOnce (Copy tree) seq _ = Unit {0}
 IsRefusedAtOnce (Malformed reason place value) seq next = next ≡ Refused seq cause.Malformed
 
+-- the happening is no refusal of a malformed call
 abbrev pub IsNoMalformedRefusal : Happening → Type 0
 IsNoMalformedRefusal (Refused seq cause.Malformed) = ⊥
 IsNoMalformedRefusal _ = Unit {0}
 
+-- a malformed call is refused at once, by what happens next, and no other is refused as malformed
 abbrev pub RefusesMalformed : Behind → Happening → Type 0
 RefusesMalformed (Took call ∷ past) next = IsRefusedAtOnce call.copy call.seq next
 RefusesMalformed _ next = IsNoMalformedRefusal next

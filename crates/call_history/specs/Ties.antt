@@ -1,9 +1,9 @@
 -- Engines, and calls with their marks, which are what a history has made of a connection (this project's own).
-use Rattle.std.specs.Prelude.{◌≡◌, ◌≢◌, ℕ, ◌+◌, ◌-◌, ◌<◌, ◌≤◌, max, List, [], ◌∷◌, ◌++◌, All, length, map, insert, remove, set, slice_get, None, Some}
-use Rattle.engine_core.specs.Chains.{Chain, Changes, changed, new_entry, upgraded}
-use Rattle.engine_core.specs.Engines.{EngineParts}
-use Rattle.engine_core.specs.Marks.{IsTrueFor, StandingCall, note_of, past_of}
-use Rattle.engine_core.specs.Policies.{first_level, level_at, level_under}
+use Rattle.std.specs.Prelude.{◌≡◌, ◌≢◌, ℕ, ◌+◌, ◌<◌, List, [], ◌∷◌, ◌++◌, All, length, map, insert, remove, set, slice_get, Some}
+use Rattle.engine_core.specs.Chains.{Changes, changed, new_entry, upgraded}
+use Rattle.engine_core.specs.Engines.{EngineParts, chain_of, clocked}
+use Rattle.engine_core.specs.Marks.{HasMarksUpTo, IsTrueFor, StandingCall, past_of}
+use Rattle.engine_core.specs.Policies.{first_level, level_under}
 use Rattle.engine_core.specs.Turns.{noted_in}
 use Rattle.engine_core.specs.Working.{Works}
 use Rattle.engine_core.specs.declared.op.Op.TheVariants.{Attach, Detach, Upgrade}
@@ -18,18 +18,10 @@ use Rattle.call_history.specs.Rules.{Under}
 use Rattle.call_history.specs.declared.happening.Happening.TheVariants.{Took, Op, Moment, Redacted}
 use Rattle.call_history.specs.declared.happening.Taken.{Taken}
 
--- the entries that engines work for, with the number of attachments
-abbrev pub chain_of : List EngineParts → ℕ → Chain
-chain_of engines attached = record { entries = map (λ e. e.entry) engines; attached = attached }
-
 -- an engine has the level and the moment that the history says
 pub record IsEngineBehind (past : Behind) (e : EngineParts) : Type 0 where
   pub level : e.level ≡ level e.entry.name past
   pub last : e.last ≡ moment past
-
--- the marks of a call are of attachments up to this one
-abbrev pub IsMarkedUpTo : ℕ → StandingCall → Type 0
-IsMarkedUpTo attached s = (attach : ℕ) → attached < attach → note_of s.marks attach ≡ None
 
 -- A call is in its form, and its marks say what was noted of it since the attachment of each engine, and nothing that
 -- is wrong.
@@ -37,7 +29,7 @@ pub record IsCallBehind (conn : ℕ) (past : Behind) (engines : List EngineParts
     : Type 0 where
   pub is_form : form conn s.call.seq past ≡ Some s.call
   pub notes : All (λ e. past_of s.marks e.entry.attach ≡ noted e.entry.name s.call.seq past) engines
-  pub marked : IsMarkedUpTo attached s
+  pub marked : HasMarksUpTo attached s
   pub true_for : All (λ e. IsTrueFor e.entry s) engines
 
 -- the engines, of so many attachments, and the calls with their marks are what the history has made
@@ -55,14 +47,6 @@ IsNumberApart seq calls = All (λ s. s.call.seq ≢ seq) calls
 abbrev pub AreNumbersApart : List StandingCall → Type 0
 AreNumbersApart [] = Unit {0}
 AreNumbersApart (s ∷ calls) = IsNumberApart s.call.seq calls × AreNumbersApart calls
-
--- an engine that is shown a moment: time fills its bucket
-abbrev pub shown : ℕ → EngineParts → EngineParts
-shown now e = record {
-  entry = e.entry;
-  level = level_at e.entry.policy e.level (now - e.last);
-  last = max e.last now;
-}
 
 -- what is behind after a turn of an entry for the call of a number, before its refusal
 abbrev pub worked : Entry → ℕ → Outcome → Behind → Behind
@@ -109,7 +93,7 @@ UpgradesOn = (u : Under) (past : Behind) (engines : List EngineParts) (attached 
 abbrev pub ShowsOn : Type 0
 ShowsOn = (u : Under) (past : Behind) (engines : List EngineParts) (attached : ℕ) (calls : List StandingCall)
     (now : ℕ) → IsPrefix u past → AreTied u.conn past engines attached calls → moment past < now
-    → AreTied u.conn (Moment now ∷ past) (map (λ e. shown now e) engines) attached calls
+    → AreTied u.conn (Moment now ∷ past) (map (λ e. clocked now e) engines) attached calls
 
 -- an engine has worked on a call
 abbrev pub WorksOn : Type 0

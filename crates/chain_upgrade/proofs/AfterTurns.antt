@@ -1,15 +1,16 @@
 -- A chain after a turn of one of its engines.
-use Rattle.std.proofs.Common.{◌≡◌, ℕ, ◌+◌, ◌<◌, suc, nat_le, List, ◌∷◌, ◌++◌, length, filter, take, drop, get_or}
+use Rattle.std.proofs.Common.{◌≡◌, ℕ, ◌+◌, ◌<◌, suc, nat_le, Bool, true, false, List, ◌∷◌, ◌++◌, length, filter, take, drop, get_or}
 use Rattle.std.proofs.Common.{remove, slice_get, Some, subst, refl, ap, sym, ◌∙◌, arith}
+use Rattle.std.specs.Bool.{OnFalse, OnTrue}
 use Rattle.std.proofs.lemmas.List.{length-map, length-set}
 use Rattle.engine_core.specs.Engines.{EngineParts}
-use Rattle.engine_core.specs.Marks.{StandingCall}
+use Rattle.engine_core.specs.Marks.{StandingCall, seqs_of}
 use Rattle.engine_core.specs.Moves.{goes_on, begin_again, without_call}
 use Rattle.engine_core.specs.Working.{Works}
 use Rattle.engine_core.specs.declared.outcome.Outcome.{Outcome}
 use Rattle.engine_core.specs.declared.outcome.Outcome.TheVariants.{Passed, Held, Refused, Redacted}
 use Rattle.chain_upgrade.specs.declared.turned.Turned.{Turned}
-use Rattle.chain_upgrade.specs.Chains.{ChainParts, HasTurn, OnTurn, StandsOn, calls_after, numbers_of}
+use Rattle.chain_upgrade.specs.Chains.{ChainParts, HasTurn, OnTurn, StandsOn, calls_after}
 use Rattle.chain_upgrade.specs.Cuts.{row_from, cut_at, raised, taken_out, lowered}
 use Rattle.chain_upgrade.specs.Kept.{IsKept, calls_left, turned_as}
 use Rattle.chain_upgrade.proofs.CutLaws.{cut-low}
@@ -27,7 +28,7 @@ module _ (es : List EngineParts) (room n p j moment : ℕ) (calls : List Standin
   work-kept = kept-same es es' room n p j calls calls' cuts kept (ap (λ (xs : List EngineParts). length xs) w.others ∙ length-set es p w.engine')
       (ap (λ (xs : List StandingCall). length xs) w.other_calls ∙ length-set calls j w.call') (stands-turn es n p j moment calls outcome es' calls' kept.stands w)
 
-  pub work-row : (v : ChainParts) → seen-of es n calls cuts ≡ v → row_from 0 cuts (numbers_of calls') ≡ v.row
+  pub work-row : (v : ChainParts) → seen-of es n calls cuts ≡ v → row_from 0 cuts (seqs_of calls') ≡ v.row
   work-row v seen = ap (λ (seqs : List ℕ). row_from 0 cuts seqs) (same-numbers es n p j moment calls outcome es' calls' kept.stands w)
       ∙ ap (λ (v : ChainParts). v.row) seen
 
@@ -48,7 +49,7 @@ module _ (es : List EngineParts) (room n p j : ℕ) (calls : List StandingCall) 
   pub few-behind : get_or cuts p 0 < 64
   few-behind = let few = kept.stands.few in omega (arith, inside, is-cut)
 
-  there : j < length (numbers_of calls)
+  there : j < length (seqs_of calls)
   there = omega (arith, inside, length-map calls (λ (s : StandingCall). s.call.seq))
 
   pub passed-kept : p < length es → IsKept es room n calls (raised p cuts)
@@ -60,22 +61,22 @@ module _ (es : List EngineParts) (room n p j : ℕ) (calls : List StandingCall) 
   pub refused-kept : IsKept es room n (remove calls j) (taken_out j cuts)
   refused-kept = kept-without es room n j calls cuts kept inside
 
-  pub passed-row : (s : StandingCall) → p < length cuts → slice_get calls j ≡ Some s → row_from 0 (raised p cuts) (numbers_of calls) ≡ goes_on s.call.seq v.row
-  passed-row s within is = subst (λ (v : ChainParts). row_from 0 (raised p cuts) (numbers_of calls) ≡ goes_on s.call.seq v.row) seen
-      (row-on (length calls) p j cuts (numbers_of calls) kept.falls within is-cut below-cut there kept.stands.ascend
-      ∙ ap (λ (seq : ℕ). goes_on seq (row_from 0 cuts (numbers_of calls))) (number-at calls j s is))
+  pub passed-row : (s : StandingCall) → p < length cuts → slice_get calls j ≡ Some s → row_from 0 (raised p cuts) (seqs_of calls) ≡ goes_on s.call.seq v.row
+  passed-row s within is = subst (λ (v : ChainParts). row_from 0 (raised p cuts) (seqs_of calls) ≡ goes_on s.call.seq v.row) seen
+      (row-on (length calls) p j cuts (seqs_of calls) kept.falls within is-cut below-cut there kept.stands.ascend
+      ∙ ap (λ (seq : ℕ). goes_on seq (row_from 0 cuts (seqs_of calls))) (number-at calls j s is))
 
-  pub redacted-row : (s : StandingCall) → slice_get calls j ≡ Some s → row_from 0 (lowered j cuts) (numbers_of calls) ≡ begin_again s.call.seq v.row
-  redacted-row s is = subst (λ (v : ChainParts). row_from 0 (lowered j cuts) (numbers_of calls) ≡ begin_again s.call.seq v.row) seen
-      (row-again j cuts (numbers_of calls) there kept.stands.ascend
-      ∙ ap (λ (seq : ℕ). begin_again seq (row_from 0 cuts (numbers_of calls))) (number-at calls j s is))
+  pub redacted-row : (s : StandingCall) → slice_get calls j ≡ Some s → row_from 0 (lowered j cuts) (seqs_of calls) ≡ begin_again s.call.seq v.row
+  redacted-row s is = subst (λ (v : ChainParts). row_from 0 (lowered j cuts) (seqs_of calls) ≡ begin_again s.call.seq v.row) seen
+      (row-again j cuts (seqs_of calls) there kept.stands.ascend
+      ∙ ap (λ (seq : ℕ). begin_again seq (row_from 0 cuts (seqs_of calls))) (number-at calls j s is))
 
   pub refused-row : (s : StandingCall) → slice_get calls j ≡ Some s
-      → row_from 0 (taken_out j cuts) (numbers_of (remove calls j)) ≡ without_call s.call.seq v.row
-  refused-row s is = subst (λ (v : ChainParts). row_from 0 (taken_out j cuts) (numbers_of (remove calls j)) ≡ without_call s.call.seq v.row) seen
+      → row_from 0 (taken_out j cuts) (seqs_of (remove calls j)) ≡ without_call s.call.seq v.row
+  refused-row s is = subst (λ (v : ChainParts). row_from 0 (taken_out j cuts) (seqs_of (remove calls j)) ≡ without_call s.call.seq v.row) seen
       (ap (λ (seqs : List ℕ). row_from 0 (taken_out j cuts) seqs) (remove-map (λ (s : StandingCall). s.call.seq) calls j)
-      ∙ (row-without j cuts (numbers_of calls) there kept.stands.ascend
-      ∙ ap (λ (seq : ℕ). without_call seq (row_from 0 cuts (numbers_of calls))) (number-at calls j s is)))
+      ∙ (row-without j cuts (seqs_of calls) there kept.stands.ascend
+      ∙ ap (λ (seq : ℕ). without_call seq (row_from 0 cuts (seqs_of calls))) (number-at calls j s is)))
 
 -- ---- the whole turn
 
@@ -122,3 +123,8 @@ told-holds seq (Passed n) t Holds is holds = subst (λ (t : Turned). OnTurn t Ho
 told-holds seq (Held level cost) t Holds is holds = subst (λ (t : Turned). OnTurn t Holds) (sym is) holds
 told-holds seq (Refused n why) t Holds is holds = subst (λ (t : Turned). OnTurn t Holds) (sym is) holds
 told-holds seq Redacted t Holds is holds = subst (λ (t : Turned). OnTurn t Holds) (sym is) holds
+
+-- what follows from either answer
+pub in-either : {A P Q : Type 0} (b : Bool) → OnTrue b P → OnFalse b Q → (P → A) → (Q → A) → A
+in-either true p q f g = f p
+in-either false p q f g = g q

@@ -6,10 +6,10 @@ use Rattle.std.proofs.lemmas.List.Elements.{All-map}
 use Rattle.policy_rate.specs.Level.{BucketHappening, moment}
 use Rattle.policy_rate.specs.declared.rate.Rate.{Rate as RatePolicy}
 use Rattle.engine_core.specs.Chains.{Entry}
-use Rattle.engine_core.specs.Engines.{EngineParts, HasPast}
+use Rattle.engine_core.specs.Engines.{EngineParts, HasPast, clocked}
 use Rattle.engine_core.specs.Marks.{IsTrueFor, StandingCall}
 use Rattle.engine_core.specs.Policies.{IsPolicy, level_at}
-use Rattle.chain_upgrade.specs.Chains.{StandsOn, clocked}
+use Rattle.chain_upgrade.specs.Chains.{StandsOn}
 use Rattle.chain_upgrade.specs.Kept.{IsKept}
 use Rattle.chain_upgrade.proofs.KeepLaws.{short-more}
 

@@ -5,9 +5,9 @@ use Rattle.std.proofs.Common.{length-append, length-take, length-drop}
 use Rattle.std.proofs.lemmas.List.{length-map, map-append}
 use Rattle.engine_core.specs.Chains.{Entry}
 use Rattle.engine_core.specs.Engines.{EngineParts}
-use Rattle.engine_core.specs.Marks.{IsTrueFor, StandingCall, note_of}
+use Rattle.engine_core.specs.Marks.{IsTrueFor, StandingCall, note_of, seqs_of}
 use Rattle.engine_core.specs.Moves.{Row}
-use Rattle.chain_upgrade.specs.Chains.{ChainParts, StandsOn, IsStandingChain, numbers_of}
+use Rattle.chain_upgrade.specs.Chains.{ChainParts, StandsOn, IsStandingChain}
 use Rattle.chain_upgrade.specs.Cuts.{row_from, cut_at, IsFalling, zeroed, closed_up, raised, taken_out, lowered}
 use Rattle.chain_upgrade.specs.Kept.{IsKept}
 use Rattle.chain_upgrade.proofs.CutLaws.{cut-low, position-short}
@@ -28,11 +28,11 @@ kept-new es room calls cuts no_es is no_calls new = rw (no_es, no_calls, new) (r
 
 -- what callers see of it
 pub is-standing : (es : List EngineParts) (room n : ℕ) (calls : List StandingCall) (cuts : List ℕ) → IsKept es room n calls cuts
-    → IsStandingChain (record { engines = es; attached = n; calls = calls; row = row_from 0 cuts (numbers_of calls) })
+    → IsStandingChain (record { engines = es; attached = n; calls = calls; row = row_from 0 cuts (seqs_of calls) })
 is-standing es room n calls cuts kept = record {
   stands = kept.stands;
-  row = row-numbers 0 cuts (numbers_of calls);
-  falls = row-falls 0 (length es) cuts (numbers_of calls) (position-short 0 (length es) cuts kept.short);
+  row = row-numbers 0 cuts (seqs_of calls);
+  falls = row-falls 0 (length es) cuts (seqs_of calls) (position-short 0 (length es) cuts kept.short);
 }
 
 pub kept-push : (es : List EngineParts) (room n : ℕ) (calls : List StandingCall) (cuts : List ℕ) (s : StandingCall)
@@ -132,24 +132,24 @@ module _ (es es' : List EngineParts) (room n p j : ℕ) (calls calls' : List Sta
 
 -- ---- what is read of a chain
 
-pub same-fall : (calls : List StandingCall) (cuts : List ℕ) → IsFalling (length calls) cuts → IsFalling (length (numbers_of calls)) cuts
-same-fall calls cuts falls = falls-more (length calls) (length (numbers_of calls)) cuts (omega (arith, length-map calls (λ (s : StandingCall). s.call.seq))) falls
+pub same-fall : (calls : List StandingCall) (cuts : List ℕ) → IsFalling (length calls) cuts → IsFalling (length (seqs_of calls)) cuts
+same-fall calls cuts falls = falls-more (length calls) (length (seqs_of calls)) cuts (omega (arith, length-map calls (λ (s : StandingCall). s.call.seq))) falls
 
 abbrev pub seen-of : List EngineParts → ℕ → List StandingCall → List ℕ → ChainParts
-seen-of es n calls cuts = record { engines = es; attached = n; calls = calls; row = row_from 0 cuts (numbers_of calls) }
+seen-of es n calls cuts = record { engines = es; attached = n; calls = calls; row = row_from 0 cuts (seqs_of calls) }
 
 pub pushed : (es : List EngineParts) (n : ℕ) (calls calls' : List StandingCall) (cuts : List ℕ) (s : StandingCall) (v : ChainParts)
     → seen-of es n calls cuts ≡ v → calls' ≡ calls ++ s ∷ [] → IsFalling (length calls) cuts
     → seen-of es n calls' cuts ≡ record { engines = v.engines; attached = v.attached; calls = v.calls ++ s ∷ []; row = v.row ++ (s.call.seq, 0) ∷ [] }
 pushed es n calls calls' cuts s v seen new falls =
-    let numbers : numbers_of (calls ++ s ∷ []) ≡ numbers_of calls ++ s.call.seq ∷ [] = map-append (λ (s : StandingCall). s.call.seq) calls (s ∷ []) in
-    let row : row_from 0 cuts (numbers_of (calls ++ s ∷ [])) ≡ row_from 0 cuts (numbers_of calls) ++ (s.call.seq, 0) ∷ [] =
-    ap (λ (seqs : List ℕ). row_from 0 cuts seqs) numbers ∙ row-push cuts (numbers_of calls) s.call.seq (same-fall calls cuts falls) in
+    let numbers : seqs_of (calls ++ s ∷ []) ≡ seqs_of calls ++ s.call.seq ∷ [] = map-append (λ (s : StandingCall). s.call.seq) calls (s ∷ []) in
+    let row : row_from 0 cuts (seqs_of (calls ++ s ∷ [])) ≡ row_from 0 cuts (seqs_of calls) ++ (s.call.seq, 0) ∷ [] =
+    ap (λ (seqs : List ℕ). row_from 0 cuts seqs) numbers ∙ row-push cuts (seqs_of calls) s.call.seq (same-fall calls cuts falls) in
     let core : seen-of es n (calls ++ s ∷ []) cuts ≡ record {
       engines = es;
       attached = n;
       calls = calls ++ s ∷ [];
-      row = row_from 0 cuts (numbers_of calls) ++ (s.call.seq, 0) ∷ [];
+      row = row_from 0 cuts (seqs_of calls) ++ (s.call.seq, 0) ∷ [];
     } =
     ap {B = ChainParts} (λ (row : Row). record { engines = es; attached = n; calls = calls ++ s ∷ []; row = row }) row in
     subst (λ (v : ChainParts). seen-of es n calls' cuts ≡ record { engines = v.engines; attached = v.attached; calls = v.calls ++ s ∷ []; row = v.row ++ (s.call.seq, 0) ∷ [] }) seen
@@ -159,17 +159,17 @@ pub cut-none : (es : List EngineParts) (n i : ℕ) (calls : List StandingCall) (
     → length (filter (λ call. nat_le i call.1) v.row) ≡ length calls
 cut-none es n zero calls cuts v seen is =
     subst (λ (v : ChainParts). length (filter (λ call. nat_le 0 call.1) v.row) ≡ length calls) seen
-    (all-count 0 cuts (numbers_of calls) ∙ length-map calls (λ (s : StandingCall). s.call.seq))
+    (all-count 0 cuts (seqs_of calls) ∙ length-map calls (λ (s : StandingCall). s.call.seq))
 cut-none es n (suc i) calls cuts v seen is = absurd (omega arith)
 
 pub cut-some : (es : List EngineParts) (n i : ℕ) (calls : List StandingCall) (cuts : List ℕ) (v : ChainParts) → seen-of es n calls cuts ≡ v → (i ≡ 0 → ⊥)
     → IsFalling (length calls) cuts → length (filter (λ call. nat_le i call.1) v.row) ≡ get_or cuts (i - 1) 0
 cut-some es n zero calls cuts v seen is falls = absurd (is refl)
 cut-some es n (suc p) calls cuts v seen is falls =
-    let low : get_or cuts p 0 ≤ length (numbers_of calls) = cut-low (length (numbers_of calls)) (suc p) cuts (same-fall calls cuts falls) in
+    let low : get_or cuts p 0 ≤ length (seqs_of calls) = cut-low (length (seqs_of calls)) (suc p) cuts (same-fall calls cuts falls) in
     let place : p ≡ suc p - 1 = omega arith in
     subst (λ (v : ChainParts). length (filter (λ call. nat_le (suc p) call.1) v.row) ≡ get_or cuts p 0) seen
-    (cut-count p cuts (numbers_of calls) (same-fall calls cuts falls) low)
+    (cut-count p cuts (seqs_of calls) (same-fall calls cuts falls) low)
     ∙ ap (λ (q : ℕ). get_or cuts q 0) place
 
 -- ---- the fields as the code leaves them

@@ -6,9 +6,9 @@ use Rattle.std.proofs.lemmas.Bool.{cases_eq, cases_lt}
 use Rattle.std.proofs.lemmas.Bool.Decides.{nat_tests}
 use Rattle.std.proofs.lemmas.List.{length-map}
 use Rattle.engine_core.specs.Engines.{EngineParts}
-use Rattle.engine_core.specs.Marks.{StandingCall}
+use Rattle.engine_core.specs.Marks.{StandingCall, seqs_of}
 use Rattle.engine_core.specs.Moves.{Row, first_at}
-use Rattle.chain_upgrade.specs.Chains.{ChainParts, IsAscending, numbers_of}
+use Rattle.chain_upgrade.specs.Chains.{ChainParts, IsAscending}
 use Rattle.chain_upgrade.specs.Cuts.{position_at, row_from, cut_at, IsFalling, IsShort, taken_out}
 use Rattle.chain_upgrade.proofs.CutLaws.{cut-low, position-between}
 use Rattle.chain_upgrade.proofs.Keeping.{cut-none, cut-some, same-fall, seen-of}
@@ -23,7 +23,7 @@ short-at n [] short = refl
 short-at zero (c ∷ cs) short = short.0
 short-at (suc n) (c ∷ cs) short = short-at n cs short
 
-top-same : (calls : List StandingCall) (cuts : List ℕ) (p : ℕ) → cut_at (length (numbers_of calls)) cuts p ≡ cut_at (length calls) cuts p
+top-same : (calls : List StandingCall) (cuts : List ℕ) (p : ℕ) → cut_at (length (seqs_of calls)) cuts p ≡ cut_at (length calls) cuts p
 top-same calls cuts p = ap (λ (top : ℕ). cut_at top cuts p) (length-map calls (λ (s : StandingCall). s.call.seq))
 
 -- ---- a chain with its view
@@ -41,7 +41,7 @@ module _ (es : List EngineParts) (n : ℕ) (calls : List StandingCall) (cuts : L
   -- the cuts of a position and of the next one are equal: no call stands there
   pub none-at : (p : ℕ) → cut_at (length calls) cuts p ≤ get_or cuts p 0 → first_at p v.row ≡ None
   none-at p le = subst (λ (v : ChainParts). first_at p v.row ≡ None) seen
-      (row-no-first p cuts (numbers_of calls) (same-fall calls cuts falls) (omega (arith, top-same calls cuts p)))
+      (row-no-first p cuts (seqs_of calls) (same-fall calls cuts falls) (omega (arith, top-same calls cuts p)))
 
   -- a place below the cut of a position is that of a call
   pub within-cut : (p j : ℕ) → j < cut_at (length calls) cuts p → j < length calls
@@ -51,7 +51,7 @@ module _ (es : List EngineParts) (n : ℕ) (calls : List StandingCall) (cuts : L
   pub first-there : (p j : ℕ) (s : StandingCall) → j ≡ get_or cuts p 0 → j < cut_at (length calls) cuts p → slice_get calls j ≡ Some s
       → first_at p v.row ≡ Some (s.call.seq, p)
   first-there p j s is below there = subst (λ (v : ChainParts). first_at p v.row ≡ Some (s.call.seq, p)) seen
-      (row-first j (length calls) p cuts (numbers_of calls) falls is below
+      (row-first j (length calls) p cuts (seqs_of calls) falls is below
       (omega (arith, within-cut p j below, length-map calls (λ (s : StandingCall). s.call.seq)))
       ∙ ap (λ (seq : ℕ). Some (seq, p)) (number-at calls j s there))
 
@@ -59,12 +59,12 @@ module _ (es : List EngineParts) (n : ℕ) (calls : List StandingCall) (cuts : L
   pub stands-there : (j : ℕ) (s : StandingCall) → j < length calls → slice_get calls j ≡ Some s
       → slice_get v.row j ≡ Some (s.call.seq, position_at j cuts)
   stands-there j s inside there = subst (λ (v : ChainParts). slice_get v.row j ≡ Some (s.call.seq, position_at j cuts)) seen
-      (row-at j cuts (numbers_of calls) (omega (arith, length-map calls (λ (s : StandingCall). s.call.seq)))
+      (row-at j cuts (seqs_of calls) (omega (arith, length-map calls (λ (s : StandingCall). s.call.seq)))
       ∙ ap (λ (seq : ℕ). Some (seq, position_at j cuts)) (number-at calls j s there))
 
   pub none-stands : (j : ℕ) → length calls ≤ j → slice_get v.row j ≡ None
   none-stands j past = subst (λ (v : ChainParts). slice_get v.row j ≡ None) seen
-      (row-none-at j cuts (numbers_of calls) (omega (arith, length-map calls (λ (s : StandingCall). s.call.seq))))
+      (row-none-at j cuts (seqs_of calls) (omega (arith, length-map calls (λ (s : StandingCall). s.call.seq))))
 
   -- the first at a position stands behind all calls of later ones
   pub within-seen : (p : ℕ) → get_or cuts p 0 < cut_at (length calls) cuts p → get_or cuts p 0 < length v.calls
@@ -114,21 +114,21 @@ none-counted n (x ∷ xs) none = elim (cases_lt x.1 n) [
 pub row-ready : (es : List EngineParts) (n : ℕ) (calls : List StandingCall) (cuts : List ℕ) (v : ChainParts) (s : StandingCall)
     → seen-of es n calls cuts ≡ v → IsFalling (length calls) cuts → IsShort (length es) cuts → 0 < cut_at (length calls) cuts (length es)
     → slice_get calls 0 ≡ Some s
-    → v.row ≡ (s.call.seq, length es) ∷ row_from 0 (taken_out 0 cuts) (numbers_of (remove calls 0))
+    → v.row ≡ (s.call.seq, length es) ∷ row_from 0 (taken_out 0 cuts) (seqs_of (remove calls 0))
 row-ready es n [] cuts v s seen falls short below there = absurd cc
 row-ready es n (t ∷ ts) cuts v s seen falls short below there =
     let same : t ≡ s = cc in
     let none : get_or cuts (length es) 0 ≤ 0 = omega (arith, short-at (length es) cuts short) in
     let position : position_at 0 cuts ≡ length es = position-between 0 (length (t ∷ ts)) (length es) cuts falls none below in
-    subst (λ (v : ChainParts). v.row ≡ (s.call.seq, length es) ∷ row_from 0 (taken_out 0 cuts) (numbers_of ts)) seen
-    (row-rest cuts t.call.seq (numbers_of ts)
-    ∙ (ap (λ (q : ℕ). (t.call.seq, q) ∷ row_from 0 (taken_out 0 cuts) (numbers_of ts)) position
-    ∙ ap (λ (t : StandingCall). (t.call.seq, length es) ∷ row_from 0 (taken_out 0 cuts) (numbers_of ts)) same))
+    subst (λ (v : ChainParts). v.row ≡ (s.call.seq, length es) ∷ row_from 0 (taken_out 0 cuts) (seqs_of ts)) seen
+    (row-rest cuts t.call.seq (seqs_of ts)
+    ∙ (ap (λ (q : ℕ). (t.call.seq, q) ∷ row_from 0 (taken_out 0 cuts) (seqs_of ts)) position
+    ∙ ap (λ (t : StandingCall). (t.call.seq, length es) ∷ row_from 0 (taken_out 0 cuts) (seqs_of ts)) same))
 
 -- ---- two calls of one number
 
 numbers-within : (calls : List StandingCall) (k : ℕ) (s : StandingCall) → k < length calls → get_or calls k s ≡ s
-    → get_or (numbers_of calls) k 0 ≡ s.call.seq
+    → get_or (seqs_of calls) k 0 ≡ s.call.seq
 numbers-within [] k s inside at = absurd (omega arith)
 numbers-within (t ∷ ts) zero s inside at = ap (λ (t : StandingCall). t.call.seq) at
 numbers-within (t ∷ ts) (suc k) s inside at = numbers-within ts k s (omega arith) at
@@ -141,12 +141,12 @@ same-there (u ∷ us) (suc k) zero s t same inside at is = absurd (omega arith)
 same-there (u ∷ us) (suc k) (suc j) s t same inside at is = same-there us k j s t (omega arith) (omega arith) at is
 
 -- they are one
-pub one-call : (calls : List StandingCall) (j : ℕ) (s t : StandingCall) → IsAscending (numbers_of calls) → slice_get calls j ≡ Some t
+pub one-call : (calls : List StandingCall) (j : ℕ) (s t : StandingCall) → IsAscending (seqs_of calls) → slice_get calls j ≡ Some t
     → Contains calls s → s.call.seq ≡ t.call.seq → s ≡ t
 one-call calls j s t ascends is has same = elim (cases_eq has.0 j) [
   | inl at ↦ same-there calls has.0 j s t at has.1 has.2 is
   | inr other ↦
       let long = length-map calls (λ (s : StandingCall). s.call.seq) in
-      absurd (apart (numbers_of calls) has.0 j ascends other (omega (arith, has.1)) (omega (arith, inside-at calls j t is))
+      absurd (apart (seqs_of calls) has.0 j ascends other (omega (arith, has.1)) (omega (arith, inside-at calls j t is))
       (numbers-within calls has.0 s has.1 has.2 ∙ (same ∙ sym (number-at calls j t is))))
 ]

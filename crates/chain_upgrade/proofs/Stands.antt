@@ -7,9 +7,9 @@ use Rattle.std.proofs.lemmas.List.Elements.{All-append, All-cons, All-drop, All-
 use Rattle.std.proofs.lemmas.Option.{slice_get-get_or}
 use Rattle.engine_core.specs.Chains.{Entry, IsChain}
 use Rattle.engine_core.specs.Engines.{EngineParts}
-use Rattle.engine_core.specs.Marks.{IsTrueFor, StandingCall, note_of}
+use Rattle.engine_core.specs.Marks.{HasMarksUpTo, IsTrueFor, StandingCall, note_of, seqs_of}
 use Rattle.engine_core.specs.Policies.{IsPolicy}
-use Rattle.chain_upgrade.specs.Chains.{HasMarksUpTo, StandsOn, numbers_of}
+use Rattle.chain_upgrade.specs.Chains.{StandsOn}
 use Rattle.chain_upgrade.proofs.RowLaws.{ascends-end, ascends-without}
 
 pub insert-map : {X Y : Type 0} (f : X → Y) (xs : List X) (i : ℕ) (x : X) → map f (insert xs i x) ≡ insert (map f xs) i (f x)
@@ -24,7 +24,7 @@ All-insert P xs i x all it = All-append P (take i xs) (x ∷ drop i xs) (All-tak
 All-remove : {X : Type 0} (P : X → Type 0) (xs : List X) (i : ℕ) → All P xs → All P (remove xs i)
 All-remove P xs i all = All-append P (take i xs) (drop (suc i) xs) (All-take P i xs all) (All-drop P (suc i) xs all)
 
-pub number-below : (calls : List StandingCall) (i top : ℕ) → All (λ t. t.call.seq < top) calls → i < length (numbers_of calls) → get_or (numbers_of calls) i 0 < top
+pub number-below : (calls : List StandingCall) (i top : ℕ) → All (λ t. t.call.seq < top) calls → i < length (seqs_of calls) → get_or (seqs_of calls) i 0 < top
 number-below [] i top all inside = absurd (omega arith)
 number-below (t ∷ ts) zero top all inside = All-head (λ t. t.call.seq < top) t ts all
 number-below (t ∷ ts) (suc i) top all inside = number-below ts i top (All-tail (λ t. t.call.seq < top) t ts all) (omega arith)
@@ -51,7 +51,7 @@ stands-push es n calls s law st few none less = record {
   policies = st.policies;
   few = omega (arith, length-append calls (s ∷ []));
   ascend = rw (map-append (λ (t : StandingCall). t.call.seq) calls (s ∷ []))
-      (ascends-end (numbers_of calls) s.call.seq st.ascend (λ i inside. number-below calls i s.call.seq less inside));
+      (ascends-end (seqs_of calls) s.call.seq st.ascend (λ i inside. number-below calls i s.call.seq less inside));
   marks = All-push (λ t. HasMarksUpTo n t) calls s st.marks (λ attach above. rw none refl);
   true_for = λ k d inside. All-push (λ t. IsTrueFor (get_or es k d).entry t) calls s (st.true_for k d inside) (law (get_or es k d).entry s (rw none refl));
 }
@@ -61,7 +61,7 @@ stands-without es n calls i st = record {
   chain = st.chain;
   policies = st.policies;
   few = let few = st.few in omega (arith, length-append (take i calls) (drop (suc i) calls), length-take i calls, length-drop (suc i) calls);
-  ascend = rw (remove-map (λ (t : StandingCall). t.call.seq) calls i) (ascends-without (numbers_of calls) i st.ascend);
+  ascend = rw (remove-map (λ (t : StandingCall). t.call.seq) calls i) (ascends-without (seqs_of calls) i st.ascend);
   marks = All-remove (λ t. HasMarksUpTo n t) calls i st.marks;
   true_for = λ k d inside. All-remove (λ t. IsTrueFor (get_or es k d).entry t) calls i (st.true_for k d inside);
 }
@@ -125,7 +125,7 @@ same-map f [] p x y is same = refl
 same-map f (z ∷ zs) zero x y is same = let there : z ≡ x = cc in cc
 same-map f (z ∷ zs) (suc p) x y is same = let rest = same-map f zs p x y is same in cc
 
-pub number-at : (calls : List StandingCall) (j : ℕ) (s : StandingCall) → slice_get calls j ≡ Some s → get_or (numbers_of calls) j 0 ≡ s.call.seq
+pub number-at : (calls : List StandingCall) (j : ℕ) (s : StandingCall) → slice_get calls j ≡ Some s → get_or (seqs_of calls) j 0 ≡ s.call.seq
 number-at [] j s is = absurd cc
 number-at (t ∷ ts) zero s is = let there : t ≡ s = cc in ap (λ (t : StandingCall). t.call.seq) there
 number-at (t ∷ ts) (suc j) s is = number-at ts j s is

@@ -7,7 +7,7 @@ use Rattle.mrpc_table.specs.Valid.{AreDistinct}
 use Rattle.mrpc_table.specs.declared.call.Call.{Call}
 use Rattle.engine_core.specs.Chains.{Entry, attachments_of}
 use Rattle.engine_core.specs.Engines.{EngineParts}
-use Rattle.engine_core.specs.Marks.{IsAllowing, IsTrueFor, StandingCall, is_allowed, note_of, past_of}
+use Rattle.engine_core.specs.Marks.{HasMarksUpTo, IsAllowing, IsTrueFor, StandingCall, is_allowed, note_of, past_of, seqs_of}
 use Rattle.engine_core.specs.Policies.{IsPolicy}
 use Rattle.engine_core.specs.Turns.{ComesOut, form_after}
 use Rattle.engine_core.specs.Working.{LeavesCall, Works}
@@ -15,7 +15,7 @@ use Rattle.engine_core.specs.declared.outcome.Outcome.{Outcome}
 use Rattle.engine_core.specs.declared.outcome.Outcome.TheVariants.{Passed, Held, Refused, Redacted}
 use Rattle.engine_core.specs.declared.policy.Policy.{Policy}
 use Rattle.engine_core.specs.declared.policy.Policy.TheVariants.{Access, Rate, Quota, Count, Redact}
-use Rattle.chain_upgrade.specs.Chains.{HasMarksUpTo, StandsOn, numbers_of}
+use Rattle.chain_upgrade.specs.Chains.{StandsOn}
 use Rattle.chain_upgrade.proofs.Stands.{same-map}
 
 pub All-at : {X : Type 0} (P : X → Type 0) (xs : List X) (p : ℕ) (x : X) → All P xs → slice_get xs p ≡ Some x → P x
@@ -106,8 +106,8 @@ module _ (es : List EngineParts) (n p j moment : ℕ) (calls : List StandingCall
   same-entries : map (λ e. e.entry) es' ≡ map (λ e. e.entry) es
   same-entries = ap (λ (xs : List EngineParts). map (λ e. e.entry) xs) w.others ∙ same-map (λ (e : EngineParts). e.entry) es p w.engine w.engine' w.is_engine w.leaves_engine.entry
 
-  pub same-numbers : numbers_of calls' ≡ numbers_of calls
-  same-numbers = ap numbers_of w.other_calls ∙ same-map (λ (s : StandingCall). s.call.seq) calls j w.call w.call'
+  pub same-numbers : seqs_of calls' ≡ seqs_of calls
+  same-numbers = ap seqs_of w.other_calls ∙ same-map (λ (s : StandingCall). s.call.seq) calls j w.call w.call'
       w.is_call (number-kept w.engine.entry.policy outcome w.call.call w.call'.call w.leaves_call)
 
   policy-left : IsPolicy w.engine'.entry.policy

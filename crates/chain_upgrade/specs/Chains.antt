@@ -1,13 +1,15 @@
 -- A chain as contracts see it: its engines and the calls that stand on it, never queues (this project's own).
-use Rattle.std.specs.Prelude.{◌≡◌, ℕ, ◌-◌, ◌<◌, ◌≤◌, max, List, [], ◌∷◌, ◌++◌, map, length, set, slice_get, All, Option, Some, None}
+use Rattle.std.specs.Prelude.{◌≡◌, ℕ, ◌<◌, ◌≤◌, List, [], ◌∷◌, ◌++◌, map, length, set, slice_get, All, Option, Some, None}
 use Rattle.engine_core.specs.Chains.{Chain, IsChain, Refusal, no_such, taken, no_place, full, other_kind}
+use Rattle.engine_core.specs.Engines as parts
 use Rattle.engine_core.specs.Engines.{EngineParts}
 use Rattle.engine_core.specs.declared.call_row.TheConstants.{MAX_CALLS}
-use Rattle.engine_core.specs.Marks.{IsTrueFor, StandingCall, note_of, past_of}
-use Rattle.engine_core.specs.Moves.{Row, goes_on, without_call, begin_again}
-use Rattle.engine_core.specs.Policies.{IsPolicy, level_at}
+use Rattle.engine_core.specs.Marks.{HasMarksUpTo, IsTrueFor, StandingCall, past_of, seqs_of}
+use Rattle.engine_core.specs.Moves.{Row, first_at, goes_on, without_call, begin_again}
+use Rattle.engine_core.specs.Policies.{IsPolicy}
 use Rattle.engine_core.specs.Turns.{ComesOut}
 use Rattle.engine_core.specs.Working.{IsTurn, KeepsMarksOf, LeavesCall, LeavesEngine, LeavesMarks}
+use Rattle.engine_core.specs.declared.outcome.Noted.TheVariants.{Nothing}
 use Rattle.engine_core.specs.declared.outcome.Outcome.{Outcome}
 use Rattle.engine_core.specs.declared.outcome.Outcome.TheVariants as outcomes
 use Rattle.chain_upgrade.specs.declared.turned.Turned.{Turned}
@@ -25,19 +27,7 @@ pub record ChainParts : Type 0 where
 
 -- the entries of the engines, with the number of attachments
 abbrev pub chain_of : ChainParts → Chain
-chain_of c = record { entries = map (λ e. e.entry) c.engines; attached = c.attached }
-
--- an engine that is shown a moment: time fills its bucket, and a lower moment counts as the last one
-abbrev pub clocked : ℕ → EngineParts → EngineParts
-clocked now e = record {
-  entry = e.entry;
-  level = level_at e.entry.policy e.level (now - e.last);
-  last = max e.last now;
-}
-
--- the numbers of calls
-abbrev pub numbers_of : List StandingCall → List ℕ
-numbers_of calls = map (λ s. s.call.seq) calls
+chain_of c = parts.chain_of c.engines c.attached
 
 -- numbers ascend, from above a number
 abbrev pub IsAbove : ℕ → List ℕ → Type 0
@@ -54,18 +44,14 @@ abbrev pub IsFallingFrom : ℕ → Row → Type 0
 IsFallingFrom position [] = Unit {0}
 IsFallingFrom position (call ∷ row) = (call.1 ≤ position) × IsFallingFrom call.1 row
 
--- the marks of a call are of attachments up to this one
-abbrev pub HasMarksUpTo : ℕ → StandingCall → Type 0
-HasMarksUpTo attached s = (attach : ℕ) → attached < attach → note_of s.marks attach ≡ None
-
 -- these calls may stand on these engines, of so many attachments
 pub record StandsOn (engines : List EngineParts) (attached : ℕ) (calls : List StandingCall) : Type 0 where
   -- at most eight entries, whose names and attachments are distinct
-  pub chain : IsChain (record { entries = map (λ e. e.entry) engines; attached = attached })
+  pub chain : IsChain (parts.chain_of engines attached)
   pub policies : All (λ e. IsPolicy e.entry.policy) engines
   -- at most 64 calls, by ascending number
   pub few : length calls ≤ MAX_CALLS
-  pub ascend : IsAscending (numbers_of calls)
+  pub ascend : IsAscending (seqs_of calls)
   -- marks are of attachments that were, and true for each entry
   pub marks : All (λ s. HasMarksUpTo attached s) calls
   pub true_for : All (λ e. All (λ s. IsTrueFor e.entry s) calls) engines
@@ -74,7 +60,7 @@ pub record StandsOn (engines : List EngineParts) (attached : ℕ) (calls : List 
 pub record IsStandingChain (c : ChainParts) : Type 0 where
   pub stands : StandsOn c.engines c.attached c.calls
   -- the row has these calls, and no call stands at a later position than one of a smaller number
-  pub row : map (λ call. call.0) c.row ≡ numbers_of c.calls
+  pub row : map (λ call. call.0) c.row ≡ seqs_of c.calls
   pub falls : IsFallingFrom (length c.engines) c.row
 
 -- ---- turns
@@ -124,6 +110,14 @@ pub record HasTurn (before : ChainParts) (position moment seq : ℕ) (outcome : 
   pub leaves_engine : LeavesEngine outcome engine engine'
   pub leaves_call : LeavesCall engine.entry.policy outcome call.call call'.call
   pub leaves_marks : LeavesMarks engine.entry outcome met call'
+
+-- the first call at a position goes on, by a turn in which nothing was noted
+pub record PassesUnnoted (before : ChainParts) (position : ℕ) (after : ChainParts) : Type 0 where
+  pub seq : ℕ
+  pub first : first_at position before.row ≡ Some (seq, position)
+  pub turn : (moment : ℕ) → HasTurn before position moment seq (outcomes.Passed Nothing) after
+  pub row : after.row ≡ goes_on seq before.row
+  pub attached : after.attached ≡ before.attached
 
 -- ---- faults
 

@@ -1,6 +1,7 @@
 //! The chain of a connection.
 
 ghost use Rattle.std.specs.Prelude.{◌≡◌, ◌+◌, ◌-◌, ◌<◌, ◌≤◌, ◌^◌, ◌↔◌, ◌++◌, ◌∷◌, [], ℕ, List, All, Contains, IfErr, IfNone, IfOk, IfSome, IsErr, IsSomeAnd, MatchOption, None, OnErr, OnOk, Some, filter, insert, length, map, max, nat_le, remove, set, slice_get};
+ghost use Rattle.std.specs.Bool.{OnFalse, OnTrue};
 ghost use Rattle.mrpc_table.specs.Calls.{IsCallOf};
 ghost use Rattle.engine_core.specs.declared.op.Op.{Op};
 
@@ -9,7 +10,7 @@ use crate::engines::{clock_all, may_attach, place_of, put};
 use crate::fault::{ChainFault, PushFault};
 use crate::turned::Turned;
 use engine_core::{
-    CallRow, Engine, MAX_CALLS, MAX_ENGINES, Outcome, Policy, Standing, change_is_changed,
+    CallRow, Engine, MAX_CALLS, MAX_ENGINES, Noted, Outcome, Policy, Standing, change_is_changed,
     stays_chain, unmarked_is_true,
 };
 use mrpc_base::Tickets;
@@ -28,7 +29,8 @@ pub struct Chain {
 
 impl Model for Chain {
     ghost use Rattle.std.specs.Prelude.{vec_capacity};
-    ghost use Rattle.chain_upgrade.specs.Chains.{ChainParts, numbers_of};
+    ghost use Rattle.engine_core.specs.Marks.{seqs_of};
+    ghost use Rattle.chain_upgrade.specs.Chains.{ChainParts};
     ghost use Rattle.chain_upgrade.specs.Cuts.{row_from};
     ghost use Rattle.chain_upgrade.specs.Kept.{IsKept};
 
@@ -43,7 +45,7 @@ impl Model for Chain {
       engines = c.engines.items;
       attached = c.attached;
       calls = c.row;
-      row = row_from 0 c.cuts.behind (numbers_of c.row);
+      row = row_from 0 c.cuts.behind (seqs_of c.row);
     } };
 
     ghost invariant = { λ c. IsKept c.engines.items (vec_capacity c.engines) c.attached c.row c.cuts.behind };
@@ -55,14 +57,16 @@ impl Chain {
     ghost use Rattle.engine_core.specs.declared.call_row.TheConstants.{MAX_CALLS};
     ghost use Rattle.engine_core.specs.Answers.{Answers, hold};
     ghost use Rattle.engine_core.specs.Chains.{Changes, Refuses, new_entry, upgraded};
-    ghost use Rattle.engine_core.specs.Engines.{EngineParts, HasPast};
+    ghost use Rattle.engine_core.specs.Engines.{EngineParts, HasPast, clocked};
     ghost use Rattle.engine_core.specs.Marks.{StandingCall, past_of};
     ghost use Rattle.engine_core.specs.Moves.{back_to, first_at, moved_up, place_of as place_in};
     ghost use Rattle.engine_core.specs.Policies.{IsPolicy, KnowsTenantOf, first_level, level_under};
     ghost use Rattle.engine_core.specs.Turns.{noted_in};
+    ghost use Rattle.engine_core.specs.declared.outcome.Noted.TheVariants.{Nothing};
+    ghost use Rattle.engine_core.specs.declared.outcome.Outcome.TheVariants.{Passed};
     ghost use Rattle.engine_core.specs.Working.{LeavesTickets, Works};
     ghost use Rattle.chain_upgrade.specs.Kept.{calls_left};
-    ghost use Rattle.chain_upgrade.specs.Chains.{HasTurn, IsStandingChain, OnTurn, chain_of, clocked, refusal_in, row_after};
+    ghost use Rattle.chain_upgrade.specs.Chains.{HasTurn, IsStandingChain, OnTurn, PassesUnnoted, chain_of, refusal_in, row_after};
 
     /// A chain without an engine and without a call. It takes the room for all of them, so no later call of a chain
     /// takes memory.
@@ -331,8 +335,28 @@ impl Chain {
 
     // ---- turns
 
-    /// The engine at a position has a turn with the first call there. Where the call doesn't pass by a mark that it has of
-    /// the engine, the marks of engines that have left are taken away first. It takes no memory.
+    /// Has the first call at a position go on where it passes the engine there and nothing is to be noted of it, which is a
+    /// turn. Where it answers false all is as before, and a turn decides: so it is with a call whose mark would find no
+    /// room, and at each quota and redact, which look at a call anew each time.
+    pub fn pass_unnoted(&mut self, at: u32, table: &Table) -> bool
+        requires at { at < length self.old.engines }
+        requires calls { All (λ s. IsCallOf table.now s.call) self.old.calls }
+        ensures passed { OnTrue result (PassesUnnoted self.old at self.new) }
+        ensures as_before { OnFalse result (self.new ≡ self.old) }
+    {
+        let Some(place) = self.first_place(at) else {
+            return false;
+        };
+        self.is_chain();
+        if !self.passes_unnoted(place, at, table) {
+            return false;
+        }
+        self.settle(place, at, Outcome::Passed(Noted::Nothing));
+        true
+    }
+
+    /// The engine at a position has a turn with the first call there. Where the call has no room for a mark of the engine,
+    /// those of engines that have left are taken away first. It takes no memory.
     pub fn turn<Q: Tickets>(&mut self, at: u32, table: &Table, now: u64, tickets: &mut Q) -> Turned
         requires at { at < length self.old.engines }
         requires calls { All (λ s. IsCallOf table.now s.call) self.old.calls }
@@ -372,6 +396,22 @@ impl Chain {
         } else {
             None
         }
+    }
+
+    // Whether the call at a place passes the engine at a position and nothing is to be noted of it.
+    fn passes_unnoted(&mut self, place: u32, at: u32, table: &Table) -> bool
+        requires place { place < length self.old.calls }
+        requires at { at < length self.old.engines }
+        requires calls { All (λ s. IsCallOf table.now s.call) self.old.calls }
+        ensures works { OnTrue result ((moment : ℕ) → Works self.old.engines self.old.calls at place moment
+            (Passed Nothing) self.new.engines self.new.calls) }
+        ensures as_before { OnFalse result (self.new ≡ self.old) }
+        ensures attached { self.new.attached ≡ self.old.attached }
+        ensures row { self.new.row ≡ self.old.row }
+    {
+        let engines = self.engines.as_slice();
+        self.row
+            .pass_unnoted(place as usize, engines, at as usize, table)
     }
 
     // The engine at a position works on the call at a place.

@@ -4,7 +4,8 @@ ghost use Rattle.std.specs.Prelude.{◌≡◌, ◌<◌, ◌≤◌, ℕ, List, If
 ghost use Rattle.engine_core.specs.Chains.{IsAgainst, Refusal, Refuses, is_named};
 ghost use Rattle.engine_core.specs.declared.policy.Policy.{Policy};
 ghost use Rattle.engine_core.specs.declared.op.Op.{Op};
-ghost use Rattle.chain_upgrade.specs.Chains.{clocked, refusal_in};
+ghost use Rattle.engine_core.specs.Engines.{clocked};
+ghost use Rattle.chain_upgrade.specs.Chains.{refusal_in};
 
 use crate::fault::ChainFault;
 use engine_core::{Engine, MAX_ENGINES};

@@ -4,29 +4,29 @@ use Rattle.std.specs.Prelude.{All, option_map}
 use Rattle.std.proofs.lemmas.List.Elements.{All-nil, All-cons, All-head, All-tail, All-weaker, All-append}
 use Rattle.mrpc_table.specs.Valid.{AreDistinct}
 use Rattle.engine_core.specs.Chains.{Entry, IsChain, attachments_of, is_named, names_of}
-use Rattle.engine_core.specs.Marks.{StandingCall}
+use Rattle.engine_core.specs.Marks.{StandingCall, seqs_of}
 use Rattle.engine_core.specs.declared.outcome.Outcome.{Outcome}
 use Rattle.engine_core.specs.declared.outcome.Outcome.TheVariants.{Passed, Held, Refused, Redacted}
-use Rattle.chain_upgrade.specs.Chains.{IsAbove, IsAscending, calls_after, numbers_of}
+use Rattle.chain_upgrade.specs.Chains.{IsAbove, IsAscending, calls_after}
 use Rattle.call_history.specs.Behind.{Behind, chain, policy_of}
 use Rattle.conn_core.proofs.Lists.{at-get}
 use Rattle.conn_core.proofs.Told.{equal-name, other-name}
 
 -- ---- calls
 
-all-above : (low : ℕ) (calls : List StandingCall) → IsAbove low (numbers_of calls) → All (λ s. low < s.call.seq) calls
+all-above : (low : ℕ) (calls : List StandingCall) → IsAbove low (seqs_of calls) → All (λ s. low < s.call.seq) calls
 all-above low [] h = All-nil (λ (s : StandingCall). low < s.call.seq)
 all-above low (s ∷ calls) h =
     All-cons (λ (s : StandingCall). low < s.call.seq) s calls h.0
     (All-weaker (λ (t : StandingCall). s.call.seq < t.call.seq) (λ (t : StandingCall). low < t.call.seq) (λ t less.
     omega (arith, less, h.0)) calls (all-above s.call.seq calls h.1))
 
-above-all : (low : ℕ) (calls : List StandingCall) → IsAbove low (numbers_of calls) → All (λ s. s.call.seq ≢ low) calls
+above-all : (low : ℕ) (calls : List StandingCall) → IsAbove low (seqs_of calls) → All (λ s. s.call.seq ≢ low) calls
 above-all low calls h = All-weaker (λ (s : StandingCall). low < s.call.seq) (λ (s : StandingCall). s.call.seq ≢ low)
     (λ s less same. omega (arith, less, same)) calls (all-above low calls h)
 
 apart-above : (low : ℕ) (front : List StandingCall) (call : StandingCall) (back : List StandingCall)
-    → IsAbove low (numbers_of (front ++ call ∷ back))
+    → IsAbove low (seqs_of (front ++ call ∷ back))
     → (low < call.call.seq) × All (λ s. s.call.seq ≢ call.call.seq) front × All (λ s. s.call.seq ≢ call.call.seq) back
 apart-above low [] call back h =
     (h.0, All-nil (λ (s : StandingCall). s.call.seq ≢ call.call.seq), above-all call.call.seq back h.1)
@@ -40,7 +40,7 @@ apart-above low (x ∷ front) call back h =
 
 -- the others have other numbers
 pub calls-apart : (front : List StandingCall) (call : StandingCall) (back : List StandingCall)
-    → IsAscending (numbers_of (front ++ call ∷ back))
+    → IsAscending (seqs_of (front ++ call ∷ back))
     → All (λ s. s.call.seq ≢ call.call.seq) front × All (λ s. s.call.seq ≢ call.call.seq) back
 calls-apart [] call back h =
     (All-nil (λ (s : StandingCall). s.call.seq ≢ call.call.seq), above-all call.call.seq back h)

@@ -1,5 +1,5 @@
 -- Which tickets a turn draws.
-use Rattle.std.proofs.Common.{◌≡◌, ℕ, ◌<◌, false, ◌&&◌, ◌==◌, cond, inl, inr, List, [], ◌∷◌, ◌++◌, refl, ap, sym, ◌∙◌, subst}
+use Rattle.std.proofs.Common.{◌≡◌, ℕ, ◌<◌, false, ◌&&◌, ◌==◌, cond, inl, inr, List, [], ◌∷◌, ◌++◌, refl, ap, reverse, sym, ◌∙◌, subst}
 use Rattle.std.specs.Prelude.{IfSome, IsSomeAnd, Option, Some, None}
 use Rattle.std.specs.Option.{option_map_or}
 use Rattle.std.proofs.lemmas.Bool.{eq-eqb, ne_eqb, and_from, and_left, and_right, cases_eq}
@@ -17,6 +17,7 @@ use Rattle.engine_core.specs.declared.policy.Policy.TheVariants.{Access, Rate, Q
 use Rattle.call_history.specs.Behind.{Behind, policy_of}
 use Rattle.call_history.specs.Events.{Course, note_behind, turned}
 use Rattle.call_history.specs.Tickets.{is_quota_of, tickets_behind}
+use Rattle.call_history.specs.declared.happening.Happening.{Happening}
 use Rattle.conn_core.specs.Connections.{Connection, behind}
 use Rattle.conn_core.specs.Steps.{Draws, DrawsTickets}
 
@@ -69,6 +70,19 @@ draws-by : (tenant window : ℕ) (before after : Connection) (more : List ℕ) (
 draws-by tenant window before after more drawn None tickets adds = tt
 draws-by tenant window before after more None (Some now) tickets adds = adds
 draws-by tenant window before after more (Some earlier) (Some now) tickets adds = (more, tickets, adds)
+
+-- where nothing has happened, nothing was drawn
+pub draws-unnoted : {Q : Type 0} (Knows : Q → ℕ → Type 0) (drawn_of : Q → ℕ → ℕ → Option (List ℕ)) (Since : Q → Q
+    → Type 0) (a b : Connection) (x : Q) → b.happenings ≡ a.happenings → DrawsTickets Knows drawn_of Since a b x x
+draws-unnoted Knows drawn_of Since a b x same = record {
+  drawn = λ tenant window known within.
+      draws-by tenant window a b [] (drawn_of x tenant window) (drawn_of x tenant window)
+      (ap (λ (hs : List Happening). tickets_behind tenant window (reverse hs)) same
+      ∙ sym (append-nil (tickets_behind tenant window (behind a))))
+      (adds-none (drawn_of x tenant window) (drawn_of x tenant window) refl);
+  knows = λ tenant known. known;
+  since = λ first h. h;
+}
 
 -- the draw of a turn, for one tenant and window
 adds-told : {Q : Type 0} (Knows : Q → ℕ → Type 0) (drawn_of : Q → ℕ → ℕ → Option (List ℕ)) (Since : Q → Q

@@ -5,10 +5,10 @@ use Rattle.std.specs.Prelude.{All, Some}
 use Rattle.std.proofs.lemmas.List.{append_assoc, append-nil}
 use Rattle.std.proofs.lemmas.List.Elements.{All-nil, All-tail, All-map}
 use Rattle.engine_core.specs.Chains.{Chain, Entry, IsChain}
-use Rattle.engine_core.specs.Engines.{EngineParts}
-use Rattle.engine_core.specs.Marks.{StandingCall, past_of}
+use Rattle.engine_core.specs.Engines.{EngineParts, clocked}
+use Rattle.engine_core.specs.Marks.{StandingCall, past_of, seqs_of}
 use Rattle.engine_core.specs.Policies.{level_at}
-use Rattle.chain_upgrade.specs.Chains.{ChainParts, chain_of, clocked, numbers_of}
+use Rattle.chain_upgrade.specs.Chains.{ChainParts, chain_of}
 use Rattle.call_history.specs.Behind.{Behind, chain, filled, form, level, moment, noted, policy_of, taken}
 use Rattle.call_history.specs.Events.{refused_for_link}
 use Rattle.call_history.specs.declared.happening.Cause.TheVariants as cause
@@ -120,14 +120,14 @@ fits-sent conn seq bytes past c c' s fits calls engines attached = record {
 -- ---- the end of a link
 
 pub failure-is : (calls : List StandingCall) (ts : List Taken) (h : List Happening)
-    → numbers_of calls ≡ map (λ t. t.seq) ts
+    → seqs_of calls ≡ map (λ t. t.seq) ts
     → reverse (h ++ told_failure calls) ≡ refused_for_link ts (reverse h)
 failure-is [] [] h same = ap reverse (append-nil h)
 failure-is [] (t ∷ ts) h same = absurd cc
 failure-is (s ∷ calls) [] h same = absurd cc
 failure-is (s ∷ calls) (t ∷ ts) h same =
     let number : s.call.seq ≡ t.seq = cc in
-    let rest : numbers_of calls ≡ map (λ (t : Taken). t.seq) ts = cc in
+    let rest : seqs_of calls ≡ map (λ (t : Taken). t.seq) ts = cc in
     ap reverse (sym (append_assoc h (Refused s.call.seq cause.Transport ∷ []) (told_failure calls)))
     ∙ failure-is calls ts (h ++ Refused s.call.seq cause.Transport ∷ []) rest
     ∙ ap (refused_for_link ts)

@@ -9,10 +9,10 @@ use Rattle.std.proofs.lemmas.List.Elements.{All-head, All-map, All-nil, All-tail
 use Rattle.mrpc_table.specs.declared.table.Table.{Table}
 use Rattle.frame_transport.specs.declared.format.TheConstants.{HEADER_LEN}
 use Rattle.engine_core.specs.Chains.{Chain, IsChain}
-use Rattle.engine_core.specs.Engines.{EngineParts}
-use Rattle.engine_core.specs.Marks.{StandingCall}
+use Rattle.engine_core.specs.Engines.{EngineParts, clocked}
+use Rattle.engine_core.specs.Marks.{StandingCall, seqs_of}
 use Rattle.engine_core.specs.Moves.{Row, first_at, without_call}
-use Rattle.chain_upgrade.specs.Chains.{ChainParts, IsAscending, IsStandingChain, chain_of, clocked, numbers_of}
+use Rattle.chain_upgrade.specs.Chains.{ChainParts, IsAscending, IsStandingChain, chain_of}
 use Rattle.call_history.specs.Behind.{Behind, chain, form, moment, standing, taken}
 use Rattle.call_history.specs.Events.{Comes, Course, Event, IsCourse, IsReady, fails, is_away, is_sent, link_failed, refused_for_link, rises, sends, shows, stays, turns_away}
 use Rattle.call_history.specs.Records.{Kept}
@@ -173,12 +173,12 @@ others-stay seq (call ∷ row) apart =
 first-leaves : (c c' : ChainParts) (s : StandingCall) (place : ℕ) → IsStandingChain c → c.calls ≡ s ∷ c'.calls
     → c.row ≡ (s.call.seq, place) ∷ c'.row → c'.row ≡ without_call s.call.seq c.row
 first-leaves c c' s place stands calls row =
-    let ascend : IsAscending (numbers_of (s ∷ c'.calls)) =
-    subst (λ (cs : List StandingCall). IsAscending (numbers_of cs)) calls stands.stands.ascend in
+    let ascend : IsAscending (seqs_of (s ∷ c'.calls)) =
+    subst (λ (cs : List StandingCall). IsAscending (seqs_of cs)) calls stands.stands.ascend in
     let apart : All (λ t. t.call.seq ≢ s.call.seq) c'.calls = (calls-apart [] s c'.calls ascend).1 in
-    let numbers' : map (λ (call : ℕ × ℕ). call.0) ((s.call.seq, place) ∷ c'.row) ≡ numbers_of (s ∷ c'.calls) =
-    sym (ap (map (λ (call : ℕ × ℕ). call.0)) row) ∙ stands.row ∙ ap numbers_of calls in
-    let rest : map (λ (call : ℕ × ℕ). call.0) c'.row ≡ numbers_of c'.calls = cc in
+    let numbers' : map (λ (call : ℕ × ℕ). call.0) ((s.call.seq, place) ∷ c'.row) ≡ seqs_of (s ∷ c'.calls) =
+    sym (ap (map (λ (call : ℕ × ℕ). call.0)) row) ∙ stands.row ∙ ap seqs_of calls in
+    let rest : map (λ (call : ℕ × ℕ). call.0) c'.row ≡ seqs_of c'.calls = cc in
     let others : All (λ n. n ≢ s.call.seq) (map (λ (call : ℕ × ℕ). call.0) c'.row) =
     subst (All (λ (n : ℕ). n ≢ s.call.seq)) (sym rest)
     (All-map (λ (n : ℕ). n ≢ s.call.seq) (λ (t : StandingCall). t.call.seq) c'.calls apart) in

@@ -10,14 +10,14 @@ use Rattle.policy_redact.specs.Redacting.{cleared_call}
 use Rattle.policy_redact.specs.declared.redact.Clear.{Clear}
 use Rattle.engine_core.specs.Chains.{Entry}
 use Rattle.engine_core.specs.Engines.{EngineParts}
-use Rattle.engine_core.specs.Marks.{IsTrueFor, StandingCall, note_of}
+use Rattle.engine_core.specs.Marks.{IsTrueFor, StandingCall, note_of, seqs_of}
 use Rattle.engine_core.specs.Moves.{Row, first_at}
 use Rattle.engine_core.specs.Turns.{form_after}
 use Rattle.engine_core.specs.declared.outcome.Outcome.{Outcome}
 use Rattle.engine_core.specs.declared.outcome.Outcome.TheVariants.{Passed, Held, Refused, Redacted}
 use Rattle.engine_core.specs.declared.policy.Policy.{Policy}
 use Rattle.engine_core.specs.declared.policy.Policy.TheVariants as policies
-use Rattle.chain_upgrade.specs.Chains.{ChainParts, HasTurn, IsStandingChain, calls_after, chain_of, numbers_of, row_after}
+use Rattle.chain_upgrade.specs.Chains.{ChainParts, HasTurn, IsStandingChain, calls_after, chain_of, row_after}
 use Rattle.call_history.specs.Behind.{Behind, form, moment, standing}
 use Rattle.call_history.specs.Events.{has_turn, turned, turns, HasTurn as HasTurnBehind}
 use Rattle.call_history.specs.Legal.{HasForm, IsLegalBehind}
@@ -45,14 +45,14 @@ HaveForms = (u : Under) (past : Behind) (call : Taken) → IsLegalBehind u past 
     → HasForm u past call
 
 of-table-by : (u : Under) (past : Behind) (calls : List StandingCall) (ts : List Taken)
-    → numbers_of calls ≡ map (λ t. t.seq) ts → All (HasForm u past) ts
+    → seqs_of calls ≡ map (λ t. t.seq) ts → All (HasForm u past) ts
     → All (λ s. form u.conn s.call.seq past ≡ Some s.call) calls → All (λ s. IsCallOf u.table s.call) calls
 of-table-by u past [] ts same have forms = All-nil (λ (s : StandingCall). IsCallOf u.table s.call)
 of-table-by u past (s ∷ calls) [] same have forms = absurd cc
 of-table-by u past (s ∷ calls) (t ∷ ts) same have forms =
     let here : HasForm u past t = All-head (HasForm u past) t ts have in
     let number : t.seq ≡ s.call.seq = cc in
-    let rest : numbers_of calls ≡ map (λ (t : Taken). t.seq) ts = cc in
+    let rest : seqs_of calls ≡ map (λ (t : Taken). t.seq) ts = cc in
     let form-is : form u.conn s.call.seq past ≡ Some here.now =
     subst (λ (n : ℕ). form u.conn n past ≡ Some here.now) number here.is_form in
     let own : form u.conn s.call.seq past ≡ Some s.call =

@@ -7,8 +7,8 @@ use Rattle.std.proofs.lemmas.List.{length-map}
 use Rattle.std.proofs.lemmas.List.Elements.{All-nil, All-push, All-weaker, All-filter, All-map, All-contains, All-same}
 use Rattle.engine_core.specs.Answers.{nothing, charged, drawn, counted}
 use Rattle.engine_core.specs.declared.op.Op.TheVariants.{Attach}
-use Rattle.engine_core.specs.Marks.{StandingCall}
-use Rattle.chain_upgrade.specs.Chains.{ChainParts, IsStandingChain, numbers_of}
+use Rattle.engine_core.specs.Marks.{StandingCall, seqs_of}
+use Rattle.chain_upgrade.specs.Chains.{ChainParts, IsStandingChain}
 use Rattle.call_history.specs.Behind.{Behind, noted, standing, stands, taken}
 use Rattle.call_history.specs.Events.{Course, IsCourse}
 use Rattle.call_history.specs.Legal.{IsPrefix}
@@ -75,12 +75,12 @@ untold u (x ∷ past) name seq prefix above = untold u past name seq prefix.0 ab
 
 pub same-numbers : (u : Under) (c : Course) (chain : ChainParts) → IsCourse u c → c.row ≡ chain.row
     → IsStandingChain chain
-    → numbers_of chain.calls ≡ map (λ call. call.seq) (standing c.past)
+    → seqs_of chain.calls ≡ map (λ call. call.seq) (standing c.past)
 same-numbers u c chain held row stands =
     sym stands.row ∙ sym (ap (λ (r : List (ℕ × ℕ)). map (λ call. call.0) r) row) ∙ held.calls
 
 pub numbers : (c : Connection) → IsConnection c
-    → numbers_of c.chain.calls ≡ map (λ call. call.seq) (standing (behind c))
+    → seqs_of c.chain.calls ≡ map (λ call. call.seq) (standing (behind c))
 numbers c h = sym h.standing_chain.row ∙ h.is_course.calls
 
 pub as-many : (c : Connection) → IsConnection c → length c.chain.calls ≡ length (standing (behind c))
@@ -91,6 +91,6 @@ as-many c h =
 pub few-numbers : (c : Connection) → IsConnection c → All (λ s. s.call.seq ≤ length (taken (behind c))) c.chain.calls
 few-numbers c h =
     all-of-map (λ (s : StandingCall). s.call.seq) (λ (seq : ℕ). seq ≤ length (taken (behind c))) c.chain.calls
-    (All-same (λ (seq : ℕ). seq ≤ length (taken (behind c))) (numbers_of c.chain.calls)
+    (All-same (λ (seq : ℕ). seq ≤ length (taken (behind c))) (seqs_of c.chain.calls)
     (map (λ (call : Taken). call.seq) (standing (behind c))) (numbers c h)
     (stand-numbered (record { conn = c.conn; table = c.table; limit = c.limit }) (behind c) h.is_course.legal.prefix))

@@ -16,7 +16,7 @@ use Rattle.engine_core.specs.declared.policy.Policy.{Policy}
 use Rattle.engine_core.specs.declared.policy.Policy.TheVariants as policies
 use Rattle.chain_upgrade.specs.Chains.{OnTurn, chain_of}
 use Rattle.chain_upgrade.specs.declared.turned.Turned.{Turned}
-use Rattle.chain_upgrade.specs.declared.turned.Turned.TheVariants.{Idle}
+use Rattle.chain_upgrade.specs.declared.turned.Turned.TheVariants.{Idle, Moved}
 use Rattle.call_history.specs.Behind.{Behind, chain}
 use Rattle.call_history.specs.Draining.{Ending, IsDone, Passes, Turns, again, at_rest, begins_again, goes, is_held, is_idle, next, redacts}
 use Rattle.call_history.specs.Events.{Course, note_behind, turned, turns}
@@ -24,9 +24,9 @@ use Rattle.call_history.specs.Frames.{frames_behind}
 use Rattle.call_history.specs.Rules.{Under}
 use Rattle.call_history.specs.Tickets.{tickets_behind}
 use Rattle.conn_core.specs.Connections.{Connection, IsConnection, IsSame, behind, course, frames, under}
-use Rattle.conn_core.specs.Kept.{Went}
+use Rattle.conn_core.specs.Kept.{PassesBy, Went}
 use Rattle.conn_core.specs.Steps.{Draws, DrawsTickets, Steps, parts, redactions}
-use Rattle.conn_core.proofs.Drawing.{draws-none}
+use Rattle.conn_core.proofs.Drawing.{draws-none, draws-unnoted}
 use Rattle.conn_core.proofs.Lists.{all-of-map}
 use Rattle.conn_core.proofs.Passing.{Turning, turn-in}
 use Rattle.conn_core.proofs.TurnTold.{at-turn, on-both}
@@ -131,6 +131,13 @@ went-turn Knows drawn_of Since a b x y at t same idle step fewer draws =
     })
     (on-both (λ seq outcome. Steps a (turns at seq outcome) b) (λ seq outcome. parts b + redactions outcome
     ≤ parts a) t step fewer)
+
+-- the same for a turn in which nothing was noted
+pub went-unnoted : {Q : Type 0} (Knows : Q → ℕ → Type 0) (drawn_of : Q → ℕ → ℕ → Option (List ℕ)) (Since : Q → Q
+    → Type 0) (a b : Connection) (x : Q) (at : ℕ) → PassesBy at a b → Went Knows drawn_of Since a b x x
+went-unnoted Knows drawn_of Since a b x at p =
+    went-turn Knows drawn_of Since a b x x at (Moved p.seq notes.Nothing) p.same (λ idle. absurd cc) p.step
+    (let fewer = p.fewer in omega (arith, fewer)) (draws-unnoted Knows drawn_of Since a b x p.happenings)
 
 -- the engines stay as many, and tenants known
 pub same-length : (a b : Connection) → IsConnection a → IsConnection b → chain (behind b) ≡ chain (behind a)

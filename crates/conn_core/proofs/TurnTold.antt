@@ -1,23 +1,26 @@
 -- What came of a turn, as it is told: for each answer of a chain.
-use Rattle.std.proofs.Common.{◌≡◌, ℕ, ◌+◌, ◌≤◌, Bool, List, ◌++◌, length, get_or, reverse, slice_get, refl, ap, sym, ◌∙◌, subst, arith}
+use Rattle.std.proofs.Common.{◌≡◌, ℕ, ◌+◌, ◌<◌, ◌≤◌, Bool, true, false, List, ◌++◌, length, get_or, reverse, slice_get, refl, ap, sym, ◌∙◌, subst, arith}
+use Rattle.std.specs.Bool.{OnFalse, OnTrue}
 use Rattle.std.specs.Prelude.{Option, Some}
-use Rattle.std.proofs.lemmas.List.{length-map}
+use Rattle.std.proofs.lemmas.Grind.{get_or_default_zero}
+use Rattle.std.proofs.lemmas.List.{append-nil, length-map}
 use Rattle.mrpc_table.specs.declared.table.Table.{Table}
 use Rattle.engine_core.specs.Chains.{Chain, Entry, IsChain}
 use Rattle.engine_core.specs.Engines.{EngineParts}
 use Rattle.engine_core.specs.Moves.{first_at}
 use Rattle.engine_core.specs.Turns.{noted_in}
 use Rattle.engine_core.specs.Working.{LeavesTickets}
+use Rattle.engine_core.specs.declared.outcome.Noted.TheVariants as notes
 use Rattle.engine_core.specs.declared.outcome.Outcome.{Outcome}
 use Rattle.engine_core.specs.declared.outcome.Outcome.TheVariants as outcomes
-use Rattle.chain_upgrade.specs.Chains.{ChainParts, HasTurn, IsStandingChain, OnTurn, chain_of, row_after}
+use Rattle.chain_upgrade.specs.Chains.{ChainParts, HasTurn, IsStandingChain, OnTurn, PassesUnnoted, chain_of, row_after}
 use Rattle.chain_upgrade.specs.declared.turned.Turned.{Turned}
 use Rattle.chain_upgrade.specs.declared.turned.Turned.TheVariants.{Idle, Moved, Held, Refused, Redacted}
 use Rattle.call_history.specs.Behind.{policy_of}
 use Rattle.call_history.specs.Events.{turns}
 use Rattle.call_history.specs.Records.{Kept, step_at}
 use Rattle.conn_core.specs.Connections.{Connection, behind, course}
-use Rattle.conn_core.specs.Kept.{IsKept, IsStepOf, PutsIn, records_in, seen, told_turn}
+use Rattle.conn_core.specs.Kept.{IsKept, IsStepOf, PassesBy, PutsIn, records_in, seen, told_turn}
 use Rattle.conn_core.specs.Steps.{DrawsTickets, Steps, parts, redactions}
 use Rattle.conn_core.proofs.Apart.{policy-at}
 use Rattle.conn_core.proofs.Drawing.{draws-none, draws-turned}
@@ -116,6 +119,27 @@ turned-kept keeps have clear shorten conn T limit c c' history history' ended st
     (λ e is. f.1.1.0 e (step-put old steps history accepted ms at place e kept is place-is).put
     (same-entry c at engine e is-engine is ∙ sym version-is)) f.1.1.1) t all-facts
 
+-- a turn in which nothing was noted
+pub unnoted-kept : EventsKeep → HaveForms → ClearLaws → ClearsShorten
+    → (conn : ℕ) (T : Table) (limit : ℕ) (c c' : ChainParts) (history : Kept) (ended : Bool) (steps : List ℕ)
+    (accepted ms at : ℕ) → IsKept (seen conn T limit c history ended) steps history accepted ms
+    → at < length c.engines → IsStandingChain c' → (p : PassesUnnoted c at c')
+    → Stepped (seen conn T limit c history ended) (seen conn T limit c' history ended)
+    (turns at p.seq (outcomes.Passed notes.Nothing)) steps history accepted ms
+unnoted-kept keeps have clear shorten conn T limit c c' history ended steps accepted ms at kept within stands p =
+    let turn = p.turn ms in
+    let place : ℕ = get_or steps at 0 in
+    let there : at < length steps = omega (
+      arith,
+      within,
+      aligned (seen conn T limit c history ended) steps history
+          accepted ms kept,
+    ) in
+    turned-kept keeps have clear shorten conn T limit c c' history history ended steps accepted ms at place
+    turn.engine.entry.version turn.engine (Moved p.seq notes.Nothing) kept turn.is_engine refl
+    (sym (get_or_default_zero steps at place there)) p.first turn p.row p.attached stands refl
+    (λ e put version. sym (append-nil history.happenings)) (omega arith)
+
 pub turn-has-room : ClearLaws
     → (conn : ℕ) (T : Table) (limit : ℕ) (c c' : ChainParts) (history : Kept) (ended : Bool) (steps : List ℕ)
     (accepted ms at : ℕ) (t : Turned)
@@ -205,3 +229,28 @@ parts-behind before conn T limit c c' history history' ended at ms t is has =
     on-turn (λ seq outcome. HasTurn c at ms seq outcome c')
     (λ seq outcome. parts (seen conn T limit c' history' ended) + redactions outcome ≤ parts before)
     (λ seq outcome h. omega (arith, parts-fall c c' at ms seq outcome h, ap parts is)) t has
+
+-- a turn in which nothing was noted, as it is told of the connection
+pub passed-by : (before : Connection) (conn : ℕ) (T : Table) (limit : ℕ) (c c' : ChainParts) (history : Kept)
+    (ended : Bool) (steps : List ℕ) (accepted ms at : ℕ) → seen conn T limit c history ended ≡ before
+    → (p : PassesUnnoted c at c')
+    → Stepped (seen conn T limit c history ended) (seen conn T limit c' history ended)
+    (turns at p.seq (outcomes.Passed notes.Nothing)) steps history accepted ms
+    → PassesBy at before (seen conn T limit c' history ended)
+passed-by before conn T limit c c' history ended steps accepted ms at is p stepped =
+    subst (λ (x : Connection). PassesBy at x (seen conn T limit c' history ended)) is (record {
+      seq = p.seq;
+      step = stepped.step;
+      happenings = refl;
+      fewer = let fall = parts-fall c c' at ms p.seq (outcomes.Passed notes.Nothing) (p.turn ms) in omega (arith, fall);
+      same = record { conn = refl; table = refl; limit = refl };
+    })
+
+-- what follows from an answer, and from either
+pub then-true : {P Q : Type 0} (b : Bool) → (P → Q) → OnTrue b P → OnTrue b Q
+then-true true f p = f p
+then-true false f p = tt
+
+pub in-either : {A P Q : Type 0} (b : Bool) → OnTrue b P → OnFalse b Q → (P → A) → (Q → A) → A
+in-either true p q f g = f p
+in-either false p q f g = g q

@@ -7,7 +7,7 @@ use Rattle.mrpc_table.specs.Valid.{AreDistinct}
 use Rattle.mrpc_table.specs.declared.call.Call.{Call}
 use Rattle.engine_core.specs.Chains.{Entry, IsChain, attachments_of, names_of}
 use Rattle.engine_core.specs.Engines.{EngineParts}
-use Rattle.engine_core.specs.Marks.{IsSilent, IsTrueFor, StandingCall, note_of, past_by, past_of}
+use Rattle.engine_core.specs.Marks.{IsSilent, IsTrueFor, StandingCall, note_of, past_by, past_of, seqs_of}
 use Rattle.engine_core.specs.Moves.{first_at}
 use Rattle.engine_core.specs.Turns.{ComesOut, form_after, noted_in}
 use Rattle.engine_core.specs.Working.{LeavesMarks}
@@ -15,7 +15,7 @@ use Rattle.engine_core.specs.declared.outcome.Outcome.{Outcome}
 use Rattle.engine_core.specs.declared.outcome.Outcome.TheVariants.{Passed, Held, Refused, Redacted}
 use Rattle.engine_core.specs.declared.policy.Policy.{Policy}
 use Rattle.engine_core.specs.declared.policy.Policy.TheVariants as policies
-use Rattle.chain_upgrade.specs.Chains.{ChainParts, HasTurn, IsAscending, IsStandingChain, chain_of, numbers_of}
+use Rattle.chain_upgrade.specs.Chains.{ChainParts, HasTurn, IsAscending, IsStandingChain, chain_of}
 use Rattle.call_history.specs.Behind.{Behind, chain, form, level, moment, noted, policy_of}
 use Rattle.call_history.specs.Events.{Course, turned, HasTurn as HasTurnBehind}
 use Rattle.call_history.specs.Rules.{Under}
@@ -147,7 +147,7 @@ fits-turned u c before after position seq outcome fits stands has attached =
     policy-at c.past position e is-chain
     (entry-at u.conn position (moment c.past) seq c.past outcome before after fits has) in
     let apart = calls-apart has.front has.call has.back
-    (subst (λ (calls : List StandingCall). IsAscending (numbers_of calls)) has.stood stands.stands.ascend) in
+    (subst (λ (calls : List StandingCall). IsAscending (seqs_of calls)) has.stood stands.stands.ascend) in
     let old-notes = subst (All (λ (s : StandingCall). All (λ (x : EngineParts). past_of s.marks x.entry.attach
     ≡ noted x.entry.name s.call.seq c.past) before.engines)) has.stood fits.notes in
     let old-forms = subst (All (λ (s : StandingCall). form u.conn s.call.seq c.past ≡ Some s.call)) has.stood fits.forms

@@ -29,7 +29,7 @@ use Rattle.graph_copy.specs.declared.copying.CopyResult.TheVariants as results
 use Rattle.chain_upgrade.specs.Chains.{ChainParts, chain_of}
 use Rattle.call_history.specs.Behind.{chain, copied, moment, taken}
 use Rattle.call_history.specs.Draining.{SendsSome}
-use Rattle.call_history.specs.Events.{Comes, Course, IsReady, cause_of, fails}
+use Rattle.call_history.specs.Events.{Comes, Course, IsReady, cause_of, fails, turns}
 use Rattle.call_history.specs.Frames.{frame_of}
 use Rattle.call_history.specs.Records.{HasRule, Kept, step_at}
 use Rattle.call_history.specs.Loads.{IsLoaded, Loads}
@@ -42,7 +42,7 @@ use Rattle.call_history.specs.declared.happening.TookCopy.{TookCopy}
 use Rattle.call_history.specs.declared.happening.TookCopy.TheVariants.{Copy, Malformed}
 use Rattle.conn_core.specs.declared.answers.Ask.{Ask}
 use Rattle.conn_core.specs.Connections.{Connection, IsConnection, IsSame, behind, course, frames, under}
-use Rattle.conn_core.specs.Steps.{DrawsTickets, parts}
+use Rattle.conn_core.specs.Steps.{DrawsTickets, Steps, parts}
 
 -- ---- which step put its policy into an entry
 
@@ -249,6 +249,15 @@ pub record Went {Q : Type 0} (Knows : Q → ℕ → Type 0) (drawn_of : Q → �
   pub same_frames : frames after ≡ frames before
   pub draws : DrawsTickets Knows drawn_of Since before after old new
   pub fewer : parts after ≤ parts before
+
+-- The first call at a position went on, by a turn in which nothing was noted: nothing has happened, and the trees of the
+-- calls have no more parts.
+pub record PassesBy (position : ℕ) (before after : Connection) : Type 0 where
+  pub seq : ℕ
+  pub step : Steps before (turns position seq (outcomes.Passed notes.Nothing)) after
+  pub happenings : after.happenings ≡ before.happenings
+  pub fewer : parts after ≤ parts before
+  pub same : IsSame before after
 
 -- Some calls were sent, and then the link failed at the frame of the first call that was ready. The words are those of
 -- `FailsInDrain`.

@@ -1,6 +1,7 @@
 //! A connection.
 
 ghost use Rattle.std.specs.Prelude.{◌≡◌, ◌≢◌, ◌↔◌, ◌+◌, ◌<◌, ◌≤◌, ◌^◌, ◌++◌, ◌⊎◌, [], All, Err, IfErr, IfOk, IsSomeAnd, IsTrue, None, OnErr, OnOk, false, length, map, true};
+ghost use Rattle.std.specs.Bool.{OnFalse, OnTrue};
 ghost use Rattle.mrpc_base.specs.Faults.{HasCause};
 ghost use Rattle.mrpc_table.specs.Valid.{IsValid};
 ghost use Rattle.mrpc_table.specs.declared.limits.TheConstants.{MAX_HEAP, MAX_LOADS, MIN_HEAP};
@@ -92,6 +93,7 @@ impl<'t> Conn<'t> {
     ghost use Rattle.call_history.specs.Events.{fails, operates, shows, turns, turns_away};
     ghost use Rattle.call_history.specs.Places.{IsSettled};
     ghost use Rattle.conn_core.specs.Connections.{IsConnection, IsSame, behind, course, under};
+    ghost use Rattle.conn_core.specs.Kept.{PassesBy};
     ghost use Rattle.conn_core.specs.Steps.{Accepts, DrawsTickets, FailsInDrain, FailsToSend, Hands, IfPolicy, OnSent, Reads, Sends, Steps, parts, redactions};
 
     /// A connection without a call, of a number from 1 to 16, whose moment is 0 and whose chain is empty. All its calls
@@ -288,6 +290,23 @@ impl<'t> Conn<'t> {
         record_turn(&mut self.history, step, version, turned);
         self.chain.is_chain();
         turned
+    }
+
+    // Has the first call at a position go on where it passes the engine there and nothing is to be noted of it, which is a
+    // turn. Where it answers false all is as before, and a turn decides.
+    pub(crate) fn pass_unnoted(&mut self, at: u32) -> bool
+        requires at { at < length self.old.chain.engines }
+        ensures passed { OnTrue result (PassesBy at self.old self.new) }
+        ensures as_before { OnFalse result (self.new ≡ self.old) }
+    {
+        events_keep();
+        standing_calls_have_forms();
+        clears_shorten();
+        clear_again();
+        any_order();
+        let passed = self.chain.pass_unnoted(at, self.table);
+        self.chain.is_chain();
+        passed
     }
 
     /// Has the engines take turns, from the first on, until no call can go on, as a drain does before it sends. Behind a

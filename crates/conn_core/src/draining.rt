@@ -49,12 +49,14 @@ fn turns_at<Q: Tickets>(conn: &mut Conn, at: u32, tickets: &mut Q) -> bool
     conn.is_connection();
     'turns: loop {
         conn.is_connection();
-        match conn.turn(at, tickets) {
-            Turned::Idle => return true,
-            Turned::Held { .. } => return true,
-            Turned::Redacted { .. } => return false,
-            Turned::Moved { .. } => {}
-            Turned::Refused { .. } => {}
+        if !conn.pass_unnoted(at) {
+            match conn.turn(at, tickets) {
+                Turned::Idle => return true,
+                Turned::Held { .. } => return true,
+                Turned::Redacted { .. } => return false,
+                Turned::Moved { .. } => {}
+                Turned::Refused { .. } => {}
+            }
         }
     }
 }

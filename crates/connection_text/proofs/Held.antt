@@ -14,11 +14,11 @@ use Rattle.engine_core.specs.Answers.{hold, holds, is_clear, is_over, is_within,
 use Rattle.engine_core.specs.Answers.{was_charged, was_counted}
 use Rattle.engine_core.specs.Chains.{Chain}
 use Rattle.engine_core.specs.Engines.{EngineParts}
-use Rattle.engine_core.specs.Marks.{StandingCall, past_of}
+use Rattle.engine_core.specs.Marks.{StandingCall, past_of, seqs_of}
 use Rattle.engine_core.specs.Moves.{Row, first_at}
 use Rattle.engine_core.specs.declared.policy.Policy.{Policy}
 use Rattle.engine_core.specs.declared.policy.Policy.TheVariants.{Access, Count, Quota, Rate, Redact}
-use Rattle.chain_upgrade.specs.Chains.{ChainParts, IsAbove, IsAscending, IsFallingFrom, numbers_of}
+use Rattle.chain_upgrade.specs.Chains.{ChainParts, IsAbove, IsAscending, IsFallingFrom}
 use Rattle.call_history.specs.Behind.{level, noted}
 use Rattle.conn_core.specs.Connections.{Connection as Calls, IsConnection, behind, course}
 use Rattle.connection_text.specs.Standing.{entry_at, held_at, held_below, held_by, holding, is_first}
@@ -195,7 +195,7 @@ contains-at (y ∷ ys) (suc i) x is =
     let low : found.0 < length ys = found.1 in
     (suc found.0, omega arith, found.2)
 
-pub called-at : (row : Row) (calls : List StandingCall) (place : ℕ) (x : ℕ × ℕ) → map (λ (call : ℕ × ℕ). call.0) row ≡ numbers_of calls → slice_get row place ≡ Some x
+pub called-at : (row : Row) (calls : List StandingCall) (place : ℕ) (x : ℕ × ℕ) → map (λ (call : ℕ × ℕ). call.0) row ≡ seqs_of calls → slice_get row place ≡ Some x
     → (s : StandingCall) × (slice_get calls place ≡ Some s) × (s.call.seq ≡ x.0)
 called-at [] calls place x same is = cc
 called-at (call ∷ row) [] place x same is = cc
@@ -204,7 +204,7 @@ called-at (call ∷ row) (s ∷ calls) zero x same is =
     let it : call ≡ x = cc in
     (s, refl, sym head ∙ ap (λ (p : ℕ × ℕ). p.0) it)
 called-at (call ∷ row) (s ∷ calls) (suc place) x same is =
-    let tail : map (λ (c : ℕ × ℕ). c.0) row ≡ numbers_of calls = cc in
+    let tail : map (λ (c : ℕ × ℕ). c.0) row ≡ seqs_of calls = cc in
     called-at row calls place x tail is
 
 -- ---- a connection

@@ -1,5 +1,5 @@
 -- The marks that are left of a call where those of some engines are kept.
-use Rattle.std.proofs.Common.{◌≡◌, ◌≢◌, ℕ, ◌+◌, ◌≤◌, ◌<◌, ◌==◌, Bool, true, false, not, List, [], ◌∷◌, filter, length}
+use Rattle.std.proofs.Common.{◌≡◌, ◌≢◌, ℕ, ◌+◌, ◌≤◌, ◌<◌, ◌==◌, Bool, true, false, not, ◌||◌, List, [], ◌∷◌, ◌++◌, filter, length}
 use Rattle.std.proofs.Common.{All, None, refl, arith, length-append}
 use Rattle.std.proofs.lemmas.Grind.{common_steps}
 use Rattle.std.proofs.lemmas.Bool.Decides.{nat_tests}
@@ -8,11 +8,10 @@ use Rattle.std.proofs.lemmas.List.Elements.{All-weaker}
 use Rattle.std.specs.List.{list_any}
 use Rattle.engine_core.specs.Engines.{EngineParts}
 use Rattle.engine_core.specs.Marks.{IsOneEach, note_of, other_marks}
-use Rattle.engine_core.specs.Steps.{marked}
 use Rattle.engine_core.specs.declared.mark.Mark.{Mark}
 use Rattle.engine_core.specs.declared.mark.Note.{Note}
 use Rattle.engine_core.specs.declared.mark.Note.TheVariants.{Counted}
-use Rattle.engine_core.proofs.MarkLemmas.{find-kept, none-other, IsOneEach-filter, IsOneEach-marked}
+use Rattle.engine_core.proofs.MarkLemmas.{find-kept, none-other, swapped, IsOneEach-filter}
 
 -- one of the engines has the attachment, or one of the marks
 abbrev pub has_engine : List EngineParts → ℕ → Bool
@@ -75,8 +74,12 @@ behind-first : (e : EngineParts) (es : List EngineParts) (b : ℕ) (ms : List Ma
 behind-first e es b ms true at has known = grind (arith, nat_tests, common_steps, none-other e.entry.attach ms)
 behind-first e es b ms false at has known = grind (arith, nat_tests, common_steps)
 
-known-marked : (es : List EngineParts) (a b : ℕ) (ms : List Mark) (n : Note) → has_engine es a ≡ true → has_mark (marked a n (kept es ms)) b ≡ true → has_engine es b ≡ true
-known-marked es a b ms n known has = grind (
+-- a mark behind those of the others
+abbrev joined : ℕ → Note → List Mark → List Mark
+joined a n ms = other_marks a ms ++ record { attach = a; note = n } ∷ []
+
+known-joined : (es : List EngineParts) (a b : ℕ) (ms : List Mark) (n : Note) → has_engine es a ≡ true → has_mark (joined a n (kept es ms)) b ≡ true → has_engine es b ≡ true
+known-joined es a b ms n known has = grind (
   arith,
   nat_tests,
   common_steps,
@@ -84,6 +87,25 @@ known-marked es a b ms n known has = grind (
   has-others a b (kept es ms),
   known-kept es b ms,
 )
+
+any-push : {X : Type 0} (t : X → Bool) (xs : List X) (y : X) → list_any t xs ≡ false → t y ≡ false → list_any t (xs ++ y ∷ []) ≡ false
+any-push t [] y none other = grind (arith, common_steps)
+any-push t (x ∷ xs) y none other = grind (arith, common_steps, any-push t xs y)
+
+first-false : (a b : Bool) → (a || b) ≡ false → a ≡ false
+first-false a b none = grind (arith, common_steps)
+
+second-false : (a b : Bool) → (a || b) ≡ false → b ≡ false
+second-false a b none = grind (arith, common_steps)
+
+IsOneEach-push : (ms : List Mark) (m : Mark) → IsOneEach ms → list_any (λ n. n.attach == m.attach) ms ≡ false → IsOneEach (ms ++ m ∷ [])
+IsOneEach-push [] m one new = (refl, tt)
+IsOneEach-push (n ∷ ms) m one new =
+    (any-push (λ o. o.attach == n.attach) ms m one.0 (swapped n.attach m.attach (first-false _ _ new)), IsOneEach-push ms m one.1 (second-false _ _ new))
+
+IsOneEach-joined : (a : ℕ) (n : Note) (ms : List Mark) → IsOneEach ms → IsOneEach (joined a n ms)
+IsOneEach-joined a n ms one =
+    IsOneEach-push (other_marks a ms) (record { attach = a; note = n }) (IsOneEach-filter (λ m. not (m.attach == a)) ms one) (none-other a ms)
 
 -- marks of distinct attachments of engines are no more than the engines
 length-marks : (es : List EngineParts) (ms : List Mark) → IsOneEach ms → ((b : ℕ) → has_mark ms b ≡ true → has_engine es b ≡ true) → length ms ≤ length es
@@ -96,7 +118,7 @@ length-marks (e ∷ es) ms one known =
 
 pub length-kept : (es : List EngineParts) (a : ℕ) (ms : List Mark) → IsOneEach ms → has_engine es a ≡ true → length (other_marks a (kept es ms)) < length es
 length-kept es a ms one known =
-    let few = length-marks es (marked a Counted (kept es ms))
-    (IsOneEach-marked a Counted (kept es ms) (IsOneEach-filter (λ m. has_engine es m.attach) ms one))
-    (λ b has. known-marked es a b ms Counted known has) in
+    let few = length-marks es (joined a Counted (kept es ms))
+    (IsOneEach-joined a Counted (kept es ms) (IsOneEach-filter (λ m. has_engine es m.attach) ms one))
+    (λ b has. known-joined es a b ms Counted known has) in
     omega (arith, few, length-append (other_marks a (kept es ms)) (record { attach = a; note = Counted } ∷ []))

@@ -1,5 +1,4 @@
 mod Rows
-mod Along
 mod AnswerLaws
 mod ChainLaws
 mod MarkLaws

@@ -1,11 +1,12 @@
 -- What marks tell after one was set, and after some were taken away.
-use Rattle.std.proofs.Common.{◌≡◌, ◌≢◌, ℕ, ◌≤◌, ◌==◌, Bool, true, false, not, ◌||◌, cond, if◌then◌else◌, List, []}
-use Rattle.std.proofs.Common.{◌∷◌, ◌++◌, filter, find, length, Option, Some, None, option_map, refl, arith}
-use Rattle.std.proofs.Common.{length-append}
+use Rattle.std.proofs.Common.{◌≡◌, ◌≢◌, ℕ, zero, suc, ◌+◌, ◌<◌, ◌≤◌, ◌==◌, Bool, true, false, not, cond, if◌then◌else◌, List, []}
+use Rattle.std.proofs.Common.{◌∷◌, ◌++◌, filter, find, get_or, length, set, slice_get, Option, Some, None, option_map, refl, ap, subst, arith}
+use Rattle.std.specs.Prelude.{position}
 use Rattle.std.proofs.lemmas.Grind.{common_steps}
 use Rattle.std.proofs.lemmas.Bool.Decides.{nat_tests}
-use Rattle.std.proofs.lemmas.List.Elements.{filter-append}
-use Rattle.std.specs.List.{list_any}
+use Rattle.std.proofs.lemmas.List.Quantifiers.{position-Some}
+use Rattle.std.proofs.lemmas.List.Sums.{fails_before_first}
+use Rattle.std.specs.List.{list_any, position_or_len}
 use Rattle.engine_core.specs.Marks.{IsOneEach, is_allowed, is_allowing, note_of, other_marks, past_of}
 use Rattle.engine_core.specs.Steps.{IsUnallowed, marked}
 use Rattle.engine_core.specs.declared.mark.Mark.{Mark}
@@ -16,27 +17,15 @@ pub find-kept : (p : ℕ → Bool) (b : ℕ) (ms : List Mark) → find (λ m. m.
 find-kept p b [] = grind (arith, common_steps)
 find-kept p b (m ∷ ms) = grind (arith, nat_tests, common_steps, find-kept p b ms)
 
-pub find-push : {X : Type 0} (t : X → Bool) (xs : List X) (y : X) → find t xs ≡ None → find t (xs ++ y ∷ []) ≡ (if t y then Some y else None)
-find-push t [] y none = refl
-find-push t (x ∷ xs) y none = grind (arith, common_steps, find-push t xs y)
-
-pub find-front : {X : Type 0} (t : X → Bool) (xs : List X) (y : X) → t y ≡ false → find t (xs ++ y ∷ []) ≡ find t xs
-find-front t [] y other = grind (arith, common_steps)
-find-front t (x ∷ xs) y other = grind (arith, common_steps, find-front t xs y other)
-
 -- the mark that was set
 pub note_of-marked : (a : ℕ) (n : Note) (ms : List Mark) → note_of (marked a n ms) a ≡ Some n
-note_of-marked a n ms = grind (arith, nat_tests, common_steps, find-kept (λ b. not (b == a)) a ms, find-push (λ m. m.attach == a) (other_marks a ms) (record { attach = a; note = n }))
+note_of-marked a n [] = grind (arith, nat_tests, common_steps)
+note_of-marked a n (m ∷ ms) = grind (arith, nat_tests, common_steps, note_of-marked a n ms)
 
 -- the marks of the others
 pub note_of-marked-other : (a b : ℕ) (n : Note) (ms : List Mark) → b ≢ a → note_of (marked a n ms) b ≡ note_of ms b
-note_of-marked-other a b n ms other = grind (
-  arith,
-  nat_tests,
-  common_steps,
-  find-kept (λ c. not (c == a)) b ms,
-  find-front (λ m. m.attach == b) (other_marks a ms) (record { attach = a; note = n }),
-)
+note_of-marked-other a b n [] other = grind (arith, nat_tests, common_steps)
+note_of-marked-other a b n (m ∷ ms) other = grind (arith, nat_tests, common_steps, note_of-marked-other a b n ms other)
 
 -- ---- one mark for each attachment
 
@@ -57,26 +46,112 @@ pub none-other : (a : ℕ) (ms : List Mark) → list_any (λ n. n.attach == a) (
 none-other a [] = refl
 none-other a (m ∷ ms) = grind (arith, nat_tests, common_steps, none-other a ms)
 
-any-push : {X : Type 0} (t : X → Bool) (xs : List X) (y : X) → list_any t xs ≡ false → t y ≡ false → list_any t (xs ++ y ∷ []) ≡ false
-any-push t [] y none other = grind (arith, common_steps)
-any-push t (x ∷ xs) y none other = grind (arith, common_steps, any-push t xs y)
+-- where no mark is of an attachment, none is behind a mark of another
+any-marked : (a b : ℕ) (n : Note) (ms : List Mark) → (a == b) ≡ false → list_any (λ m. m.attach == b) ms ≡ false
+    → list_any (λ m. m.attach == b) (marked a n ms) ≡ false
+any-marked a b n [] other none = grind (arith, nat_tests, common_steps)
+any-marked a b n (m ∷ ms) other none = grind (arith, nat_tests, common_steps, any-marked a b n ms other)
 
-first-false : (a b : Bool) → (a || b) ≡ false → a ≡ false
-first-false a b none = grind (arith, common_steps)
-
-second-false : (a b : Bool) → (a || b) ≡ false → b ≡ false
-second-false a b none = grind (arith, common_steps)
-
-swapped : (a b : ℕ) → (a == b) ≡ false → (b == a) ≡ false
+pub swapped : (a b : ℕ) → (a == b) ≡ false → (b == a) ≡ false
 swapped a b apart = grind (arith, nat_tests, common_steps)
 
-IsOneEach-push : (ms : List Mark) (m : Mark) → IsOneEach ms → list_any (λ n. n.attach == m.attach) ms ≡ false → IsOneEach (ms ++ m ∷ [])
-IsOneEach-push [] m one new = (refl, tt)
-IsOneEach-push (n ∷ ms) m one new =
-    (any-push (λ o. o.attach == n.attach) ms m one.0 (swapped n.attach m.attach (first-false _ _ new)), IsOneEach-push ms m one.1 (second-false _ _ new))
+equal-is : (a b : ℕ) → (a == b) ≡ true → a ≡ b
+equal-is a b same = grind (arith, nat_tests, common_steps)
+
+IsOneEach-first : (a : ℕ) (n : Note) (m : Mark) (ms : List Mark) (b : Bool) → (m.attach == a) ≡ b → IsOneEach (m ∷ ms) → IsOneEach (marked a n ms)
+    → IsOneEach (cond b (record { attach = a; note = n } ∷ ms) (m ∷ marked a n ms))
+IsOneEach-first a n m ms true is one behind =
+    (subst (λ (b : ℕ). list_any (λ k. k.attach == b) ms ≡ false) (equal-is m.attach a is) one.0, one.1)
+IsOneEach-first a n m ms false is one behind = (any-marked a m.attach n ms (swapped m.attach a is) one.0, behind)
 
 pub IsOneEach-marked : (a : ℕ) (n : Note) (ms : List Mark) → IsOneEach ms → IsOneEach (marked a n ms)
-IsOneEach-marked a n ms one = IsOneEach-push (other_marks a ms) (record { attach = a; note = n }) (IsOneEach-filter (λ m. not (m.attach == a)) ms one) (none-other a ms)
+IsOneEach-marked a n [] one = (refl, tt)
+IsOneEach-marked a n (m ∷ ms) one = IsOneEach-first a n m ms (m.attach == a) refl one (IsOneEach-marked a n ms one.1)
+
+-- ---- the mark of an attachment by its place
+
+at-none : (p : Mark → Bool) (ms : List Mark) (i : ℕ) (m : Mark) → slice_get ms i ≡ Some m → list_any p ms ≡ false → p m ≡ false
+at-none p [] i m at none = absurd cc
+at-none p (k ∷ ms) zero m at none =
+    let first : k ≡ m = cc in
+    subst (λ (m : Mark). p m ≡ false) first (grind (arith, common_steps))
+at-none p (k ∷ ms) (suc i) m at none = at-none p ms i m at (grind (arith, common_steps))
+
+-- the mark at a place is the only one of its attachment
+pub note-at : (a i : ℕ) (ms : List Mark) (m : Mark) → IsOneEach ms → slice_get ms i ≡ Some m → m.attach ≡ a → note_of ms a ≡ Some m.note
+note-at a i [] m one at is = absurd cc
+note-at a zero (k ∷ ms) m one at is =
+    let first : k ≡ m = cc in
+    rw first (grind (arith, nat_tests, common_steps))
+note-at a (suc i) (k ∷ ms) m one at is =
+    let there : slice_get ms i ≡ Some m = at in
+    let mine : (m.attach == k.attach) ≡ false = at-none (λ n. n.attach == k.attach) ms i m there one.0 in
+    grind (arith, nat_tests, common_steps, note-at a i ms m one.1 there is)
+
+-- a mark that is put in the place of the first one of an attachment
+put-first : (a i : ℕ) (n : Note) (d : Mark) (ms : List Mark) → i < length ms → ((get_or ms i d).attach == a) ≡ true
+    → ((k : ℕ) → k < i → ((get_or ms k d).attach == a) ≡ false) → set ms i (record { attach = a; note = n }) ≡ marked a n ms
+put-first a i n d [] within at before = absurd (omega arith)
+put-first a zero n d (m ∷ ms) within at before =
+    let mine : (m.attach == a) ≡ true = at in
+    rw mine refl
+put-first a (suc i) n d (m ∷ ms) within at before =
+    let other : (m.attach == a) ≡ false = before 0 (omega arith) in
+    rw other (ap (λ ks. m ∷ ks) (put-first a i n d ms (omega (arith, within)) at (λ k lt. before (suc k) (omega (arith, lt)))))
+
+-- a mark that is put behind those of others
+put-behind : (a : ℕ) (n : Note) (d : Mark) (ms : List Mark) → ((k : ℕ) → k < length ms → ((get_or ms k d).attach == a) ≡ false)
+    → ms ++ record { attach = a; note = n } ∷ [] ≡ marked a n ms
+put-behind a n d [] none = refl
+put-behind a n d (m ∷ ms) none =
+    let other : (m.attach == a) ≡ false = none 0 (omega arith) in
+    rw other (ap (λ ks. m ∷ ks) (put-behind a n d ms (λ k lt. none (suc k) (omega (arith, lt)))))
+
+-- none of the marks is of an attachment that has no place
+no-place : (a : ℕ) (ms : List Mark) → position (λ m. m.attach == a) ms ≡ None → (d : Mark) (k : ℕ) → k < length ms
+    → ((get_or ms k d).attach == a) ≡ false
+no-place a ms none d k lt =
+    let past : length ms ≤ position_or_len (λ (m : Mark). m.attach == a) ms = grind (arith, common_steps) in
+    fails_before_first (λ (m : Mark). m.attach == a) ms k d (omega (arith, lt, past))
+
+all-others : (a : ℕ) (d : Mark) (ms : List Mark) → ((k : ℕ) → k < length ms → ((get_or ms k d).attach == a) ≡ false) → length ms ≤ length (other_marks a ms)
+all-others a d [] none = omega arith
+all-others a d (m ∷ ms) none =
+    let other : (m.attach == a) ≡ false = none 0 (omega arith) in
+    grind (arith, nat_tests, common_steps, all-others a d ms (λ k lt. none (suc k) (omega (arith, lt))))
+
+-- the mark of an attachment: where it stands
+pub marked-at : (a i : ℕ) (n : Note) (ms : List Mark) → position (λ m. m.attach == a) ms ≡ Some i → set ms i (record { attach = a; note = n }) ≡ marked a n ms
+marked-at a i n ms at =
+    let new : Mark = record { attach = a; note = n } in
+    let there = position-Some (λ (m : Mark). m.attach == a) ms i new at in
+    put-first a i n new ms there.0 there.1 there.2
+
+-- and where none does
+pub marked-behind : (a : ℕ) (n : Note) (ms : List Mark) → position (λ m. m.attach == a) ms ≡ None → ms ++ record { attach = a; note = n } ∷ [] ≡ marked a n ms
+marked-behind a n ms none =
+    let new : Mark = record { attach = a; note = n } in
+    put-behind a n new ms (λ k lt. no-place a ms none new k lt)
+
+pub few-others : (a : ℕ) (ms : List Mark) (d : Mark) → position (λ m. m.attach == a) ms ≡ None → length ms ≤ length (other_marks a ms)
+few-others a ms d none = all-others a d ms (λ k lt. no-place a ms none d k lt)
+
+-- the marks of the others are no more than all
+pub others-within : (a : ℕ) (ms : List Mark) → length (other_marks a ms) ≤ length ms
+others-within a [] = omega arith
+others-within a (m ∷ ms) = grind (arith, common_steps, others-within a ms)
+
+others-first : (a : ℕ) (m : Mark) (ms : List Mark) (n : Note) (b : Bool) → (m.attach == a) ≡ b → note_of (m ∷ ms) a ≡ Some n
+    → (note_of ms a ≡ Some n → length (other_marks a ms) + 1 ≤ length ms) → length (other_marks a (m ∷ ms)) + 1 ≤ length (m ∷ ms)
+others-first a m ms n true at is behind = grind (arith, nat_tests, common_steps, others-within a ms)
+others-first a m ms n false at is behind =
+    let there : note_of ms a ≡ Some n = rw at at is in
+    grind (arith, nat_tests, common_steps, behind there)
+
+-- where there is a mark of an attachment, those of the others are fewer
+pub others-fewer : (a : ℕ) (ms : List Mark) (n : Note) → note_of ms a ≡ Some n → length (other_marks a ms) + 1 ≤ length ms
+others-fewer a [] n is = absurd cc
+others-fewer a (m ∷ ms) n is = others-first a m ms n (m.attach == a) refl is (others-fewer a ms n)
 
 -- ---- marks that are taken away
 
@@ -123,20 +198,14 @@ none-allowed : (b v : ℕ) (ms : List Mark) → is_allowed (filter (λ m. not (i
 none-allowed b v [] = refl
 none-allowed b v (m ∷ ms) = allowed-first b v m ms m.note refl (m.attach == b) refl (none-allowed b v ms)
 
-pub length-filter_filter : {X : Type 0} (p q : X → Bool) (xs : List X) → length (filter p (filter q xs)) ≤ length (filter p xs)
+length-filter_filter : {X : Type 0} (p q : X → Bool) (xs : List X) → length (filter p (filter q xs)) ≤ length (filter p xs)
 length-filter_filter p q [] = omega arith
 length-filter_filter p q (x ∷ xs) = grind (arith, common_steps, length-filter_filter p q xs)
 
 -- the marks of the others, with one that is set
 pub other_marks-marked : (a : ℕ) (n : Note) (ms : List Mark) → length (other_marks a (marked a n ms)) ≤ length (other_marks a ms)
-other_marks-marked a n ms =
-    let last : filter (λ (m : Mark). not (m.attach == a)) (record { attach = a; note = n } ∷ []) ≡ [] = grind (arith, nat_tests, common_steps) in
-    rw (filter-append (λ (m : Mark). not (m.attach == a)) (other_marks a ms) (record { attach = a; note = n } ∷ []), last)
-    (omega (
-      arith,
-      length-append (filter (λ (m : Mark). not (m.attach == a)) (other_marks a ms)) [],
-      length-filter_filter (λ (m : Mark). not (m.attach == a)) (λ (m : Mark). not (m.attach == a)) ms,
-    ))
+other_marks-marked a n [] = grind (arith, nat_tests, common_steps)
+other_marks-marked a n (m ∷ ms) = grind (arith, nat_tests, common_steps, other_marks-marked a n ms)
 
 unmarked-unallowed : (b : ℕ) (ms : List Mark) → note_of ms b ≡ None → note_of (filter (λ m. not (is_allowing m.note)) ms) b ≡ None
 unmarked-unallowed b ms none = rw (none-kept b ms (no_note (find (λ (m : Mark). m.attach == b) ms) none)) refl where

@@ -1,4 +1,4 @@
--- A call that passes by its mark.
+-- A call that passes where nothing is to be noted of it.
 use Rattle.std.proofs.Common.{◌≡◌, ℕ, zero, suc, Bool, true, false, List, [], ◌∷◌, Some, refl, ap, set, slice_get}
 use Rattle.std.specs.Bool.{OnTrue}
 use Rattle.engine_core.specs.Engines.{EngineParts}
@@ -22,24 +22,24 @@ same-set [] i x at = absurd cc
 same-set (y ∷ ys) zero x at = cc
 same-set (y ∷ ys) (suc i) x at = ap (λ zs. y ∷ zs) (same-set ys i x at)
 
--- neither the engine nor the call changes
-pub works-marked : (es : List EngineParts) (calls calls' : List StandingCall) (p j moment : ℕ) (e : EngineParts) (s : StandingCall)
-    → slice_get es p ≡ Some e → slice_get calls j ≡ Some s → calls' ≡ set calls j s
-    → Steps e.entry.policy e.entry.attach e.entry.version e.level moment s s e.level (Passed Nothing)
+-- the engine stays, and the call may have a further mark
+pub works-unnoted : (es : List EngineParts) (calls calls' : List StandingCall) (p j moment : ℕ) (e : EngineParts) (s s' : StandingCall)
+    → slice_get es p ≡ Some e → slice_get calls j ≡ Some s → calls' ≡ set calls j s'
+    → Steps e.entry.policy e.entry.attach e.entry.version e.level moment s s' e.level (Passed Nothing)
     → Works es calls p j moment (Passed Nothing) es calls'
-works-marked es calls calls' p j moment e s is_engine is_call same step = record {
+works-unnoted es calls calls' p j moment e s s' is_engine is_call same step = record {
   engine = e;
   engine' = e;
   is_engine = is_engine;
   others = same-set es p e is_engine;
   call = s;
-  call' = s;
+  call' = s';
   is_call = is_call;
   other_calls = same;
   met = s;
   keeps = record { call = refl; kept = λ k d within. refl; none = λ attach none. none };
-  turn = turn-step e moment s s e.level (Passed Nothing) step;
-  leaves_engine = engine-step e e moment s s (Passed Nothing) step refl refl;
-  leaves_call = call-step _ _ _ _ _ s s _ (Passed Nothing) step;
-  leaves_marks = marks-step e.entry e.level moment s s e.level (Passed Nothing) step;
+  turn = turn-step e moment s s' e.level (Passed Nothing) step;
+  leaves_engine = engine-step e e moment s s' (Passed Nothing) step refl refl;
+  leaves_call = call-step _ _ _ _ _ s s' _ (Passed Nothing) step;
+  leaves_marks = marks-step e.entry e.level moment s s' e.level (Passed Nothing) step;
 }

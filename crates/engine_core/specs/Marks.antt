@@ -1,5 +1,5 @@
 -- The marks of a standing call, and what they tell of it.
-use Rattle.std.specs.Prelude.{◌≡◌, ℕ, ◌≤◌, ◌==◌, Bool, true, false, not, List, ◌∷◌, [], filter, find, Option, Some, None, option_map}
+use Rattle.std.specs.Prelude.{◌≡◌, ℕ, ◌<◌, ◌≤◌, ◌==◌, Bool, true, false, not, List, ◌∷◌, [], filter, find, map, Option, Some, None, option_map}
 use Rattle.std.specs.List.{list_any}
 use Rattle.policy_access.specs.Verdict.{verdict}
 use Rattle.mrpc_table.specs.declared.call.Call.{Call}
@@ -16,9 +16,17 @@ pub record StandingCall : Type 0 where
   pub call : Call
   pub marks : List Mark
 
+-- the numbers of calls
+abbrev pub seqs_of : List StandingCall → List ℕ
+seqs_of calls = map (λ s. s.call.seq) calls
+
 -- the mark of an attachment
 abbrev pub note_of : List Mark → ℕ → Option Note
 note_of marks attach = option_map (λ m. m.note) (find (λ m. m.attach == attach) marks)
+
+-- the marks of a call are of attachments up to this one
+abbrev pub HasMarksUpTo : ℕ → StandingCall → Type 0
+HasMarksUpTo attached s = (attach : ℕ) → attached < attach → note_of s.marks attach ≡ None
 
 -- no attachment has two marks
 abbrev pub IsOneEach : List Mark → Type 0
@@ -54,12 +62,12 @@ is_allowed marks attach version = is_allowed_by version (note_of marks attach)
 abbrev pub other_marks : ℕ → List Mark → List Mark
 other_marks attach marks = filter (λ m. not (m.attach == attach)) marks
 
--- an access policy allows a call
+-- the call is allowed, where the policy is one of access; of another nothing is asked
 abbrev pub IsAllowing : Policy → Call → Type 0
 IsAllowing (Access p) call = (verdict p call).allow ≡ true
 IsAllowing _ call = Unit {0}
 
--- for an access policy nothing is noted
+-- nothing is noted, where the policy is one of access
 abbrev pub IsSilent : Policy → Past → Type 0
 IsSilent (Access p) past = past ≡ nothing
 IsSilent _ past = Unit {0}

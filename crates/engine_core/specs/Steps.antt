@@ -1,5 +1,5 @@
--- What an engine does, branch by branch. No public clause cites this module.
-use Rattle.std.specs.Prelude.{◌≡◌, ◌≢◌, ℕ, ◌-◌, ◌/◌, ◌<◌, ◌≤◌, min, true, false, List, [], ◌∷◌, ◌++◌, length, None}
+-- The code's own: what an engine does, branch by branch.
+use Rattle.std.specs.Prelude.{◌≡◌, ◌≢◌, ℕ, ◌-◌, ◌/◌, ◌<◌, ◌≤◌, ◌==◌, min, true, false, if◌then◌else◌, List, [], ◌∷◌, length, None}
 use Rattle.mrpc_table.specs.Weight.{weight}
 use Rattle.mrpc_table.specs.declared.table.Table.{Table}
 use Rattle.mrpc_table.specs.Calls.{IsCallOf}
@@ -19,9 +19,11 @@ use Rattle.engine_core.specs.declared.outcome.Why.TheVariants.{Denied, Short, Ov
 use Rattle.engine_core.specs.declared.outcome.Outcome.{Outcome}
 use Rattle.engine_core.specs.declared.outcome.Outcome.TheVariants.{Passed, Held, Refused, Redacted}
 
--- the marks with one for an attachment, in place of the one that it had
+-- the marks with one for an attachment: in place of the one that it had, or behind the others
 abbrev pub marked : ℕ → Note → List Mark → List Mark
-marked attach note marks = other_marks attach marks ++ record { attach = attach; note = note } ∷ []
+marked attach note [] = record { attach = attach; note = note } ∷ []
+marked attach note (m ∷ ms) =
+    if m.attach == attach then record { attach = attach; note = note } ∷ ms else m ∷ marked attach note ms
 
 abbrev pub with_mark : ℕ → Note → StandingCall → StandingCall
 with_mark attach note s = record { call = s.call; marks = marked attach note s.marks }

@@ -1,10 +1,11 @@
 //! The calls that stand on a chain, in one row.
 
 ghost use Rattle.std.specs.Prelude.{◌≡◌, ◌<◌, ◌≤◌, ◌++◌, ◌∷◌, ◌↔◌, [], ℕ, List, Some, IfOk, IsTrue, length, remove, slice_get};
+ghost use Rattle.std.specs.Bool.{OnFalse, OnTrue};
 ghost use Rattle.mrpc_table.specs.Calls.{IsCallOf};
 
 use crate::engine::Engine;
-use crate::outcome::{Noted, Outcome};
+use crate::outcome::Outcome;
 use crate::standing::Standing;
 use mrpc_base::Tickets;
 use mrpc_table::{Memory, Table};
@@ -47,6 +48,8 @@ impl CallRow {
     ghost use Rattle.engine_core.specs.Working.{LeavesTickets, Works};
     ghost use Rattle.engine_core.specs.Engines.{EngineParts};
     ghost use Rattle.engine_core.specs.Marks.{StandingCall};
+    ghost use Rattle.engine_core.specs.declared.outcome.Noted.TheVariants.{Nothing};
+    ghost use Rattle.engine_core.specs.declared.outcome.Outcome.TheVariants.{Passed};
 
     /// A row without a call. It takes the room for all calls, so no later call of a row takes memory.
     pub fn open(alloc: Global) -> Result<CallRow, Memory>
@@ -116,8 +119,28 @@ impl CallRow {
         self.calls.truncate(0);
     }
 
-    /// The engine at a place works on the call at a place. Where the call doesn't pass by a mark that it has of the engine,
-    /// the marks of all but these engines are taken away first. It takes no memory.
+    /// Has the call at a place pass the engine at a place where nothing is to be noted of it: the access policy allows it,
+    /// or has done so in this version, or the rate or the count has noted it. Where it answers false all is as before, and
+    /// a turn decides.
+    pub fn pass_unnoted(
+        &mut self,
+        place: usize,
+        engines: &[Engine],
+        at: usize,
+        table: &Table,
+    ) -> bool
+        requires place { place < length self.old }
+        requires engine { at < length engines.now }
+        requires call { (s : StandingCall) → slice_get self.old place ≡ Some s → IsCallOf table.now s.call }
+        ensures passed { OnTrue result ((moment : ℕ)
+            → Works engines.now self.old at place moment (Passed Nothing) engines.now self.new) }
+        ensures as_before { OnFalse result (self.new ≡ self.old) }
+    {
+        engines[at].pass_unnoted(&mut self.calls[place], at, table)
+    }
+
+    /// The engine at a place works on the call at a place. Where that has no room for a mark of the engine, the marks of all
+    /// but these engines are taken away first. It takes no memory.
     pub fn work<Q: Tickets>(
         &mut self,
         place: usize,
@@ -138,10 +161,7 @@ impl CallRow {
             → LeavesTickets Q.knows Q.drawn Q.since e.entry.policy (noted_in result) tickets.old tickets.new }
     {
         let call = &mut self.calls[place];
-        if engines[at].passes_marked(call) {
-            return Outcome::Passed(Noted::Nothing);
-        }
-        call.keep_marks_of(engines);
+        call.make_room(engines, at);
         let engine = &mut engines[at];
         engine.work(call, table, now, tickets)
     }

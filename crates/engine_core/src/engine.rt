@@ -5,7 +5,7 @@ ghost use Rattle.std.specs.Prelude.{◌≡◌, ◌+◌, ◌-◌, ◌<◌, ◌≤
 use crate::outcome::{Noted, Outcome};
 use crate::policy::Policy;
 use crate::standing::Standing;
-use crate::work::{charge, clear, count, draw, is_allowed, is_noted, judge};
+use crate::work::{allow, allows, charge, clear, count, draw, is_noted, is_past, judge};
 use mrpc_base::{Tickets, WINDOWS};
 use mrpc_table::{Name, Table};
 use policy_rate::Bucket;
@@ -61,7 +61,7 @@ impl Engine {
     ghost use Rattle.engine_core.specs.Engines.{HasPast};
     ghost use Rattle.engine_core.specs.Answers.{Answers, hold};
     ghost use Rattle.engine_core.specs.Marks.{IsTrueFor, StandingCall, other_marks, past_of};
-    ghost use Rattle.std.specs.Bool.{OnTrue};
+    ghost use Rattle.std.specs.Bool.{OnFalse, OnTrue};
     ghost use Rattle.engine_core.specs.Steps.{Steps};
     ghost use Rattle.engine_core.specs.declared.outcome.Noted.TheVariants.{Nothing};
     ghost use Rattle.engine_core.specs.declared.outcome.Outcome.TheVariants.{Passed};
@@ -163,16 +163,23 @@ impl Engine {
         self.turn(call, table, now, tickets)
     }
 
-    // Whether a call passes by the mark that it has of the engine: its access policy, in this version, has allowed it, or
-    // its rate or its count has noted it.
-    pub(crate) fn passes_marked(&self, call: &Standing) -> bool
-        ensures { OnTrue result ((moment : ℕ) → Steps self.now.entry.policy self.now.entry.attach
-            self.now.entry.version self.now.level moment call.now call.now self.now.level (Passed Nothing)) }
+    // Has a call of the table pass where nothing is to be noted of it: the access policy allows it, or has done so in this
+    // version, or the rate or the count has noted it. Where it answers false all is as before, and a turn decides. The
+    // mark that it has of the engine is looked for at a place first.
+    pub(crate) fn pass_unnoted(&self, call: &mut Standing, likely: usize, table: &Table) -> bool
+        requires { IsCallOf table.now call.old.call }
+        ensures passed { OnTrue result ((moment : ℕ) → Steps self.now.entry.policy self.now.entry.attach
+            self.now.entry.version self.now.level moment call.old call.new self.now.level (Passed Nothing)) }
+        ensures as_before { OnFalse result (call.new ≡ call.old) }
     {
+        let note = call.note_at(likely, self.attach);
         match &self.policy {
-            Policy::Access(_) => is_allowed(call, self.attach, self.version),
-            Policy::Rate(_) => is_noted(call, self.attach),
-            Policy::Count => is_noted(call, self.attach),
+            Policy::Access(access) => {
+                allows(note, self.version)
+                    || allow(access, self.attach, self.version, note, call, table)
+            }
+            Policy::Rate(_) => is_past(note),
+            Policy::Count => is_past(note),
             Policy::Quota { .. } | Policy::Redact(_) => false,
         }
     }

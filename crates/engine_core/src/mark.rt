@@ -1,6 +1,6 @@
 //! Marks: what a standing call keeps of the engines that it met.
 
-ghost use Rattle.std.specs.Prelude.{◌≡◌, ◌≤◌, ◌==◌, All, IfSome, IsTrue, true, false, not, filter, length};
+ghost use Rattle.std.specs.Prelude.{◌≡◌, ◌≤◌, ◌==◌, not, filter, length, position};
 ghost use Rattle.std.specs.List.{list_any};
 ghost use Rattle.engine_core.specs.Marks.{is_allowing, other_marks};
 ghost use Rattle.engine_core.specs.Steps.{marked};
@@ -52,34 +52,22 @@ impl Default for Mark {
     }
 }
 
-// Removes the mark of an attachment.
-fn forget(marks: &mut Marks, attach: u32)
-    ensures { marks.new.items ≡ other_marks attach marks.old.items }
-{
-    if is_marked(marks.as_slice(), attach) {
-        marks.retain(|mark| mark.attach != attach);
-    }
-}
-
-// Whether one of the marks is of an attachment.
-fn is_marked(marks: &[Mark], attach: u32) -> bool
-    ensures { result ≡ false → All (λ m. not (m.attach == attach) ≡ true) marks.now }
-{
-    for mark in marks {
-        if mark.attach == attach {
-            return true;
-        }
-    }
-    false
-}
-
 // Sets the mark of an attachment, in place of the one that it had.
 pub(crate) fn set(marks: &mut Marks, attach: u32, note: Note)
     requires { length (other_marks attach marks.old.items) ≤ 7 }
     ensures { marks.new.items ≡ marked attach note marks.old.items }
 {
-    forget(marks, attach);
-    marks.push(Mark { attach, note });
+    match place_of(marks.as_slice(), attach) {
+        Some(place) => marks[place] = Mark { attach, note },
+        None => marks.push(Mark { attach, note }),
+    }
+}
+
+// The place of the mark of an attachment, if there is one.
+fn place_of(marks: &[Mark], attach: u32) -> Option<usize>
+    ensures { result ≡ position (λ m. m.attach == attach) marks.now }
+{
+    marks.iter().position(|mark| mark.attach == attach)
 }
 
 // Removes the marks of access engines.
@@ -93,40 +81,7 @@ pub(crate) fn forget_allowing(marks: &mut Marks)
 pub(crate) fn keep_of(marks: &mut Marks, engines: &[Engine])
     ensures { marks.new.items ≡ filter (λ m. list_any (λ e. e.entry.attach == m.attach) engines.now) marks.old.items }
 {
-    if !are_of(marks.as_slice(), engines) {
-        marks.retain(|mark| has_attachment(engines, mark.attach));
-    }
-}
-
-// Whether each mark is of one of the engines. That of the next mark is looked for behind that of the mark before first,
-// since marks mostly stand in the order of the engines.
-fn are_of(marks: &[Mark], engines: &[Engine]) -> bool
-    ensures { IsTrue result
-        → All (λ m. list_any (λ e. e.entry.attach == m.attach) engines.now ≡ true) marks.now }
-{
-    let mut next = 0;
-    for mark in marks {
-        match place_of(engines, next, mark.attach) {
-            Some(place) => next = place.wrapping_add(1),
-            None => return false,
-        }
-    }
-    true
-}
-
-// The place of an engine that has the attachment, which is this one where it has it.
-fn place_of(engines: &[Engine], likely: usize, attach: u32) -> Option<usize>
-    ensures { IfSome result (λ _. list_any (λ e. e.entry.attach == attach) engines.now ≡ true) }
-{
-    if likely < engines.len() && engines[likely].attach() == attach {
-        return Some(likely);
-    }
-    for place in 0..engines.len() {
-        if engines[place].attach() == attach {
-            return Some(place);
-        }
-    }
-    None
+    marks.retain(|mark| has_attachment(engines, mark.attach));
 }
 
 // Whether one of the engines has the attachment.

@@ -1,14 +1,17 @@
 //! Calls that stand: they were accepted, and have neither been sent nor refused.
 
-ghost use Rattle.std.specs.Prelude.{◌≡◌, ◌≢◌, ◌≤◌, ◌<◌, ◌↔◌, ℕ, [], All, IsTrue, length};
+ghost use Rattle.std.specs.Prelude.{◌≡◌, ◌≢◌, ◌≤◌, ◌<◌, ◌↔◌, ℕ, [], All, IsTrue, length, Some, slice_get};
 ghost use Rattle.std.specs.Bool.{OnTrue, OnFalse};
 ghost use Rattle.mrpc_table.specs.Weight.{weight};
 ghost use Rattle.mrpc_table.specs.declared.table.Table.{Table as TheTable};
 ghost use Rattle.mrpc_table.specs.Calls.{IsCallOf};
 ghost use Rattle.policy_redact.specs.Redacting.{FitsSomeTable, cleared_call};
+ghost use Rattle.engine_core.specs.Engines.{EngineParts};
 ghost use Rattle.engine_core.specs.Marks.{IsOneEach, StandingCall, note_of, other_marks};
 ghost use Rattle.engine_core.specs.Steps.{IsUnallowed, with_mark};
+ghost use Rattle.engine_core.specs.Working.{KeepsMarksOf};
 
+use crate::MAX_ENGINES;
 use crate::engine::Engine;
 use crate::mark::{Marks, Note, forget_allowing, keep_of, set};
 use mrpc_table::Call;
@@ -67,6 +70,17 @@ impl Standing {
             .map(|mark| mark.note)
     }
 
+    // The same, which is looked for at a place first.
+    pub(crate) fn note_at(&self, likely: usize, attach: u32) -> Option<Note>
+        ensures { result ≡ note_of self.now.marks attach }
+    {
+        let marks = self.marks.as_slice();
+        if likely < marks.len() && marks[likely].attach == attach {
+            return Some(marks[likely].note);
+        }
+        self.note_of(attach)
+    }
+
     // Sets the mark of an attachment.
     pub(crate) fn mark(&mut self, attach: u32, note: Note)
         requires { length (other_marks attach self.old.marks) ≤ 7 }
@@ -106,6 +120,34 @@ impl Standing {
         ensures room { All (λ e. length (other_marks e.entry.attach self.new.marks) < length engines.now) engines.now }
     {
         keep_of(&mut self.marks, engines);
+    }
+
+    // Makes room for a mark of the engine at a place: where there is none, the marks of all but these engines are taken
+    // away.
+    pub(crate) fn make_room(&mut self, engines: &[Engine], at: usize)
+        requires engine { at < length engines.now }
+        requires few { length engines.now ≤ 8 }
+        ensures keeps { KeepsMarksOf engines.now self.old self.new }
+        ensures room { (e : EngineParts) → slice_get engines.now at ≡ Some e
+            → length (other_marks e.entry.attach self.new.marks) ≤ 7 }
+    {
+        let attach = engines[at].attach();
+        if self.has_room(attach, self.note_at(at, attach)) {
+            return;
+        }
+        self.keep_marks_of(engines);
+    }
+
+    // Whether there is room for a mark of an attachment, whose mark says this so far, if there is one.
+    pub(crate) fn has_room(&self, attach: u32, note: Option<Note>) -> bool
+        requires { note ≡ note_of self.now.marks attach }
+        ensures { OnTrue result (length (other_marks attach self.now.marks) ≤ 7) }
+    {
+        self.few_marks();
+        match note {
+            Some(_) => true,
+            None => self.marks.len() < MAX_ENGINES,
+        }
     }
 
     /// A law; it does nothing. No two marks are of one engine, and there are at most eight.

@@ -6,8 +6,10 @@ ghost use Rattle.mrpc_table.specs.Calls.{IsCallOf};
 ghost use Rattle.policy_rate.specs.Level.{IsRate};
 ghost use Rattle.policy_redact.specs.Redacting.{FitsSomeTable};
 ghost use Rattle.engine_core.specs.Answers.{drawn, nothing};
-ghost use Rattle.engine_core.specs.Marks.{is_allowed, other_marks, past_of};
+ghost use Rattle.engine_core.specs.Marks.{is_allowed_by, note_of, other_marks, past_by, past_of};
 ghost use Rattle.engine_core.specs.Steps.{Steps};
+ghost use Rattle.engine_core.specs.declared.outcome.Noted.TheVariants.{Nothing};
+ghost use Rattle.engine_core.specs.declared.outcome.Outcome.TheVariants.{Passed};
 ghost use Rattle.engine_core.specs.Turns.{noted_in, is_draw, TellsDraw, IsElsewhere};
 
 use crate::mark::Note;
@@ -33,7 +35,7 @@ pub(crate) fn judge(
     ensures { (level moment : ℕ)
         → Steps (Policy.Access access.now) attach version level moment call.old call.new level result }
 {
-    if is_allowed(call, attach, version) {
+    if allows(call.note_of(attach), version) {
         return Outcome::Passed(Noted::Nothing);
     }
     let verdict = access.judge(call.call(), table);
@@ -42,6 +44,30 @@ pub(crate) fn judge(
     }
     call.mark(attach, Note::Allowed { version });
     Outcome::Passed(Noted::Nothing)
+}
+
+// Marks a call where the policy allows it and there is room for the mark, and answers whether it did. `note` is what the
+// mark of the engine says so far, and not that this version has allowed the call.
+pub(crate) fn allow(
+    access: &Access,
+    attach: u32,
+    version: u32,
+    note: Option<Note>,
+    call: &mut Standing,
+    table: &Table,
+) -> bool
+    requires call { IsCallOf table.now call.old.call }
+    requires note { note ≡ note_of call.old.marks attach }
+    requires unmarked { is_allowed_by version note ≡ false }
+    ensures allows { OnTrue result ((level moment : ℕ)
+        → Steps (Policy.Access access.now) attach version level moment call.old call.new level (Passed Nothing)) }
+    ensures as_before { OnFalse result (call.new ≡ call.old) }
+{
+    if !call.has_room(attach, note) || !access.judge(call.call(), table).allow {
+        return false;
+    }
+    call.mark(attach, Note::Allowed { version });
+    true
 }
 
 // A rate engine charges a call once.
@@ -137,25 +163,33 @@ pub(crate) fn clear(redact: &Redact, call: &mut Standing) -> Outcome
     }
 }
 
+// Whether a mark, or none, says that something was noted.
+pub(crate) fn is_past(note: Option<Note>) -> bool
+    ensures noted { OnTrue result (past_by note ≢ nothing) }
+    ensures none { OnFalse result (past_by note ≡ nothing) }
+{
+    matches!(
+        note,
+        Some(Note::Charged | Note::Drawn { .. } | Note::Counted)
+    )
+}
+
+// Whether a mark, or none, says that an access policy of this version has allowed a call.
+pub(crate) fn allows(note: Option<Note>, version: u32) -> bool
+    ensures { result ≡ is_allowed_by version note }
+{
+    match note {
+        Some(Note::Allowed { version: allowed }) => allowed == version,
+        _ => false,
+    }
+}
+
 // Whether something was noted of a call for an attachment.
 pub(crate) fn is_noted(call: &Standing, attach: u32) -> bool
     ensures noted { OnTrue result (past_of call.now.marks attach ≢ nothing) }
     ensures none { OnFalse result (past_of call.now.marks attach ≡ nothing) }
 {
-    matches!(
-        call.note_of(attach),
-        Some(Note::Charged | Note::Drawn { .. } | Note::Counted)
-    )
-}
-
-// Whether the access policy of this attachment and version has allowed a call.
-pub(crate) fn is_allowed(call: &Standing, attach: u32, version: u32) -> bool
-    ensures { result ≡ is_allowed call.now.marks attach version }
-{
-    match call.note_of(attach) {
-        Some(Note::Allowed { version: allowed }) => allowed == version,
-        _ => false,
-    }
+    is_past(call.note_of(attach))
 }
 
 // The ticket that was drawn of a call for an attachment, if one was.

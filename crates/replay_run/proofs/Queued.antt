@@ -7,9 +7,8 @@ use Rattle.std.proofs.lemmas.List.Quantifiers.{position-Some}
 use Rattle.std.specs.Prelude.{◌==◌, find, option_map, position, slice_get, unwrap_or}
 use Rattle.std.specs.Io.KnownBytes.{Appends}
 use Rattle.std.specs.List.{AllByRecursion, flat_map, range_with_len}
-use Rattle.engine_core.specs.Marks.{StandingCall}
+use Rattle.engine_core.specs.Marks.{StandingCall, seqs_of}
 use Rattle.engine_core.specs.Moves.{Row}
-use Rattle.chain_upgrade.specs.Chains.{numbers_of}
 use Rattle.replay_run.specs.Follows.{Opened}
 use Rattle.replay_run.specs.Kept.{TellsSome, opened_of}
 use Rattle.replay_run.specs.Stands.{stands_at, stands_on}
@@ -17,7 +16,7 @@ use Rattle.replay_run.specs.declared.connection.Connection.{Connection}
 use Rattle.replay_run.proofs.Places.{lacks-number}
 use Rattle.replay_run.proofs.Written.{TellsRest, rest-more, rest-some, some-in}
 
-pub rows-long : (row : Row) (calls : List StandingCall) → map (λ call. call.0) row ≡ numbers_of calls → length row ≡ length calls
+pub rows-long : (row : Row) (calls : List StandingCall) → map (λ call. call.0) row ≡ seqs_of calls → length row ≡ length calls
 rows-long row calls same = sym (length-map row (λ (call : ℕ × ℕ). call.0)) ∙ ap length same ∙ length-map calls (λ (s : StandingCall). s.call.seq)
 
 -- the first at which a test passes is found

@@ -1,7 +1,7 @@
 use Rattle.std.proofs.Common.{◌<◌, ◌∙◌, ℕ, length, arith, sym, subst}
 use Rattle.std.proofs.lemmas.List.{length-map}
-use Rattle.engine_core.specs.Marks.{StandingCall}
-use Rattle.audit_rules.specs.Asking.{LetsAll, seqs_of}
+use Rattle.engine_core.specs.Marks.{StandingCall, seqs_of}
+use Rattle.audit_rules.specs.Asking.{LetsAll}
 use Rattle.audit_rules.proofs.Asked.{entries-same, numbers-same, of-table, apart-same}
 use Rattle.audit_rules.proofs.Entries.{apart-rising, found, not-named, not-passed, not-standing, zip-at}
 use Rattle.audit_rules.proofs.Numbers.{within}

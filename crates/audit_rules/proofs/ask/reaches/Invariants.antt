@@ -6,7 +6,8 @@ use Rattle.call_history.specs.Behind.{Behind, moment}
 use Rattle.call_history.specs.Legal.{IsPrefix}
 use Rattle.call_history.specs.Rules.{Under}
 use Rattle.call_history.specs.Ties.{AreNumbersApart, AreTied}
-use Rattle.audit_rules.specs.Asking.{LetsAll, seqs_of}
+use Rattle.engine_core.specs.Marks.{seqs_of}
+use Rattle.audit_rules.specs.Asking.{LetsAll}
 use Rattle.audit_rules.proofs.ask.reaches.Given as goal
 
 abbrev pub invariant-loop-next : goal.invariant-loop-next

@@ -1,7 +1,6 @@
 use Rattle.std.proofs.Common.{◌≢◌, ◌<◌, get_or, length, arith}
 use Rattle.std.proofs.lemmas.List.{length-map}
-use Rattle.engine_core.specs.Marks.{StandingCall}
-use Rattle.audit_rules.specs.Asking.{seqs_of}
+use Rattle.engine_core.specs.Marks.{StandingCall, seqs_of}
 use Rattle.audit_rules.proofs.Numbers.{less-before, more-behind, none-there, not-there}
 use Rattle.audit_rules.proofs.ask.search_call.Goals as goal
 use Rattle.audit_rules.proofs.ask.search_call.Goals.{else-low-len-via-then-low-len+else-seq_at-seq-2, else-low-len-via-else-low-len}

@@ -1,6 +1,6 @@
 -- calls before `low` have smaller numbers, and those from `high` on have no smaller ones
 use Rattle.std.proofs.Common.{ℕ, ◌-◌, ◌<◌, ◌≤◌, get_or, length}
-use Rattle.audit_rules.specs.Asking.{seqs_of}
+use Rattle.engine_core.specs.Marks.{seqs_of}
 use Rattle.audit_rules.proofs.ask.search_call.Given as goal
 
 abbrev pub invariant-loop-low : goal.invariant-loop-low

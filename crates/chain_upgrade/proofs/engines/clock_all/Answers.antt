@@ -1,5 +1,5 @@
 use Rattle.std.proofs.Common.{get_or, arith}
-use Rattle.chain_upgrade.specs.Chains.{clocked}
+use Rattle.engine_core.specs.Engines.{clocked}
 use Rattle.chain_upgrade.proofs.Clocks.{changed-one-more, clocked-is, others-one-more}
 use Rattle.chain_upgrade.proofs.engines.clock_all.Goals as goal
 

@@ -1,6 +1,6 @@
 -- the engines so far were shown the moment, and the others are as they were
 use Rattle.std.proofs.Common.{◌≡◌, take, drop, map}
-use Rattle.chain_upgrade.specs.Chains.{clocked}
+use Rattle.engine_core.specs.Engines.{clocked}
 use Rattle.chain_upgrade.proofs.engines.clock_all.Given as goal
 
 abbrev pub invariant-loop-engine : goal.invariant-loop-engine

@@ -13,8 +13,8 @@ not_allowed {b} h = grind (arith, common_steps)
 is_allowed : {b : Bool} → not b ≡ false → b ≡ true
 is_allowed {b} h = grind (arith, common_steps)
 
-pub returns-then-is_allowed : goal.returns-then-is_allowed
-returns-then-is_allowed c = λ level moment. was_allowed c.args.access.now refl (cc) refl refl refl
+pub returns-then-allows : goal.returns-then-allows
+returns-then-allows c = λ level moment. was_allowed c.args.access.now refl (cc) refl refl refl
 
 pub returns-then-not-verdict : goal.returns-then-not-verdict
 returns-then-not-verdict c =

@@ -2,8 +2,7 @@ use Rattle.std.proofs.Common.{◌≡◌, ◌∙◌, List, Some, length, map, sli
 use Rattle.std.proofs.lemmas.Option.{slice_get-get_or}
 use Rattle.engine_core.specs.Chains.{Entry}
 use Rattle.engine_core.specs.Engines.{EngineParts}
-use Rattle.engine_core.specs.Marks.{StandingCall}
-use Rattle.audit_rules.specs.Asking.{seqs_of}
+use Rattle.engine_core.specs.Marks.{StandingCall, seqs_of}
 use Rattle.audit_rules.specs.Knowing.{under}
 use Rattle.audit_rules.proofs.Asked.{map-at}
 use Rattle.audit_rules.proofs.Telling.{first-there, holds-told, none-holds, not-first, told-entries, told-few, told-many, told-number}

@@ -1,9 +1,8 @@
 use Rattle.std.proofs.Common.{◌≡◌, ℕ, List, [], slice_get, subst, sym}
 use Rattle.std.specs.Prelude.{None, Some}
-use Rattle.engine_core.specs.Marks.{StandingCall}
+use Rattle.engine_core.specs.Marks.{StandingCall, seqs_of}
 use Rattle.call_history.specs.Behind.{standing}
 use Rattle.call_history.specs.declared.happening.Cause.TheVariants.{Transport}
-use Rattle.audit_rules.specs.Asking.{seqs_of}
 use Rattle.audit_rules.proofs.Known.{known-standing}
 use Rattle.audit_rules.proofs.Taking.{first-stands}
 use Rattle.audit_rules.proofs.checker.Checker.lose.Goals as goal

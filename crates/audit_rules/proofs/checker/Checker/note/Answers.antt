@@ -3,7 +3,8 @@ use Rattle.std.specs.List.{AllZip}
 use Rattle.std.specs.VecDeque.{deque_capacity}
 use Rattle.std.proofs.lemmas.Grind.{common_steps}
 use Rattle.engine_core.specs.Turns.{noted_in}
-use Rattle.audit_rules.specs.Asking.{LetsAll, seqs_of}
+use Rattle.engine_core.specs.Marks.{seqs_of}
+use Rattle.audit_rules.specs.Asking.{LetsAll}
 use Rattle.audit_rules.specs.Knowing.{IsFree, LeavesOpen, under}
 use Rattle.audit_rules.specs.declared.checker.Checker.{Checker}
 use Rattle.audit_rules.specs.declared.left.Left.{Left}

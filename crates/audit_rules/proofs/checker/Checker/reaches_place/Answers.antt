@@ -4,7 +4,8 @@ use Rattle.std.specs.List.{AllZip}
 use Rattle.engine_core.specs.Engines.{EngineParts}
 use Rattle.engine_core.specs.declared.TheConstants.{MAX_ENGINES}
 use Rattle.call_history.specs.Ties.{AreTied}
-use Rattle.audit_rules.specs.Asking.{LetsAll, seqs_of}
+use Rattle.engine_core.specs.Marks.{seqs_of}
+use Rattle.audit_rules.specs.Asking.{LetsAll}
 use Rattle.audit_rules.specs.Knowing.{under}
 use Rattle.audit_rules.proofs.Clocks.{written-back}
 use Rattle.audit_rules.proofs.Entries.{apart-rising, zip-at}

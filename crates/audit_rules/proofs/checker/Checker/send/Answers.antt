@@ -5,11 +5,11 @@ use Rattle.std.proofs.lemmas.List.{length-map}
 use Rattle.mrpc_table.specs.Calls.{IsCallOf}
 use Rattle.engine_core.specs.Chains.{Chain}
 use Rattle.engine_core.specs.Engines.{EngineParts}
-use Rattle.engine_core.specs.Marks.{StandingCall}
+use Rattle.engine_core.specs.Marks.{StandingCall, seqs_of}
 use Rattle.std.specs.List.{AllZip}
 use Rattle.call_history.specs.Behind.{chain}
 use Rattle.call_history.specs.Ties.{AreTied}
-use Rattle.audit_rules.specs.Asking.{LetsAll, seqs_of}
+use Rattle.audit_rules.specs.Asking.{LetsAll}
 use Rattle.audit_rules.specs.Knowing.{numbers_of, under}
 use Rattle.audit_rules.proofs.Asked.{All-at, map-at}
 use Rattle.audit_rules.proofs.Entries.{apart-rising, zip-at}

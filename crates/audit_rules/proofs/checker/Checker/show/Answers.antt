@@ -1,6 +1,5 @@
 use Rattle.std.proofs.Common.{◌≡◌, List, length, map, refl, ap, ◌∙◌, arith}
-use Rattle.engine_core.specs.Engines.{EngineParts}
-use Rattle.call_history.specs.Ties.{shown}
+use Rattle.engine_core.specs.Engines.{EngineParts, clocked}
 use Rattle.audit_rules.proofs.Clocks.{written-back}
 use Rattle.audit_rules.proofs.States.{knows-shown}
 use Rattle.audit_rules.proofs.checker.Checker.show.Goals as goal
@@ -12,5 +11,5 @@ returns-clause-knows c = λ T past knows may.
     let kept : length c.clock_all.new.engines ≡ length c.args.self.now.engines.items = omega (arith, lent, c.clock_all.auto.engines) in
     knows-shown T past c.args.now c.args.self.now _ knows may c.ties_go_on.ensures.shows refl
     (written-back c.args.self.now.engines.items c.clock_all.new.engines c.args.self.now.engines.len kept many
-    ∙ (c.clock_all.ensures ∙ ap (λ (es : List EngineParts). map (λ e. shown c.args.now e) es)
+    ∙ (c.clock_all.ensures ∙ ap (λ (es : List EngineParts). map (λ e. clocked c.args.now e) es)
     c.deref_mut.ensures.value)) refl)

@@ -2,9 +2,9 @@ use Rattle.std.proofs.Common.{◌≡◌, ◌≤◌, ◌∙◌, ℕ, List, Some, 
 use Rattle.std.proofs.lemmas.List.{length-map}
 use Rattle.engine_core.specs.Chains.{Entry}
 use Rattle.engine_core.specs.Engines.{EngineParts}
-use Rattle.engine_core.specs.Marks.{StandingCall}
+use Rattle.engine_core.specs.Marks.{StandingCall, seqs_of}
 use Rattle.call_history.specs.Rules.{Under}
-use Rattle.audit_rules.specs.Asking.{LetsAll, seqs_of}
+use Rattle.audit_rules.specs.Asking.{LetsAll}
 use Rattle.audit_rules.specs.Knowing.{KnowsTold, under}
 use Rattle.audit_rules.specs.Telling.{TellsNext, name_at}
 use Rattle.audit_rules.specs.declared.checker.Checker.{Checker}

@@ -4,7 +4,8 @@ use Rattle.engine_core.specs.Engines.{EngineParts, HasPast}
 use Rattle.engine_core.specs.Moves.{back_to}
 use Rattle.engine_core.specs.Policies.{IsPolicy}
 use Rattle.engine_core.specs.declared.op.Op.TheVariants.{Attach}
-use Rattle.chain_upgrade.specs.Chains.{ChainParts, chain_of, numbers_of}
+use Rattle.engine_core.specs.Marks.{seqs_of}
+use Rattle.chain_upgrade.specs.Chains.{ChainParts, chain_of}
 use Rattle.chain_upgrade.specs.Cuts.{row_from}
 use Rattle.chain_upgrade.proofs.Keeping.{kept-as, kept-attach}
 use Rattle.chain_upgrade.proofs.RowLaws.{row-back}
@@ -63,5 +64,5 @@ returns-clause-past c e rate is rated =
     subst (λ (e : EngineParts). HasPast e rate c.args.now []) same (c.new.ensures.past rate rated)
 
 pub returns-clause-row : goal.returns-clause-row
-returns-clause-row c = ap (λ (cuts : List ℕ). row_from 0 cuts (numbers_of c.self.inside.row)) c.zero_behind.ensures
-    ∙ (row-back c.args.at c.self.inside.cuts.behind (numbers_of c.self.inside.row) ∙ ap (λ (v : ChainParts). back_to c.args.at v.row) c.self.view_is)
+returns-clause-row c = ap (λ (cuts : List ℕ). row_from 0 cuts (seqs_of c.self.inside.row)) c.zero_behind.ensures
+    ∙ (row-back c.args.at c.self.inside.cuts.behind (seqs_of c.self.inside.row) ∙ ap (λ (v : ChainParts). back_to c.args.at v.row) c.self.view_is)

@@ -1,5 +1,6 @@
 use Rattle.std.proofs.Common.{◌++◌, length, map, take, drop, refl, ap, ◌∙◌, arith, vec_capacity}
-use Rattle.chain_upgrade.specs.Chains.{ChainParts, clocked}
+use Rattle.engine_core.specs.Engines.{clocked}
+use Rattle.chain_upgrade.specs.Chains.{ChainParts}
 use Rattle.chain_upgrade.proofs.Clocks.{kept-clocked, pasts-clocked, written-back}
 use Rattle.chain_upgrade.proofs.Keeping.{kept-as}
 use Rattle.chain_upgrade.proofs.chain.Chain.clock.Goals as goal

@@ -3,7 +3,8 @@ use Rattle.engine_core.specs.Chains.{Changes, IsChain, names_of}
 use Rattle.engine_core.specs.Engines.{EngineParts}
 use Rattle.engine_core.specs.Moves.{moved_up, place_of}
 use Rattle.engine_core.specs.declared.op.Op.TheVariants.{Detach}
-use Rattle.chain_upgrade.specs.Chains.{ChainParts, chain_of, numbers_of}
+use Rattle.engine_core.specs.Marks.{seqs_of}
+use Rattle.chain_upgrade.specs.Chains.{ChainParts, chain_of}
 use Rattle.chain_upgrade.specs.Cuts.{row_from}
 use Rattle.chain_upgrade.proofs.Keeping.{kept-as, kept-detach}
 use Rattle.chain_upgrade.proofs.Named.{IsFound, detach-changes, found, none-found}
@@ -58,7 +59,7 @@ returns-clause-engines c =
 pub returns-clause-row : goal.returns-clause-row
 returns-clause-row c =
     let it = its-place c in
-    ap (λ (cuts : List ℕ). row_from 0 cuts (numbers_of c.self.inside.row)) c.close_up.ensures
-    ∙ (row-up _ c.in-Some.place c.self.inside.cuts.behind (numbers_of c.self.inside.row) c.self.invariant.falls
-    ∙ (ap (λ (p : ℕ). moved_up p (row_from 0 c.self.inside.cuts.behind (numbers_of c.self.inside.row))) (sym it.place_is)
+    ap (λ (cuts : List ℕ). row_from 0 cuts (seqs_of c.self.inside.row)) c.close_up.ensures
+    ∙ (row-up _ c.in-Some.place c.self.inside.cuts.behind (seqs_of c.self.inside.row) c.self.invariant.falls
+    ∙ (ap (λ (p : ℕ). moved_up p (row_from 0 c.self.inside.cuts.behind (seqs_of c.self.inside.row))) (sym it.place_is)
     ∙ ap (λ (v : ChainParts). moved_up (place_of c.args.name (map (λ e. e.entry) v.engines)) v.row) c.self.view_is))

@@ -1,6 +1,6 @@
 use Rattle.std.proofs.Common.{◌≡◌, ◌<◌, ◌∷◌, ℕ, List, length, filter, nat_le, remove, refl, ap, subst, sym, ◌∙◌, arith, vec_capacity}
-use Rattle.engine_core.specs.Marks.{StandingCall}
-use Rattle.chain_upgrade.specs.Chains.{ChainParts, numbers_of}
+use Rattle.engine_core.specs.Marks.{StandingCall, seqs_of}
+use Rattle.chain_upgrade.specs.Chains.{ChainParts}
 use Rattle.chain_upgrade.specs.Cuts.{row_from, taken_out}
 use Rattle.chain_upgrade.proofs.Keeping.{kept-as, kept-without}
 use Rattle.chain_upgrade.proofs.Reading.{head-below, none-counted, row-ready}
@@ -24,6 +24,6 @@ returns-clause-ready c =
     c.self.view_is c.self.invariant.falls
     (subst (λ (n : ℕ). 0 < length (filter (λ call. nat_le n call.1) c.args.self.now.row)) c.engines.ensures.count
     (omega (arith, c.cut.ensures, c.if-cut-eq0.false)))) c.take.ensures.call
-    ∙ (ap (λ (v : ChainParts). (c.take.result.call.seq, length v.engines) ∷ row_from 0 (taken_out 0 c.self.inside.cuts.behind) (numbers_of (remove c.self.inside.row 0))) c.self.view_is
-    ∙ (ap (λ (cuts : List ℕ). (c.take.result.call.seq, length c.args.self.now.engines) ∷ row_from 0 cuts (numbers_of (remove c.self.inside.row 0))) (sym c.take_out.ensures)
-    ∙ ap (λ (calls : List StandingCall). (c.take.result.call.seq, length c.args.self.now.engines) ∷ row_from 0 c.take_out.new.self.behind (numbers_of calls)) (sym c.take.ensures.rest)))
+    ∙ (ap (λ (v : ChainParts). (c.take.result.call.seq, length v.engines) ∷ row_from 0 (taken_out 0 c.self.inside.cuts.behind) (seqs_of (remove c.self.inside.row 0))) c.self.view_is
+    ∙ (ap (λ (cuts : List ℕ). (c.take.result.call.seq, length c.args.self.now.engines) ∷ row_from 0 cuts (seqs_of (remove c.self.inside.row 0))) (sym c.take_out.ensures)
+    ∙ ap (λ (calls : List StandingCall). (c.take.result.call.seq, length c.args.self.now.engines) ∷ row_from 0 c.take_out.new.self.behind (seqs_of calls)) (sym c.take.ensures.rest)))

@@ -1,7 +1,7 @@
 use Rattle.std.proofs.Common.{◌≡◌, ◌<◌, ℕ, List, length, refl, ap, sym, ◌∙◌, subst, slice_get, Some, vec_capacity}
-use Rattle.engine_core.specs.Marks.{StandingCall}
+use Rattle.engine_core.specs.Marks.{StandingCall, seqs_of}
 use Rattle.engine_core.specs.declared.outcome.Outcome.{Outcome}
-use Rattle.chain_upgrade.specs.Chains.{ChainParts, numbers_of, row_after}
+use Rattle.chain_upgrade.specs.Chains.{ChainParts, row_after}
 use Rattle.chain_upgrade.specs.Cuts.{row_from, taken_out}
 use Rattle.chain_upgrade.proofs.AfterTurns.{few-behind, inside, passed-kept, passed-row, redacted-kept, redacted-row, refused-kept, refused-row}
 use Rattle.chain_upgrade.proofs.Keeping.{kept-as}
@@ -35,7 +35,7 @@ invariant_of-self-in-Redacted c = kept-as _ _ _ _ _ _ _ _ _ refl refl refl c.low
 pub returns-in-Passed-clause-row : goal.returns-in-Passed-clause-row
 returns-in-Passed-clause-row c s is =
     let there : slice_get c.self.inside.row c.args.place ≡ Some s = ap (λ (v : ChainParts). slice_get v.calls c.args.place) c.self.view_is ∙ is in
-    ap (λ (cuts : List ℕ). row_from 0 cuts (numbers_of c.self.inside.row)) c.raise.ensures.raised
+    ap (λ (cuts : List ℕ). row_from 0 cuts (seqs_of c.self.inside.row)) c.raise.ensures.raised
     ∙ (passed-row c.self.inside.engines.items (vec_capacity c.self.inside.engines) c.self.inside.attached c.args.at c.args.place
     c.self.inside.row c.self.inside.cuts.behind c.args.self.now c.self.view_is c.self.invariant c.requires.place c.requires.below s c.raise.ensures.within there
     ∙ ap (λ (outcome : Outcome). row_after s.call.seq outcome c.args.self.now.row) (sym c.in-Passed.is))
@@ -43,8 +43,8 @@ returns-in-Passed-clause-row c s is =
 pub returns-in-Refused-clause-row : goal.returns-in-Refused-clause-row
 returns-in-Refused-clause-row c s is =
     let there : slice_get c.self.inside.row c.args.place ≡ Some s = ap (λ (v : ChainParts). slice_get v.calls c.args.place) c.self.view_is ∙ is in
-    ap (λ (cuts : List ℕ). row_from 0 cuts (numbers_of c.drop_at.new.self)) c.take_out.ensures
-    ∙ (ap (λ (calls : List StandingCall). row_from 0 (taken_out c.args.place c.self.inside.cuts.behind) (numbers_of calls)) c.drop_at.ensures
+    ap (λ (cuts : List ℕ). row_from 0 cuts (seqs_of c.drop_at.new.self)) c.take_out.ensures
+    ∙ (ap (λ (calls : List StandingCall). row_from 0 (taken_out c.args.place c.self.inside.cuts.behind) (seqs_of calls)) c.drop_at.ensures
     ∙ (refused-row c.self.inside.engines.items (vec_capacity c.self.inside.engines) c.self.inside.attached c.args.at c.args.place
     c.self.inside.row c.self.inside.cuts.behind c.args.self.now c.self.view_is c.self.invariant c.requires.place c.requires.below s there
     ∙ ap (λ (outcome : Outcome). row_after s.call.seq outcome c.args.self.now.row) (sym c.in-Refused.is)))
@@ -52,7 +52,7 @@ returns-in-Refused-clause-row c s is =
 pub returns-in-Redacted-clause-row : goal.returns-in-Redacted-clause-row
 returns-in-Redacted-clause-row c s is =
     let there : slice_get c.self.inside.row c.args.place ≡ Some s = ap (λ (v : ChainParts). slice_get v.calls c.args.place) c.self.view_is ∙ is in
-    ap (λ (cuts : List ℕ). row_from 0 cuts (numbers_of c.self.inside.row)) c.lower_to.ensures
+    ap (λ (cuts : List ℕ). row_from 0 cuts (seqs_of c.self.inside.row)) c.lower_to.ensures
     ∙ (redacted-row c.self.inside.engines.items (vec_capacity c.self.inside.engines) c.self.inside.attached c.args.at c.args.place
     c.self.inside.row c.self.inside.cuts.behind c.args.self.now c.self.view_is c.self.invariant c.requires.place c.requires.below s there
     ∙ ap (λ (outcome : Outcome). row_after s.call.seq outcome c.args.self.now.row) (sym c.in-Redacted.is))

@@ -3,12 +3,12 @@ use Rattle.std.proofs.lemmas.List.{length-set}
 use Rattle.policy_rate.specs.Level.{upgrade}
 use Rattle.engine_core.specs.Chains.{Changes, Entry, IsChain, names_of, upgraded}
 use Rattle.engine_core.specs.Engines.{EngineParts, HasPast}
-use Rattle.engine_core.specs.Marks.{IsTrueFor}
+use Rattle.engine_core.specs.Marks.{IsTrueFor, seqs_of}
 use Rattle.engine_core.specs.Moves.{back_to, place_of}
 use Rattle.engine_core.specs.Policies.{IsPolicy, is_same_kind, level_under}
 use Rattle.engine_core.specs.declared.op.Op.TheVariants.{Upgrade}
 use Rattle.engine_core.specs.declared.policy.Policy.{Policy}
-use Rattle.chain_upgrade.specs.Chains.{ChainParts, chain_of, numbers_of}
+use Rattle.chain_upgrade.specs.Chains.{ChainParts, chain_of}
 use Rattle.chain_upgrade.specs.Cuts.{row_from}
 use Rattle.chain_upgrade.proofs.Keeping.{kept-as, kept-upgrade}
 use Rattle.chain_upgrade.proofs.Named.{IsFound, found, map-at, none-found, upgrade-changes, upgraded-is}
@@ -144,7 +144,7 @@ returns-clause-past c = λ before after first rate start past is is' rated has.
 
 pub returns-clause-row : goal.returns-clause-row
 returns-clause-row c =
-    ap (λ (cuts : List ℕ). row_from 0 cuts (numbers_of c.self.inside.row)) c.zero_behind.ensures
-    ∙ (row-back c.in-Some.place c.self.inside.cuts.behind (numbers_of c.self.inside.row)
+    ap (λ (cuts : List ℕ). row_from 0 cuts (seqs_of c.self.inside.row)) c.zero_behind.ensures
+    ∙ (row-back c.in-Some.place c.self.inside.cuts.behind (seqs_of c.self.inside.row)
     ∙ (ap (λ (v : ChainParts). back_to c.in-Some.place v.row) c.self.view_is
     ∙ ap (λ (p : ℕ). back_to p c.args.self.now.row) (sym (seen-place c))))

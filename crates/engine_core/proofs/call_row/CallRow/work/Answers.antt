@@ -6,7 +6,6 @@ use Rattle.engine_core.specs.Turns.{noted_in}
 use Rattle.engine_core.specs.Working.{LeavesCall, LeavesTickets}
 use Rattle.engine_core.specs.Engines.{EngineParts}
 use Rattle.engine_core.specs.Marks.{StandingCall}
-use Rattle.engine_core.proofs.Passing.{works-marked}
 use Rattle.engine_core.proofs.call_row.CallRow.work.Goals as goal
 
 pub work-requires-clause-call : goal.work-requires-clause-call
@@ -16,24 +15,11 @@ work-requires-clause-call g c =
     slice_get_read c.self.inside.calls.items (length c.self.inside.calls.items) c.args.place c.index_mut-call.result.now refl within c.index_mut-call.ensures.value in
     let seen : slice_get c.args.self.now c.args.place ≡ Some c.index_mut-call.result.now =
     subst (λ (calls : List StandingCall). slice_get calls c.args.place ≡ Some c.index_mut-call.result.now) c.self.view_is there in
-    subst (λ (call : Call). IsCallOf c.args.table.now call) (sym c.keep_marks_of.ensures.call) (c.requires.call c.index_mut-call.result.now seen)
+    subst (λ (call : Call). IsCallOf c.args.table.now call) (sym c.make_room.ensures.keeps.call) (c.requires.call c.index_mut-call.result.now seen)
 
 pub work-requires-clause-known : goal.work-requires-clause-known
-work-requires-clause-known g c = c.requires.known (slice_index_or c.args.engines.now c.args.at c.index-engines-at-2.result)
-    (slice_get-get_or c.args.engines.now c.args.at c.index-engines-at-2.result c.requires.engine)
-
-pub returns-then-passes_marked-clause-works : goal.returns-then-passes_marked-clause-works
-returns-then-passes_marked-clause-works g c =
-    let within : c.args.place < length c.self.inside.calls.items = subst (λ (calls : List StandingCall). c.args.place < length calls) (sym c.self.view_is) c.requires.place in
-    let there : slice_get c.self.inside.calls.items c.args.place ≡ Some c.index_mut-call.result.now =
-    slice_get_read c.self.inside.calls.items (length c.self.inside.calls.items) c.args.place c.index_mut-call.result.now refl within c.index_mut-call.ensures.value in
-    let seen : slice_get c.args.self.now c.args.place ≡ Some c.index_mut-call.result.now =
-    subst (λ (calls : List StandingCall). slice_get calls c.args.place ≡ Some c.index_mut-call.result.now) c.self.view_is there in
-    works-marked c.args.engines.now c.args.self.now _ c.args.at c.args.place c.args.now
-    (slice_index_or c.args.engines.now c.args.at c.index-engines-at.result) c.index_mut-call.result.now
-    (slice_get-get_or c.args.engines.now c.args.at c.index-engines-at.result c.requires.engine) seen
-    (ap (λ (calls : List StandingCall). set calls c.args.place c.index_mut-call.result.now) c.self.view_is)
-    (rw c.if-passes_marked.true at c.passes_marked.ensures c.args.now)
+work-requires-clause-known g c = c.requires.known (slice_index_or c.args.engines.now c.args.at c.index-engines-at.result)
+    (slice_get-get_or c.args.engines.now c.args.at c.index-engines-at.result c.requires.engine)
 
 pub returns-clause-works : goal.returns-clause-works
 returns-clause-works g c =
@@ -43,28 +29,28 @@ returns-clause-works g c =
     let seen : slice_get c.args.self.now c.args.place ≡ Some c.index_mut-call.result.now =
     subst (λ (calls : List StandingCall). slice_get calls c.args.place ≡ Some c.index_mut-call.result.now) c.self.view_is there in
     record {
-      engine = slice_index_or c.args.engines.now c.args.at c.index-engines-at-2.result;
+      engine = slice_index_or c.args.engines.now c.args.at c.index-engines-at.result;
       engine' = c.work.new.self;
-      is_engine = slice_get-get_or c.args.engines.now c.args.at c.index-engines-at-2.result c.requires.engine;
+      is_engine = slice_get-get_or c.args.engines.now c.args.at c.index-engines-at.result c.requires.engine;
       others = refl;
       call = c.index_mut-call.result.now;
       call' = c.work.new.call;
       is_call = seen;
       other_calls = ap (λ (calls : List StandingCall). set calls c.args.place c.work.new.call) c.self.view_is;
-      met = c.keep_marks_of.new.self;
-      keeps = record { call = c.keep_marks_of.ensures.call; kept = c.keep_marks_of.ensures.kept; none = c.keep_marks_of.ensures.none };
+      met = c.make_room.new.self;
+      keeps = c.make_room.ensures.keeps;
       turn = c.work.ensures.comes_out;
       leaves_engine = c.work.ensures.engine;
-      leaves_call = subst (λ (call : Call). LeavesCall (slice_index_or c.args.engines.now c.args.at c.index-engines-at-2.result).entry.policy c.work.result call c.work.new.call.call)
-          c.keep_marks_of.ensures.call c.work.ensures.call;
+      leaves_call = subst (λ (call : Call). LeavesCall (slice_index_or c.args.engines.now c.args.at c.index-engines-at.result).entry.policy c.work.result call c.work.new.call.call)
+          c.make_room.ensures.keeps.call c.work.ensures.call;
       leaves_marks = c.work.ensures.marks;
     }
 
 pub returns-clause-tickets : goal.returns-clause-tickets
 returns-clause-tickets g c e is =
-    let own : slice_get c.args.engines.now c.args.at ≡ Some (slice_index_or c.args.engines.now c.args.at c.index-engines-at-2.result) =
-    slice_get-get_or c.args.engines.now c.args.at c.index-engines-at-2.result c.requires.engine in
-    let same : slice_index_or c.args.engines.now c.args.at c.index-engines-at-2.result ≡ e = cc (own, is) in
+    let own : slice_get c.args.engines.now c.args.at ≡ Some (slice_index_or c.args.engines.now c.args.at c.index-engines-at.result) =
+    slice_get-get_or c.args.engines.now c.args.at c.index-engines-at.result c.requires.engine in
+    let same : slice_index_or c.args.engines.now c.args.at c.index-engines-at.result ≡ e = cc (own, is) in
     subst (λ (e : EngineParts). LeavesTickets {Q = g.row.Q.Denot} g.Q.Tickets.knows g.Q.Tickets.drawn
     g.Q.Tickets.since e.entry.policy (noted_in c.work.result) c.args.tickets.now c.work.new.tickets)
     same c.work.ensures.tickets

@@ -1,0 +1,31 @@
+use Rattle.std.proofs.Common.{List, ap, sym, ◌∙◌, subst, vec_capacity}
+use Rattle.engine_core.specs.Engines.{EngineParts}
+use Rattle.engine_core.specs.Marks.{StandingCall, seqs_of}
+use Rattle.engine_core.specs.Working.{Works}
+use Rattle.engine_core.specs.declared.outcome.Noted.TheVariants.{Nothing}
+use Rattle.engine_core.specs.declared.outcome.Outcome.TheVariants.{Passed}
+use Rattle.chain_upgrade.specs.Chains.{ChainParts}
+use Rattle.chain_upgrade.specs.Cuts.{row_from}
+use Rattle.chain_upgrade.specs.Kept.{IsKept}
+use Rattle.chain_upgrade.proofs.AfterTurns.{in-either, work-kept, work-row}
+use Rattle.chain_upgrade.proofs.chain.Chain.passes_unnoted.Goals as goal
+
+pub invariant_of-self : goal.invariant_of-self
+invariant_of-self c =
+    in-either c.pass_unnoted.result c.pass_unnoted.ensures.passed c.pass_unnoted.ensures.as_before
+    (λ works. work-kept c.self.inside.engines.items (vec_capacity c.self.inside.engines) c.self.inside.attached c.args.at c.args.place 0
+    c.self.inside.row c.self.inside.cuts.behind (Passed Nothing) c.self.inside.engines.items c.pass_unnoted.new.self c.self.invariant
+    (subst (λ (es : List EngineParts). Works es c.self.inside.row c.args.at c.args.place 0 (Passed Nothing) es c.pass_unnoted.new.self)
+    c.as_slice-engines.ensures.value (works 0)))
+    (λ same. subst (λ (calls : List StandingCall). IsKept c.self.inside.engines.items (vec_capacity c.self.inside.engines) c.self.inside.attached
+    calls c.self.inside.cuts.behind) (sym same) c.self.invariant)
+
+pub returns-clause-row : goal.returns-clause-row
+returns-clause-row c =
+    in-either c.pass_unnoted.result c.pass_unnoted.ensures.passed c.pass_unnoted.ensures.as_before
+    (λ works. work-row c.self.inside.engines.items (vec_capacity c.self.inside.engines) c.self.inside.attached c.args.at c.args.place 0
+    c.self.inside.row c.self.inside.cuts.behind (Passed Nothing) c.self.inside.engines.items c.pass_unnoted.new.self c.self.invariant
+    (subst (λ (es : List EngineParts). Works es c.self.inside.row c.args.at c.args.place 0 (Passed Nothing) es c.pass_unnoted.new.self)
+    c.as_slice-engines.ensures.value (works 0)) c.args.self.now c.self.view_is)
+    (λ same. ap (λ (calls : List StandingCall). row_from 0 c.self.inside.cuts.behind (seqs_of calls)) same
+    ∙ ap (λ (v : ChainParts). v.row) c.self.view_is)
