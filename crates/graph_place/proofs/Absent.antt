@@ -12,10 +12,10 @@ use Rattle.mrpc_table.specs.declared.table.Table.{Table}
 use Rattle.graph_form.specs.Roles.{behind, plain_role, slot_role, is_member}
 use Rattle.graph_form.specs.Placed.{nothing, word, IsFine}
 use Rattle.graph_form.specs.Forgotten.{slot_content}
-use Rattle.graph_place.specs.Laid.{PutsWord}
 use Rattle.graph_place.proofs.Beginning.{Loads}
 use Rattle.graph_place.proofs.Fine.{fine_value, fine_presence, fine_run_length, fine_run_presence, fine_absent, fine_count, fine_entry_count}
 use Rattle.graph_place.proofs.Laying.{lone_word}
+use Rattle.graph_place.proofs.Spelled.{PutsWordAt}
 
 none_behind : (T : Table) (l : Label) (k : Kind) (level p : ℕ) → is_member l ≡ false → behind T (slot_role l k level) p 0 ≡ []
 none_behind T Plain Text level p fails = refl
@@ -72,7 +72,7 @@ absent_says T (Member o) k p fails = absurd (true≢false fails)
 
 pub no_slot : (T : Table) (H : ℕ) (l : Label) (k : Kind) (level place c : ℕ) (before after : Loads)
     → is_member l ≡ false → place + 2 ≤ c → c ≤ H → after ≡ before ++ (place, 0) ∷ []
-    → PutsWord T H (slot_role l k level, place) (place + 2) c c before after (λ w. slot_content T l k w ≡ None)
+    → PutsWordAt T H (slot_role l k level, place) (place + 2) c c before after (λ w. slot_content T l k w ≡ None)
 no_slot T H l k level place c before after fails slot within put =
     lone_word T H (slot_role l k level) place 0 (place + 2) c before after (λ w. slot_content T l k w ≡ None) (none_behind T l k level place fails) (omega arith)
     (absent_fine T H l k level fails (omega (arith, slot, within))) (omega arith) slot put (absent_says T l k place fails)

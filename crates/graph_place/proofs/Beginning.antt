@@ -3,13 +3,13 @@ use Rattle.std.proofs.Common.{◌≡◌, ℕ, ◌+◌, ◌<◌, ◌≤◌, ◌^�
 use Rattle.mrpc_table.specs.declared.table.Table.{Table}
 use Rattle.graph_form.specs.Roles.{Role, Expected, behind}
 use Rattle.graph_form.specs.Placed.{Placed, nothing, first, Word, word, loads, IsFine}
-use Rattle.graph_place.specs.Laid.{Spread, Puts, PutsWord, Begun}
+use Rattle.graph_place.proofs.Spelled.{SpreadAt, PutsAt, PutsWordAt, BegunAt}
 use Rattle.graph_place.proofs.Spreads.{spread_join, spread_none, spread_one, spread_content, spread_wide}
 
 abbrev pub Loads : Type 0
 Loads = List (ℕ × ℕ)
 
-pub begun_none : (T : Table) (H : ℕ) (all : Expected) (a c : ℕ) (before : Loads) (Made : Placed → Type 0) → Begun T H all all a a c c before before Made Made
+pub begun_none : (T : Table) (H : ℕ) (all : Expected) (a c : ℕ) (before : Loads) (Made : Placed → Type 0) → BegunAt T H all all a a c c before before Made Made
 begun_none T H all a c before Made = record {
   own = [];
   words = sym (append-nil before);
@@ -24,13 +24,13 @@ joined before own now more next here there = there ∙ ap (λ xs. xs ++ more) he
 pub begun_more : (T : Table) (H : ℕ) (all : Expected) (e : Role × ℕ) (rest : Expected) (a b b2 c d d2 : ℕ)
     (before now next : Loads) (Made Rest Less : Placed → Type 0) (Here : Word → Type 0)
     → a ≤ b → b ≤ b2 → b2 ≤ c → c ≤ d → d ≤ d2 → e.1 ≡ b
-    → Begun T H all (e ∷ rest) a b c d before now Made Rest
-    → PutsWord T H e b2 d d2 now next Here
+    → BegunAt T H all (e ∷ rest) a b c d before now Made Rest
+    → PutsWordAt T H e b2 d d2 now next Here
     → ((Q : Placed) (w : Word) → Here w → Less Q → Rest (first w Q))
-    → Begun T H all rest a b2 c d2 before next Made Less
+    → BegunAt T H all rest a b2 c d2 before next Made Less
 begun_more T H all e rest a b b2 c d d2 before now next Made Rest Less Here ab bb bc cd dd at begun puts says =
     let more = (e.1, puts.value) ∷ loads puts.content in
-    let spread : Spread b b2 d d2 more = subst (λ p. Spread p b2 d d2 more) at puts.spread in
+    let spread : SpreadAt b b2 d d2 more = subst (λ p. SpreadAt p b2 d d2 more) at puts.spread in
     record {
       own = begun.own ++ more;
       words = joined before begun.own now more next begun.words puts.words;
@@ -47,7 +47,7 @@ begun_more T H all e rest a b b2 c d d2 before now next Made Rest Less Here ab b
     }
 
 pub begun_end : (T : Table) (H : ℕ) (all : Expected) (a b c d : ℕ) (before now : Loads) (Made Rest : Placed → Type 0)
-    → Begun T H all [] a b c d before now Made Rest → Rest nothing → Puts T H all a b c d before now Made
+    → BegunAt T H all [] a b c d before now Made Rest → Rest nothing → PutsAt T H all a b c d before now Made
 begun_end T H all a b c d before now Made Rest begun rest =
     let done = begun.on nothing tt rest in
     let same : loads done.placed ≡ begun.own = done.loaded ∙ append-nil begun.own in
@@ -55,13 +55,13 @@ begun_end T H all a b c d before now Made Rest begun rest =
       placed = done.placed;
       sound = done.sound;
       words = begun.words ∙ ap (λ xs. before ++ xs) (sym same);
-      spread = subst (Spread a b c d) (sym same) begun.spread;
+      spread = subst (SpreadAt a b c d) (sym same) begun.spread;
       made = done.made;
     }
 
 pub begun_join : (T : Table) (H : ℕ) (all rest : Expected) (a b b2 c d d2 : ℕ) (before now next : Loads) (Made Rest : Placed → Type 0)
     → a ≤ b → b ≤ b2 → b2 ≤ c → c ≤ d → d ≤ d2
-    → Begun T H all rest a b c d before now Made Rest → Puts T H rest b b2 d d2 now next Rest → Puts T H all a b2 c d2 before next Made
+    → BegunAt T H all rest a b c d before now Made Rest → PutsAt T H rest b b2 d d2 now next Rest → PutsAt T H all a b2 c d2 before next Made
 begun_join T H all rest a b b2 c d d2 before now next Made Rest ab bb bc cd dd begun puts =
     let done = begun.on puts.placed puts.sound puts.made in
     let more = loads puts.placed in
@@ -69,7 +69,7 @@ begun_join T H all rest a b b2 c d d2 before now next Made Rest ab bb bc cd dd b
       placed = done.placed;
       sound = done.sound;
       words = joined before begun.own now more next begun.words puts.words ∙ ap (λ xs. before ++ xs) (sym done.loaded);
-      spread = subst (Spread a b2 c d2) (sym done.loaded) (spread_join a b b2 c d d2 begun.own more ab bb bc cd dd begun.spread puts.spread);
+      spread = subst (SpreadAt a b2 c d2) (sym done.loaded) (spread_join a b b2 c d d2 begun.own more ab bb bc cd dd begun.spread puts.spread);
       made = done.made;
     }
 
@@ -77,9 +77,9 @@ begun_join T H all rest a b b2 c d d2 before now next Made Rest ab bb bc cd dd b
 pub word_put : (T : Table) (H : ℕ) (r : Role) (p v b2 c d : ℕ) (before mid next : Loads) (Made : Placed → Type 0) (Here : Word → Type 0)
     → p + 1 ≤ b2 → b2 ≤ c → c ≤ d → v < 2 ^ 64 → IsFine T H r v
     → mid ≡ before ++ (p, v) ∷ []
-    → Puts T H (behind T r p v) (p + 1) b2 c d mid next Made
+    → PutsAt T H (behind T r p v) (p + 1) b2 c d mid next Made
     → ((P : Placed) → Made P → Here (word p v P))
-    → PutsWord T H (r, p) b2 c d before next Here
+    → PutsWordAt T H (r, p) b2 c d before next Here
 word_put T H r p v b2 c d before mid next Made Here pb bc cd small fine put puts says = record {
   value = v;
   content = puts.placed;
@@ -93,7 +93,7 @@ word_put T H r p v b2 c d before mid next Made Here pb bc cd small fine put puts
 }
 
 -- nothing is expected and nothing is put
-pub nothing_put : (T : Table) (H b b2 c : ℕ) (before : Loads) (Made : Placed → Type 0) → b ≤ b2 → Made nothing → Puts T H [] b b2 c c before before Made
+pub nothing_put : (T : Table) (H b b2 c : ℕ) (before : Loads) (Made : Placed → Type 0) → b ≤ b2 → Made nothing → PutsAt T H [] b b2 c c before before Made
 nothing_put T H b b2 c before Made bb made = record {
   placed = nothing;
   sound = tt;
@@ -104,7 +104,7 @@ nothing_put T H b b2 c before Made bb made = record {
 
 -- a word with its content is all that is expected
 pub one_put : (T : Table) (H : ℕ) (e : Role × ℕ) (b c d : ℕ) (before next : Loads) (Here : Word → Type 0) (Made : Placed → Type 0)
-    → PutsWord T H e b c d before next Here → ((w : Word) → Here w → Made (first w nothing)) → Puts T H (e ∷ []) e.1 b c d before next Made
+    → PutsWordAt T H e b c d before next Here → ((w : Word) → Here w → Made (first w nothing)) → PutsAt T H (e ∷ []) e.1 b c d before next Made
 one_put T H e b c d before next Here Made puts says =
     let w = word e.1 puts.value puts.content in
     let same : loads (first w nothing) ≡ (e.1, puts.value) ∷ loads puts.content = append-nil ((e.1, puts.value) ∷ loads puts.content) in
@@ -112,12 +112,12 @@ one_put T H e b c d before next Here Made puts says =
       placed = first w nothing;
       sound = (refl, puts.small, puts.fine, puts.sound, tt);
       words = puts.words ∙ ap (λ xs. before ++ xs) (sym same);
-      spread = subst (Spread e.1 b c d) (sym same) puts.spread;
+      spread = subst (SpreadAt e.1 b c d) (sym same) puts.spread;
       made = says w puts.made;
     }
 
 pub word_wide : (T : Table) (H : ℕ) (e : Role × ℕ) (b b2 c d : ℕ) (before next : Loads) (Here There : Word → Type 0)
-    → b ≤ b2 → PutsWord T H e b c d before next Here → ((w : Word) → Here w → There w) → PutsWord T H e b2 c d before next There
+    → b ≤ b2 → PutsWordAt T H e b c d before next Here → ((w : Word) → Here w → There w) → PutsWordAt T H e b2 c d before next There
 word_wide T H e b b2 c d before next Here There bb puts says = record {
   value = puts.value;
   content = puts.content;
@@ -131,7 +131,7 @@ word_wide T H e b b2 c d before next Here There bb puts says = record {
 
 -- words at the front of what is free are content of what stands before
 pub content_put : (T : Table) (H : ℕ) (es : Expected) (b c e d : ℕ) (before next : Loads) (Made More : Placed → Type 0)
-    → b ≤ c → Puts T H es c e e d before next Made → ((P : Placed) → Made P → More P) → Puts T H es b b c d before next More
+    → b ≤ c → PutsAt T H es c e e d before next Made → ((P : Placed) → Made P → More P) → PutsAt T H es b b c d before next More
 content_put T H es b c e d before next Made More bc puts says = record {
   placed = puts.placed;
   sound = puts.sound;

@@ -10,7 +10,8 @@ use Rattle.mrpc_table.specs.declared.table.Table.{Table}
 use Rattle.graph_form.specs.Roles.{Expected, behind, run_address, run_word, run_words, word_bytes}
 use Rattle.graph_form.specs.Placed.{Placed, nothing, first, word, loads, IsFine, AreSound}
 use Rattle.graph_form.specs.Forgotten.{chain_bytes, run_at}
-use Rattle.graph_place.specs.Laid.{Puts, PutsWord, Begun, HasBytes, run_expected}
+use Rattle.graph_place.specs.Laid.{HasBytes, run_expected}
+use Rattle.graph_place.proofs.Spelled.{PutsAt, PutsWordAt, BegunAt}
 use Rattle.graph_place.proofs.Spreads.{spread_join, spread_free}
 use Rattle.graph_place.proofs.Beginning.{Loads, joined, begun_none, begun_end, word_put, one_put, nothing_put}
 use Rattle.graph_place.proofs.Fine.{fine_run_address, fine_run_word}
@@ -26,7 +27,7 @@ pub record RunOn (all : List ℕ) (c : ℕ) (start : Loads) (rest : List ℕ) (f
   pub free_is : free + run_words (length rest) ≡ c + run_words (length all)
   pub past : c ≤ free
   pub on : (T : Table) (H : ℕ) (k : Kind) (b : ℕ) → b ≤ c → (k ≡ Text → IsUtf8 all)
-      → Begun T H ((run_word k (length all) [], c) ∷ []) ((run_word k (length rest) done, free) ∷ []) b b c free start
+      → BegunAt T H ((run_word k (length all) [], c) ∷ []) ((run_word k (length rest) done, free) ∷ []) b b c free start
       now (HasAll all) (HasAll rest)
 
 pub run_begins : (all : List ℕ) (c : ℕ) (start : Loads) → 1 ≤ length all → RunOn all c start all c start
@@ -52,10 +53,10 @@ short_behind T k left before p v few = ap (λ b. cond b [] ((run_word k (left - 
 
 one_word : (T : Table) (H : ℕ) (es : Expected) (rest less : Expected) (b c free v : ℕ) (start now next : Loads) (Made Rest Less : Placed → Type 0) → b ≤ c → c ≤ free
     → next ≡ now ++ (free, v) ∷ []
-    → Begun T H es rest b b c free start now Made Rest
+    → BegunAt T H es rest b b c free start now Made Rest
     → ((Q : Placed) → AreSound T H less Q → AreSound T H rest (first (word free v Q) nothing))
     → ((Q : Placed) → Less Q → Rest (first (word free v Q) nothing))
-    → Begun T H es less b b c (free + 1) start next Made Less
+    → BegunAt T H es less b b c (free + 1) start next Made Less
 one_word T H es rest less b c free v start now next Made Rest Less bc cf is begun sounds says = record {
   own = begun.own ++ (free, v) ∷ [];
   words = joined start begun.own now ((free, v) ∷ []) next begun.words is;
@@ -107,12 +108,12 @@ run_more all c start rest piece others free v now next r split len more has is =
 pub run_ends : (all : List ℕ) (c : ℕ) (start : Loads) (rest : List ℕ) (free v : ℕ) (now next : Loads) → RunOn all c start rest free now → length rest ≤ 8
     → HasBytes v rest → next ≡ now ++ (free, v) ∷ [] → (T : Table) (H : ℕ) (k : Kind) (b : ℕ) → b ≤ c
     → (k ≡ Text → IsUtf8 all)
-    → Puts T H ((run_word k (length all) [], c) ∷ []) b b c (free + 1) start next (HasAll all)
+    → PutsAt T H ((run_word k (length all) [], c) ∷ []) b b c (free + 1) start next (HasAll all)
 run_ends all c start rest free v now next r few has is T H k b bc text =
     let last : r.done ++ take (length rest) (word_bytes v) ≡ all = ap (λ xs. r.done ++ xs) has.low ∙ r.whole in
     let fine : IsFine T H (run_word k (length rest) r.done) v = fine_run_word T H k (length rest) r.done v has.spare (λ e le. subst IsUtf8 (sym last) (text e)) in
     let none = short_behind T k (length rest) r.done free v few in
-    let begun : Begun T H ((run_word k (length all) [], c) ∷ []) [] b b c (free + 1) start next (HasAll all) (λ Q. Q ≡ nothing)
+    let begun : BegunAt T H ((run_word k (length all) [], c) ∷ []) [] b b c (free + 1) start next (HasAll all) (λ Q. Q ≡ nothing)
     = one_word T H ((run_word k (length all) [], c) ∷ []) ((run_word k (length rest) r.done, free) ∷ []) [] b c free v
     start now next (HasAll all) (HasAll rest) (λ Q. Q ≡ nothing) bc r.past is
     (r.on T H k b bc text)
@@ -123,29 +124,29 @@ run_ends all c start rest free v now next r few has is T H k b bc text =
 -- the address and all words
 pub run_put : (all : List ℕ) (place c d : ℕ) (before start next : Loads) → 1 ≤ length all → c < 2 ^ 64 → 1 ≤ place
     → place + 1 ≤ c → d ≡ c + run_words (length all) → start ≡ before ++ (place, c) ∷ []
-    → ((T : Table) (H : ℕ) (k : Kind) (b : ℕ) → b ≤ c → (k ≡ Text → IsUtf8 all) → Puts T H ((run_word k (length all) [], c) ∷ []) b b c d start next (HasAll all))
+    → ((T : Table) (H : ℕ) (k : Kind) (b : ℕ) → b ≤ c → (k ≡ Text → IsUtf8 all) → PutsAt T H ((run_word k (length all) [], c) ∷ []) b b c d start next (HasAll all))
     → (T : Table) (H : ℕ) (k : Kind) → d ≤ H → (k ≡ Text → IsUtf8 all)
-    → Puts T H (run_expected k (length all) place) place (place + 1) c d before next (λ P. run_at (length all) P
+    → PutsAt T H (run_expected k (length all) place) place (place + 1) c d before next (λ P. run_at (length all) P
     ≡ all)
 run_put all place c d before start next some small from slot size is puts T H k within text =
-    let there : Puts T H ((run_word k (length all) [], c) ∷ []) (place + 1) (place + 1) c d start next (HasAll all) = puts T H k (place + 1) slot text in
-    let whole : PutsWord T H (run_address k (length all), place) (place + 1) c d before next (λ w. run_at (length all) (first w nothing) ≡ all)
+    let there : PutsAt T H ((run_word k (length all) [], c) ∷ []) (place + 1) (place + 1) c d start next (HasAll all) = puts T H k (place + 1) slot text in
+    let whole : PutsWordAt T H (run_address k (length all), place) (place + 1) c d before next (λ w. run_at (length all) (first w nothing) ≡ all)
     = word_put T H (run_address k (length all)) place c (place + 1) c d before start next (HasAll all)
     (λ w. run_at (length all) (first w nothing) ≡ all) (omega arith) slot (omega (arith, size)) small
     (fine_run_address T H k (length all) c (omega (arith, slot)) (omega (arith, size, within))) is there (λ P made. made) in
-    let put : Puts T H ((run_address k (length all), place) ∷ []) place (place + 1) c d before next (λ P. run_at (length all) P ≡ all)
+    let put : PutsAt T H ((run_address k (length all), place) ∷ []) place (place + 1) c d before next (λ P. run_at (length all) P ≡ all)
     = one_put T H (run_address k (length all), place) (place + 1) c d before next
     (λ w. run_at (length all) (first w nothing) ≡ all) (λ P. run_at (length all) P ≡ all) whole
     (λ w made. made) in
     let expected : run_expected k (length all) place ≡ (run_address k (length all), place) ∷ [] =
     ap (λ b. cond b [] ((run_address k (length all), place) ∷ []))
     (ne_eqb (length all) 0 (λ e. omega (arith, e, some))) in
-    subst (λ es. Puts T H es place (place + 1) c d before next (λ P. run_at (length all) P ≡ all)) (sym expected) put
+    subst (λ es. PutsAt T H es place (place + 1) c d before next (λ P. run_at (length all) P ≡ all)) (sym expected) put
 
 abbrev pub RunPut : List ℕ → ℕ → ℕ → Loads → ℕ → Loads → Type 0
 RunPut bytes place c before d next =
     (T : Table) (H : ℕ) (kind : Kind) → d ≤ H → (kind ≡ Text → IsUtf8 bytes)
-    → Puts T H (run_expected kind (length bytes) place) place (place + 1) c d before next
+    → PutsAt T H (run_expected kind (length bytes) place) place (place + 1) c d before next
     (λ P. run_at (length bytes) P ≡ bytes)
 
 -- the address, the words so far and the last one
@@ -163,7 +164,7 @@ run_whole all place c c2 d before start rest free v now next from slot small sam
     within text)
 
 pub no_run : (all : List ℕ) (place c : ℕ) (before : Loads) → length all ≡ 0 → (T : Table) (H : ℕ) (k : Kind)
-    → Puts T H (run_expected k (length all) place) place (place + 1) c c before before
+    → PutsAt T H (run_expected k (length all) place) place (place + 1) c c before before
     (λ P. run_at (length all) P ≡ all)
 no_run [] place c before e T H k = nothing_put T H place (place + 1) c before (λ P. run_at 0 P ≡ []) (omega arith) refl
 no_run (x ∷ all) place c before e T H k = absurd (omega (arith, e))

@@ -16,31 +16,32 @@ use Rattle.mrpc_table.specs.declared.tree.FieldValue.TheVariants.{One, Many, Pai
 use Rattle.std.specs.Global.{Vec}
 use Rattle.graph_form.specs.Roles.{elements_address, entries_address, slot_role, is_member}
 use Rattle.graph_form.specs.Forgotten.{slot_content, elements_at, entries_at}
-use Rattle.graph_place.specs.Laid.{Puts, PutsWord, HoldsContent, listed, found_words, run_words_of, NoMessage}
-use Rattle.graph_place.specs.Size.{content_words, item_words, many_words, pairs_words}
+use Rattle.graph_place.specs.Laid.{HoldsContent, listed, found_words, NoMessage}
+use Rattle.graph_place.specs.Size.{content_words, item_words, many_words, pairs_words, run_words_of}
 use Rattle.graph_place.proofs.Absent.{no_slot}
 use Rattle.graph_place.proofs.Beginning.{Loads}
 use Rattle.graph_place.proofs.Fields.{content_has, content_within}
 use Rattle.graph_place.proofs.Items.{ItemPut, OptionalPut}
 use Rattle.graph_place.proofs.Nodes.{FieldPut}
 use Rattle.graph_place.proofs.Slot.{content_holds, slot_plain, slot_many, slot_pairs}
+use Rattle.graph_place.proofs.Spelled.{PutsAt, PutsWordAt}
 
 abbrev pub ElementsPut : Table → Kind → List Value → ℕ → ℕ → Loads → ℕ → Loads → Type 0
 ElementsPut T k vs place c before d next =
     (H level : ℕ) → d ≤ H → level + items_depth (items_of vs) ≤ 33
-    → Puts T H ((elements_address k (length vs) level, place) ∷ []) place (place + 1) c d before next
+    → PutsAt T H ((elements_address k (length vs) level, place) ∷ []) place (place + 1) c d before next
     (λ P. elements_at T k P ≡ items_of vs)
 
 abbrev pub EntriesPut : Table → Kind → Kind → List (Value × Value) → ℕ → ℕ → Loads → ℕ → Loads → Type 0
 EntriesPut T key k es place c before d next =
     (H level : ℕ) → d ≤ H → level + pairs_depth (pairs_of es) ≤ 33
-    → Puts T H ((entries_address key k (length es) level, place) ∷ []) place (place + 1) c d before next
+    → PutsAt T H ((entries_address key k (length es) level, place) ∷ []) place (place + 1) c d before next
     (λ P. entries_at T key k P ≡ listed (pairs_of es))
 
 abbrev pub SlotPut : Table → Label → Kind → Content → ℕ → ℕ → Loads → ℕ → Loads → Type 0
 SlotPut T l k content place c before d next =
     (H level : ℕ) → d ≤ H → level + content_depth content ≤ 33
-    → PutsWord T H (slot_role l k level, place) (place + 2) c d before next
+    → PutsWordAt T H (slot_role l k level, place) (place + 2) c d before next
     (λ w. slot_content T l k w ≡ Some content)
 
 -- ---- what a value is
@@ -139,7 +140,7 @@ pub field_there : (T : Table) (f : Field) (t : Node) (content : Content) (place 
     → FieldPut T f t place c before d next
 field_there T f t content place c d before next found puts = λ H level within deep.
     let low = content_within f.number content t found in
-    subst (λ o. PutsWord T H (slot_role f.label f.kind level, place) (place + 2) c d before next
+    subst (λ o. PutsWordAt T H (slot_role f.label f.kind level, place) (place + 2) c d before next
     (λ w. slot_content T f.label f.kind w ≡ o)) (sym found) (puts H level within (omega (arith, deep, low)))
 
 pub field_absent : (T : Table) (f : Field) (t : Node) (place c d : ℕ) (before next : Loads)
@@ -147,8 +148,8 @@ pub field_absent : (T : Table) (f : Field) (t : Node) (place c d : ℕ) (before 
     → next ≡ before ++ (place, 0) ∷ [] → FieldPut T f t place c before d next
 field_absent T f t place c d before next own none slot size put = λ H level within deep.
     let low : c ≤ H = omega (arith, size, within) in
-    subst (λ e. PutsWord T H (slot_role f.label f.kind level, place) (place + 2) c e before next (λ w. slot_content T f.label f.kind w ≡ content_at t f.number)) (sym size)
-    (subst (λ o. PutsWord T H (slot_role f.label f.kind level, place) (place + 2) c c before next
+    subst (λ e. PutsWordAt T H (slot_role f.label f.kind level, place) (place + 2) c e before next (λ w. slot_content T f.label f.kind w ≡ content_at t f.number)) (sym size)
+    (subst (λ o. PutsWordAt T H (slot_role f.label f.kind level, place) (place + 2) c c before next
     (λ w. slot_content T f.label f.kind w ≡ o)) (sym none)
     (no_slot T H f.label f.kind level place c before next own slot low put))
 

@@ -5,7 +5,7 @@ use Rattle.mrpc_table.specs.Node.{Node, one, Item, number, node}
 use Rattle.mrpc_table.specs.Normal.{fields_of, IsItem, HasFields, OneMemberEach, depth, item_depth}
 use Rattle.mrpc_table.specs.View.{item_of, items_of, pairs_of}
 use Rattle.mrpc_table.specs.declared.table.Kind.{Kind}
-use Rattle.mrpc_table.specs.Words.{IsWordForm, IsSigned32, message_of}
+use Rattle.mrpc_table.specs.Words.{IsWordForm, IsSigned32, nested_message}
 use Rattle.mrpc_table.specs.declared.table.Kind.TheVariants.{Int32, Int64, Uint32, Uint64, Sint32, Sint64}
 use Rattle.mrpc_table.specs.declared.table.Kind.TheVariants.{Bool as TheBool, Fixed32, Fixed64, Sfixed32, Sfixed64}
 use Rattle.mrpc_table.specs.declared.table.Kind.TheVariants.{Float, Double, Text, Octets, Message as OfMessage}
@@ -16,26 +16,27 @@ use Rattle.mrpc_table.specs.declared.tree.Value.{Value}
 use Rattle.mrpc_table.specs.declared.tree.Value.TheVariants.{Number, Run, Node as TheNode}
 use Rattle.graph_form.specs.Roles.{plain_role, optional_role, node_words, element_words, run_words}
 use Rattle.graph_form.specs.Forgotten.{slot_content, tree_of}
-use Rattle.graph_place.specs.Laid.{Puts, PutsWord, HoldsItem}
-use Rattle.graph_place.specs.Size.{tree_words, item_words, many_words, pairs_words, key_words}
+use Rattle.graph_place.specs.Laid.{HoldsItem}
+use Rattle.graph_place.specs.Size.{tree_words, item_words, many_words, pairs_words, run_words_of}
 use Rattle.graph_place.proofs.Beginning.{Loads}
 use Rattle.graph_place.proofs.Chain.{RunPut}
 use Rattle.graph_place.proofs.Laying.{number_item, run_item, run_text, run_width, node_item, optional_number, optional_run}
 use Rattle.graph_place.proofs.Lists.{ElementsOn, elements_more, contents, many_are, EntriesOn, entries_more, pair_contents, pairs_are, key_same}
 use Rattle.graph_place.proofs.Parts.{next_part}
+use Rattle.graph_place.proofs.Spelled.{PutsAt, PutsWordAt}
 
 abbrev pub NodePut : Table → ℕ → Node → ℕ → Loads → ℕ → Loads → Type 0
-NodePut T m t c before d next = (H level : ℕ) → d ≤ H → level + depth t ≤ 33 → Puts T H (node_words T m level c) c c c d before next (λ P. tree_of T m P ≡ t)
+NodePut T m t c before d next = (H level : ℕ) → d ≤ H → level + depth t ≤ 33 → PutsAt T H (node_words T m level c) c c c d before next (λ P. tree_of T m P ≡ t)
 
 abbrev pub ItemPut : Table → Kind → Item → ℕ → ℕ → Loads → ℕ → Loads → Type 0
 ItemPut T k i place c before d next =
     (H level : ℕ) (needed : Bool) → d ≤ H → level + item_depth i ≤ 33
-    → PutsWord T H (plain_role k level needed, place) (place + element_words k) c d before next (HoldsItem T k i)
+    → PutsWordAt T H (plain_role k level needed, place) (place + element_words k) c d before next (HoldsItem T k i)
 
 abbrev pub OptionalPut : Item → ℕ → ℕ → Loads → ℕ → Loads → Type 0
 OptionalPut i place c before d next =
     (T : Table) (H : ℕ) (kind : Kind) → d ≤ H → ((m : ℕ) → kind ≢ OfMessage m) → IsItem T kind i
-    → PutsWord T H (optional_role kind, place) (place + 2) c d before next (λ w. slot_content T Optional kind w
+    → PutsWordAt T H (optional_role kind, place) (place + 2) c d before next (λ w. slot_content T Optional kind w
     ≡ Some (one i))
 
 -- ---- a value
@@ -67,7 +68,7 @@ pub item_number : (T : Table) (k : Kind) (v : Value) (n place c d : ℕ) (before
 item_number T k v n place c d before next is item slot size put =
     subst (λ (x : Value). IsItem T k (item_of x) → ItemPut T k (item_of x) place c before d next) (sym is)
     (λ form. λ H level needed within deep.
-    subst (λ e. PutsWord T H (plain_role k level needed, place) (place + element_words k) c e before next
+    subst (λ e. PutsWordAt T H (plain_role k level needed, place) (place + element_words k) c e before next
     (HoldsItem T k (number n))) (sym size) (number_item T H k level needed place n c before next form
     (word_small k n form) slot put)) item
 
@@ -83,26 +84,26 @@ item_run T k v bytes place c mid_free d before mid next is item small from slot 
     from slot whole within put (there T H k within (run_text k bytes run_is))) item
 
 pub item_node : (T : Table) (k : Kind) (v : Value) (t : Node) (m place c mid_free d : ℕ) (before mid next : Loads)
-    → v ≡ TheNode t → IsItem T k (item_of v) → m ≡ message_of k → 1 ≤ place → place + element_words k ≤ c → c < 2 ^ 64
+    → v ≡ TheNode t → IsItem T k (item_of v) → m ≡ nested_message k → 1 ≤ place → place + element_words k ≤ c → c < 2 ^ 64
     → mid_free ≡ c → d ≡ mid_free + tree_words T m t → mid ≡ before ++ (place, c) ∷ [] → NodePut T m t mid_free mid d next → ItemPut T k (item_of v) place c before d next
 item_node T k v t m place c mid_free d before mid next is item message from slot small same size put puts =
     let whole : d ≡ c + tree_words T m t = size ∙ ap (λ e. e + tree_words T m t) same in
     let there : NodePut T m t c mid d next = subst (λ e. NodePut T m t e mid d next) same puts in
     subst (λ (x : Value). IsItem T k (item_of x) → ItemPut T k (item_of x) place c before d next) (sym is)
     (λ node_is. λ H level needed within deep.
-    let kind : k ≡ OfMessage m = node_is.1 ∙ ap OfMessage (sym (message ∙ ap message_of node_is.1)) in
+    let kind : k ≡ OfMessage m = node_is.1 ∙ ap OfMessage (sym (message ∙ ap nested_message node_is.1)) in
     node_item T H k m level needed place t c d before mid next kind from slot small whole within deep put (λ l low. there H l within low)) item
 
 -- the message that a value must be
-pub node_fields : (T : Table) (k : Kind) (v : Value) (t : Node) (m : ℕ) → v ≡ TheNode t → IsItem T k (item_of v) → m ≡ message_of k → HasFields T (fields_of T m) 0 t
+pub node_fields : (T : Table) (k : Kind) (v : Value) (t : Node) (m : ℕ) → v ≡ TheNode t → IsItem T k (item_of v) → m ≡ nested_message k → HasFields T (fields_of T m) 0 t
 node_fields T k v t m is item message =
     let node_is : IsItem T k (node t) = subst (λ (x : Value). IsItem T k (item_of x)) is item in
-    subst (λ j. HasFields T (fields_of T j) 0 t) (sym (message ∙ ap message_of node_is.1)) node_is.2
+    subst (λ j. HasFields T (fields_of T j) 0 t) (sym (message ∙ ap nested_message node_is.1)) node_is.2
 
-pub node_oneofs : (T : Table) (k : Kind) (v : Value) (t : Node) (m : ℕ) → v ≡ TheNode t → IsItem T k (item_of v) → m ≡ message_of k → OneMemberEach (fields_of T m) t
+pub node_oneofs : (T : Table) (k : Kind) (v : Value) (t : Node) (m : ℕ) → v ≡ TheNode t → IsItem T k (item_of v) → m ≡ nested_message k → OneMemberEach (fields_of T m) t
 node_oneofs T k v t m is item message =
     let node_is : IsItem T k (node t) = subst (λ (x : Value). IsItem T k (item_of x)) is item in
-    subst (λ j. OneMemberEach (fields_of T j) t) (sym (message ∙ ap message_of node_is.1)) node_is.3
+    subst (λ j. OneMemberEach (fields_of T j) t) (sym (message ∙ ap nested_message node_is.1)) node_is.3
 
 pub number_words : (T : Table) (k : Kind) (v : Value) (n : ℕ) → v ≡ Number n → item_words T k (item_of v) ≡ 0
 number_words T k v n is = ap (λ (x : Value). item_words T k (item_of x)) is
@@ -110,7 +111,7 @@ number_words T k v n is = ap (λ (x : Value). item_words T k (item_of x)) is
 pub run_words_is : (T : Table) (k : Kind) (v : Value) (bytes : List ℕ) → v ≡ Run bytes → item_words T k (item_of v) ≡ run_words (length bytes)
 run_words_is T k v bytes is = ap (λ (x : Value). item_words T k (item_of x)) is
 
-pub node_words_is : (T : Table) (k : Kind) (v : Value) (t : Node) (m : ℕ) → v ≡ TheNode t → m ≡ message_of k → item_words T k (item_of v) ≡ tree_words T m t
+pub node_words_is : (T : Table) (k : Kind) (v : Value) (t : Node) (m : ℕ) → v ≡ TheNode t → m ≡ nested_message k → item_words T k (item_of v) ≡ tree_words T m t
 node_words_is T k v t m is message = ap (λ (x : Value). item_words T k (item_of x)) is ∙ sym (ap (λ j. tree_words T j t) message)
 
 -- ---- a value in an optional slot
@@ -120,7 +121,7 @@ pub optional_number_put : (v : Value) (n place c d : ℕ) (before mid next : Loa
 optional_number_put v n place c d before mid next is slot size put behind =
     subst (λ (x : Value). OptionalPut (item_of x) place c before d next) (sym is)
     (λ T H k within other form.
-    subst (λ e. PutsWord T H (optional_role k, place) (place + 2) c e before next (λ w. slot_content T Optional k w
+    subst (λ e. PutsWordAt T H (optional_role k, place) (place + 2) c e before next (λ w. slot_content T Optional k w
     ≡ Some (one (number n)))) (sym size)
     (optional_number T H k place n c before mid next form (word_small k n form) slot put behind))
 
@@ -181,7 +182,7 @@ pub entry_fits : (T : Table) (key k : Kind) (all : List (Value × Value)) (at c 
     → c + pair_contents T k all < 2 ^ 64 → i < length xs → e ≡ get_or xs i e → EntriesOn T key k all at c before (drop i xs) next free now → EntryFits T key k e.0 e.1 next free
 entry_fits T key k all at c before xs i e next free now simple from room within is on =
     let r : EntriesOn T key k all at c before (e ∷ drop (i + 1) xs) next free now = subst (λ rest. EntriesOn T key k all at c before rest next free now) (next_part xs i e within is) on in
-    let same : item_words T key (item_of e.0) ≡ key_words (item_of e.0) = key_same T key (item_of e.0) simple r.kinds.0 in
+    let same : item_words T key (item_of e.0) ≡ run_words_of (item_of e.0) = key_same T key (item_of e.0) simple r.kinds.0 in
     record {
       first = r.kinds.0;
       value = r.kinds.1;
@@ -199,7 +200,7 @@ pub entries_next : (T : Table) (key k : Kind) (all : List (Value × Value)) (at 
     → EntriesOn T key k all at c before (drop (i + 1) xs) next2 free2 now2
 entries_next T key k all at c before xs i e next next2 free mid free2 now then now2 simple within is on keyed sized step keys values =
     let r : EntriesOn T key k all at c before (e ∷ drop (i + 1) xs) next free now = subst (λ rest. EntriesOn T key k all at c before rest next free now) (next_part xs i e within is) on in
-    let same : item_words T key (item_of e.0) ≡ key_words (item_of e.0) = key_same T key (item_of e.0) simple r.kinds.0 in
+    let same : item_words T key (item_of e.0) ≡ run_words_of (item_of e.0) = key_same T key (item_of e.0) simple r.kinds.0 in
     subst (λ p. EntriesOn T key k all at c before (drop (i + 1) xs) p free2 now2) (sym step)
     (entries_more T key k all at c before e.0 e.1 (drop (i + 1) xs) next free mid free2 now then now2 r
     (keyed ∙ ap (λ n. free + n) same) sized (λ H level low deep. keys H level true low deep)

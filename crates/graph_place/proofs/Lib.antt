@@ -15,6 +15,7 @@ mod Parts
 mod Results
 mod Slot
 mod Slots
+mod Spelled
 mod Spreads
 mod Standing
 mod Told

@@ -13,7 +13,7 @@ use Rattle.mrpc_table.specs.declared.table.Table.{Table}
 use Rattle.graph_form.specs.Roles.{Expected, slot_role, case_word, slots_from, cases_from, own_slots, oneofs_of, size_words, is_member}
 use Rattle.graph_form.specs.Forgotten.{with_field, slots_tree, slot_content, with_member}
 use Rattle.graph_place.specs.Content.{is_member_of, member_of}
-use Rattle.graph_place.specs.Laid.{Puts, PutsWord, Begun, keep, is_member_at, members, found_words, IsMemberOf}
+use Rattle.graph_place.specs.Laid.{keep, is_member_at, members, found_words, IsMemberOf}
 use Rattle.graph_place.specs.Size.{fields_words}
 use Rattle.graph_place.proofs.Beginning.{Loads}
 use Rattle.graph_place.proofs.Fields.{own_here, fields_ascend, content_has, content_within, are_fields, field_is, all_members, member_found}
@@ -21,19 +21,20 @@ use Rattle.graph_place.proofs.Items.{NodePut, ItemPut}
 use Rattle.graph_place.proofs.Members.{Tells, member_tells, tells_member}
 use Rattle.graph_place.proofs.Parts.{next_part}
 use Rattle.graph_place.proofs.Slots.{SlotsOn, slots_past, slots_more, next_words, CasesOn, cases_begin, cases_more, next_case_words, no_case, some_case, node_put, kind_is}
+use Rattle.graph_place.proofs.Spelled.{PutsAt, PutsWordAt, BegunAt}
 
 -- ---- a node
 
 abbrev pub SlotsPut : Table → ℕ → Node → ℕ → ℕ → Loads → ℕ → Loads → Type 0
 SlotsPut T m t at c before d next =
     (H level : ℕ) (others : Expected) → d ≤ H → level + depth t ≤ 33
-    → Begun T H (slots_from (own_slots (fields_of T m)) level at ++ others) others at (at + 2 * length (own_slots (fields_of T m))) c d before next
+    → BegunAt T H (slots_from (own_slots (fields_of T m)) level at ++ others) others at (at + 2 * length (own_slots (fields_of T m))) c d before next
     (λ P. slots_tree T (fields_of T m) (own_slots (fields_of T m)) P ≡ t) (λ Q. slots_tree T (fields_of T m) [] Q ≡ members (fields_of T m) t)
 
 abbrev pub CasesPut : Table → ℕ → Node → ℕ → ℕ → Loads → ℕ → Loads → Type 0
 CasesPut T m t at c before d next =
     (H level : ℕ) → d ≤ H → level + depth t ≤ 33
-    → Puts T H (cases_from (oneofs_of T m) (fields_of T m) 0 level at) at (at + 3 * oneofs_of T m) c d before next (λ P. slots_tree T (fields_of T m) [] P ≡ members (fields_of T m) t)
+    → PutsAt T H (cases_from (oneofs_of T m) (fields_of T m) 0 level at) at (at + 3 * oneofs_of T m) c d before next (λ P. slots_tree T (fields_of T m) [] P ≡ members (fields_of T m) t)
 
 pub keep_less : (T : Table) (fs : List Field) (p : ℕ → Bool) (t : Node) → fields_words T fs (keep p t) ≤ fields_words T fs t
 keep_less T fs p no_fields = omega arith
@@ -65,7 +66,7 @@ node_puts T m t f0 at f1 place f2 f3 w0 w1 w2 w3 first grown words behind middle
 abbrev pub FieldPut : Table → Field → Node → ℕ → ℕ → Loads → ℕ → Loads → Type 0
 FieldPut T f t place c before d next =
     (H level : ℕ) → d ≤ H → level + depth t ≤ 33
-    → PutsWord T H (slot_role f.label f.kind level, place) (place + 2) c d before next
+    → PutsWordAt T H (slot_role f.label f.kind level, place) (place + 2) c d before next
     (λ w. slot_content T f.label f.kind w ≡ content_at t f.number)
 
 -- what the slot of the next field may be given
@@ -123,7 +124,7 @@ slots_step T fs t at c before all i f place next free free2 now now2 has slots w
 abbrev pub CasePut : Table → List Field → Node → ℕ → ℕ → ℕ → Loads → ℕ → Loads → Type 0
 CasePut T fs t member place c before d next =
     (H level oneof : ℕ) → d ≤ H → level + depth t ≤ 33 → IsMemberOf fs oneof t member
-    → PutsWord T H (case_word fs oneof level, place) (place + 3) c d before next (λ w. (u : Node) → with_member T fs w u ≡ with_field member (content_at t member) u)
+    → PutsWordAt T H (case_word fs oneof level, place) (place + 3) c d before next (λ w. (u : Node) → with_member T fs w u ≡ with_field member (content_at t member) u)
 
 pub cases_first : (T : Table) (m : ℕ) (t : Node) (at c : ℕ) (before : Loads) → IsValid T
     → HasFields T (fields_of T m) 0 t
@@ -181,7 +182,7 @@ cases_step T fs t all at c before o place next free free2 member now now2 has fe
 pub case_none : (T : Table) (fs : List Field) (t : Node) (member place c d : ℕ) (before next : Loads) → member ≡ 0
     → place + 3 ≤ c → d ≡ c → next ≡ before ++ (place, member) ∷ [] → CasePut T fs t member place c before d next
 case_none T fs t member place c d before next none slot size put = λ H level oneof within deep known.
-    subst (λ e. PutsWord T H (case_word fs oneof level, place) (place + 3) c e before next (λ w. (u : Node)
+    subst (λ e. PutsWordAt T H (case_word fs oneof level, place) (place + 3) c e before next (λ w. (u : Node)
     → with_member T fs w u ≡ with_field member (content_at t member) u)) (sym size)
     (no_case T H fs oneof level place c member t before next none (known.some none) slot put)
 

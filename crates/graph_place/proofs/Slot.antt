@@ -21,11 +21,12 @@ use Rattle.mrpc_table.specs.MapEntries.{key_cmp, with_pair, last_of_each}
 use Rattle.graph_form.specs.Roles.{behind, count, entry_count, elements_address, entries_address, plain_role, slot_role, is_member, element_words}
 use Rattle.graph_form.specs.Placed.{Placed, Word, word}
 use Rattle.graph_form.specs.Forgotten.{slot_content, plain_item, elements_at, entries_at}
-use Rattle.graph_place.specs.Laid.{Puts, PutsWord, HoldsItem, HoldsContent, listed, value_of}
+use Rattle.graph_place.specs.Laid.{HoldsItem, HoldsContent, listed, value_of}
 use Rattle.graph_place.specs.Size.{many_words, pairs_words}
 use Rattle.graph_place.proofs.Beginning.{Loads, word_put, word_wide}
 use Rattle.graph_place.proofs.Fine.{fine_count, fine_entry_count}
 use Rattle.graph_place.proofs.Lists.{many_are, pairs_are}
+use Rattle.graph_place.proofs.Spelled.{PutsAt, PutsWordAt}
 use Rattle.graph_place.proofs.Widths.{narrow}
 
 -- ---- what a field of a valid table may have
@@ -92,17 +93,17 @@ plain_label (Map key) i fails other takes = absurd takes
 plain_label (Member o) i fails other takes = absurd (true≢false fails)
 
 pub slot_plain : (T : Table) (H : ℕ) (l : Label) (k : Kind) (level place : ℕ) (i : Item) (c d : ℕ) (before next : Loads) → is_member l ≡ false → l ≢ Optional → TakesOne l i
-    → PutsWord T H (plain_role k level false, place) (place + element_words k) c d before next (HoldsItem T k i)
-    → PutsWord T H (slot_role l k level, place) (place + 2) c d before next (λ w. slot_content T l k w ≡ Some (one i))
+    → PutsWordAt T H (plain_role k level false, place) (place + element_words k) c d before next (HoldsItem T k i)
+    → PutsWordAt T H (slot_role l k level, place) (place + 2) c d before next (λ w. slot_content T l k w ≡ Some (one i))
 slot_plain T H l k level place i c d before next fails other takes puts =
     let plain = plain_label l i fails other takes in
     let some : IsDefault i → ⊥ = subst (λ x. TakesOne x i) plain takes in
     let wide = narrow k in
-    let whole : PutsWord T H (plain_role k level false, place) (place + 2) c d before next (λ w. slot_content T Plain k w ≡ Some (one i))
+    let whole : PutsWordAt T H (plain_role k level false, place) (place + 2) c d before next (λ w. slot_content T Plain k w ≡ Some (one i))
     = word_wide T H (plain_role k level false, place) (place + element_words k) (place + 2) c d before next
     (HoldsItem T k i) (λ w. slot_content T Plain k w ≡ Some (one i)) (omega (arith, wide)) puts
     (λ w holds. plain_says T k w (holds.some some) ∙ ap (λ j. Some (one j)) holds.item) in
-    subst (λ x. PutsWord T H (slot_role x k level, place) (place + 2) c d before next (λ w. slot_content T x k w ≡ Some (one i))) (sym plain) whole
+    subst (λ x. PutsWordAt T H (slot_role x k level, place) (place + 2) c d before next (λ w. slot_content T x k w ≡ Some (one i))) (sym plain) whole
 
 -- elements behind their count
 count_behind : (T : Table) (k : Kind) (level p n : ℕ) → n ≢ 0 → behind T (count k level) p n ≡ (elements_address k n level, p + 1) ∷ []
@@ -122,8 +123,8 @@ many_says T k p v P is some made = ap (λ b. cond b None (Some (many (elements_a
 repeated_put : (T : Table) (H : ℕ) (k : Kind) (level place : ℕ) (vs : List Value) (c d : ℕ) (before mid next : Loads)
     → items_of vs ≢ no_items → length vs < 2 ^ 64 → place + 2 ≤ c → d ≡ c + many_words T k (items_of vs) → d ≤ H
     → mid ≡ before ++ (place, length vs) ∷ []
-    → Puts T H ((elements_address k (length vs) level, place + 1) ∷ []) (place + 1) (place + 1 + 1) c d mid next (λ P. elements_at T k P ≡ items_of vs)
-    → PutsWord T H (count k level, place) (place + 2) c d before next (λ w. slot_content T Repeated k w ≡ Some (many (items_of vs)))
+    → PutsAt T H ((elements_address k (length vs) level, place + 1) ∷ []) (place + 1) (place + 1 + 1) c d mid next (λ P. elements_at T k P ≡ items_of vs)
+    → PutsWordAt T H (count k level, place) (place + 2) c d before next (λ w. slot_content T Repeated k w ≡ Some (many (items_of vs)))
 repeated_put T H k level place vs c d before mid next some small slot size within put puts =
     let two : place + 1 + 1 ≡ place + 2 = omega arith in
     let there = some_items vs some in
@@ -133,8 +134,8 @@ repeated_put T H k level place vs c d before mid next some small slot size withi
     (λ P. elements_at T k P ≡ items_of vs) (λ w. slot_content T Repeated k w ≡ Some (many (items_of vs)))
     (omega arith) slot (omega (arith, size)) small
     (fine_count T H k level (length vs) few) put
-    (subst (λ es. Puts T H es (place + 1) (place + 2) c d mid next (λ P. elements_at T k P ≡ items_of vs)) (sym (count_behind T k level place (length vs) there))
-    (subst (λ b. Puts T H ((elements_address k (length vs) level, place + 1) ∷ []) (place + 1) b c d mid next (λ P. elements_at T k P ≡ items_of vs)) two puts))
+    (subst (λ es. PutsAt T H es (place + 1) (place + 2) c d mid next (λ P. elements_at T k P ≡ items_of vs)) (sym (count_behind T k level place (length vs) there))
+    (subst (λ b. PutsAt T H ((elements_address k (length vs) level, place + 1) ∷ []) (place + 1) b c d mid next (λ P. elements_at T k P ≡ items_of vs)) two puts))
     (λ P made. many_says T k place (length vs) P (items_of vs) there made)
 
 packed_same : (T : Table) (k : Kind) (c : Content) (w : Word) → slot_content T Repeated k w ≡ Some c → slot_content T Packed k w ≡ Some c
@@ -144,8 +145,8 @@ pub slot_many : (T : Table) (H : ℕ) (l : Label) (k : Kind) (level place : ℕ)
     (before mid next : Loads) → TakesMany l → items_of vs ≢ no_items → length vs < 2 ^ 64 → place + 2 ≤ c
     → d ≡ c + many_words T k (items_of vs) → d ≤ H
     → mid ≡ before ++ (place, length vs) ∷ []
-    → Puts T H ((elements_address k (length vs) level, place + 1) ∷ []) (place + 1) (place + 1 + 1) c d mid next (λ P. elements_at T k P ≡ items_of vs)
-    → PutsWord T H (slot_role l k level, place) (place + 2) c d before next (λ w. slot_content T l k w ≡ Some (many (items_of vs)))
+    → PutsAt T H ((elements_address k (length vs) level, place + 1) ∷ []) (place + 1) (place + 1 + 1) c d mid next (λ P. elements_at T k P ≡ items_of vs)
+    → PutsWordAt T H (slot_role l k level, place) (place + 2) c d before next (λ w. slot_content T l k w ≡ Some (many (items_of vs)))
 slot_many T H Repeated k level place vs c d before mid next takes some small slot size within put puts =
     repeated_put T H k level place vs c d before mid next some small slot size within put puts
 slot_many T H Packed k level place vs c d before mid next takes some small slot size within put puts =
@@ -173,19 +174,19 @@ pub slot_pairs : (T : Table) (H : ℕ) (l : Label) (key k : Kind) (level place :
     → length es < 2 ^ 64 → place + 2 ≤ c
     → d ≡ c + pairs_words T k (pairs_of es) → d ≤ H
     → mid ≡ before ++ (place, length es) ∷ []
-    → Puts T H ((entries_address key k (length es) level, place + 1) ∷ []) (place + 1) (place + 1 + 1) c d mid next (λ P. entries_at T key k P ≡ listed (pairs_of es))
-    → PutsWord T H (slot_role l k level, place) (place + 2) c d before next (λ w. slot_content T l k w ≡ Some (pairs (pairs_of es)))
+    → PutsAt T H ((entries_address key k (length es) level, place + 1) ∷ []) (place + 1) (place + 1 + 1) c d mid next (λ P. entries_at T key k P ≡ listed (pairs_of es))
+    → PutsWordAt T H (slot_role l k level, place) (place + 2) c d before next (λ w. slot_content T l k w ≡ Some (pairs (pairs_of es)))
 slot_pairs T H l key k level place es c d before mid next label some up small slot size within put puts =
     let two : place + 1 + 1 ≡ place + 2 = omega arith in
     let there = some_pairs es some in
     let sum = pairs_are T k es in
     let few : 4 * length es < H = omega (arith, sum, size, within, slot) in
-    let whole : PutsWord T H (entry_count key k level, place) (place + 2) c d before next (λ w. slot_content T (Map key) k w ≡ Some (pairs (pairs_of es)))
+    let whole : PutsWordAt T H (entry_count key k level, place) (place + 2) c d before next (λ w. slot_content T (Map key) k w ≡ Some (pairs (pairs_of es)))
     = word_put T H (entry_count key k level) place (length es) (place + 2) c d before mid next
     (λ P. entries_at T key k P ≡ listed (pairs_of es)) (λ w. slot_content T (Map key) k w
     ≡ Some (pairs (pairs_of es))) (omega arith) slot (omega (arith, size)) small
     (fine_entry_count T H key k level (length es) few) put
-    (subst (λ xs. Puts T H xs (place + 1) (place + 2) c d mid next (λ P. entries_at T key k P ≡ listed (pairs_of es))) (sym (entries_behind T key k level place (length es) there))
-    (subst (λ b. Puts T H ((entries_address key k (length es) level, place + 1) ∷ []) (place + 1) b c d mid next (λ P. entries_at T key k P ≡ listed (pairs_of es))) two puts))
+    (subst (λ xs. PutsAt T H xs (place + 1) (place + 2) c d mid next (λ P. entries_at T key k P ≡ listed (pairs_of es))) (sym (entries_behind T key k level place (length es) there))
+    (subst (λ b. PutsAt T H ((entries_address key k (length es) level, place + 1) ∷ []) (place + 1) b c d mid next (λ P. entries_at T key k P ≡ listed (pairs_of es))) two puts))
     (λ P made. pairs_say T key k place (length es) P (pairs_of es) there up made) in
-    subst (λ x. PutsWord T H (slot_role x k level, place) (place + 2) c d before next (λ w. slot_content T x k w ≡ Some (pairs (pairs_of es)))) (sym label) whole
+    subst (λ x. PutsWordAt T H (slot_role x k level, place) (place + 2) c d before next (λ w. slot_content T x k w ≡ Some (pairs (pairs_of es)))) (sym label) whole

@@ -13,7 +13,7 @@ use Rattle.graph_form.specs.Roles.{Expected, behind, plain_role, slot_role, case
 use Rattle.graph_form.specs.Placed.{word}
 use Rattle.graph_form.specs.Forgotten.{with_field, slots_tree, slot_content, with_member, tree_of}
 use Rattle.graph_place.specs.Content.{is_member_of}
-use Rattle.graph_place.specs.Laid.{Puts, PutsWord, Begun, HoldsItem, keep, is_member_at, members, found_words}
+use Rattle.graph_place.specs.Laid.{HoldsItem, keep, is_member_at, members, found_words}
 use Rattle.graph_place.specs.Size.{fields_words}
 use Rattle.graph_place.proofs.Beginning.{Loads, begun_none, begun_more, begun_end, begun_join, word_put, one_put, word_wide, content_put}
 use Rattle.graph_place.proofs.Fields.{is_left, has_number, left_step, own_here, own_past, all_left, members_left, member_at, fields_ascend, in_oneofs, member_found, not_behind, InNumbers}
@@ -21,6 +21,7 @@ use Rattle.graph_place.proofs.Fine.{fine_case}
 use Rattle.graph_place.proofs.Keeping.{each_weaker, each_always, keep_same, keep_step, with_words, absent, keep_none}
 use Rattle.graph_place.proofs.Laying.{lone_word}
 use Rattle.graph_place.proofs.Members.{Tells, tells_none, tells_one}
+use Rattle.graph_place.proofs.Spelled.{PutsAt, PutsWordAt, BegunAt}
 use Rattle.graph_place.proofs.Widths.{narrow}
 
 -- ---- fields by their numbers
@@ -76,7 +77,7 @@ pub record SlotsOn (T : Table) (fs : List Field) (t : Node) (at c : ℕ) (before
   pub each : AreFound fs rest
   pub ascend : InNumbers rest
   pub on : (H level : ℕ) (others : Expected) → free ≤ H → level + depth t ≤ 33
-      → Begun T H (slots_from (own_slots fs) level at ++ others) (slots_from (own_slots rest) level place ++ others) at place c free before now
+      → BegunAt T H (slots_from (own_slots fs) level at ++ others) (slots_from (own_slots rest) level place ++ others) at place c free before now
       (λ P. slots_tree T fs (own_slots fs) P ≡ t) (λ Q. slots_tree T fs (own_slots rest) Q ≡ Left fs rest t)
 
 pub slots_begin : (T : Table) (fs : List Field) (t : Node) (at c : ℕ) (before : Loads) → HasFields T fs 0 t → InNumbers fs → SlotsOn T fs t at c before fs at c before
@@ -90,7 +91,7 @@ slots_begin T fs t at c before has up =
       each = all_found fs up;
       ascend = up;
       on = λ H level others within deep.
-          subst (λ u. Begun T H (slots_from (own_slots fs) level at ++ others) (slots_from (own_slots fs) level at
+          subst (λ u. BegunAt T H (slots_from (own_slots fs) level at ++ others) (slots_from (own_slots fs) level at
           ++ others) at at c c before before (λ P. slots_tree T fs (own_slots fs) P ≡ t)
           (λ Q. slots_tree T fs (own_slots fs) Q ≡ u)) (sym whole)
           (begun_none T H (slots_from (own_slots fs) level at ++ others) at c before (λ P. slots_tree T fs (own_slots fs) P ≡ t));
@@ -109,7 +110,7 @@ slots_past T fs t at c before f rest place free now r holds =
       each = r.each.1;
       ascend = up_tail f rest r.ascend;
       on = λ H level others within deep.
-          subst (λ xs. Begun T H (slots_from (own_slots fs) level at ++ others) (slots_from xs level place ++ others)
+          subst (λ xs. BegunAt T H (slots_from (own_slots fs) level at ++ others) (slots_from xs level place ++ others)
           at place c free before now (λ P. slots_tree T fs (own_slots fs) P ≡ t)
           (λ Q. slots_tree T fs xs Q ≡ keep (is_left fs xs) t)) same
           (r.on H level others within deep);
@@ -145,7 +146,7 @@ pub slots_more : (T : Table) (fs : List Field) (t : Node) (at c : ℕ) (before :
     (place free free2 : ℕ) (now now2 : Loads) → HasFields T fs 0 t → at + 2 * length (own_slots fs) ≤ c
     → SlotsOn T fs t at c before (f ∷ rest) place free now → is_member f.label ≡ false → free2 ≡ free + found_words T f.kind (content_at t f.number)
     → ((H level : ℕ) → free2 ≤ H → level + depth t ≤ 33
-    → PutsWord T H (slot_role f.label f.kind level, place) (place + 2) free free2 now now2
+    → PutsWordAt T H (slot_role f.label f.kind level, place) (place + 2) free free2 now now2
     (λ w. slot_content T f.label f.kind w ≡ content_at t f.number))
     → SlotsOn T fs t at c before rest (place + 2) free2 now2
 slots_more T fs t at c before f rest place free free2 now now2 has room r fails size puts =
@@ -162,11 +163,11 @@ slots_more T fs t at c before f rest place free free2 now now2 has room r fails 
       each = r.each.1;
       ascend = up_tail f rest r.ascend;
       on = λ H level others within deep.
-          let all : Begun T H (slots_from (own_slots fs) level at ++ others) ((slot_role f.label f.kind level, place)
+          let all : BegunAt T H (slots_from (own_slots fs) level at ++ others) ((slot_role f.label f.kind level, place)
           ∷ (slots_from (own_slots rest) level (place + 2) ++ others)) at place c free before now
           (λ P. slots_tree T fs (own_slots fs) P ≡ t) (λ Q. slots_tree T fs (f ∷ own_slots rest) Q
           ≡ keep (is_left fs (f ∷ own_slots rest)) t)
-          = subst (λ xs. Begun T H (slots_from (own_slots fs) level at ++ others)
+          = subst (λ xs. BegunAt T H (slots_from (own_slots fs) level at ++ others)
           (slots_from xs level place ++ others) at place c free before now (λ P. slots_tree T fs (own_slots fs) P
           ≡ t) (λ Q. slots_tree T fs xs Q ≡ keep (is_left fs xs) t)) same
           (r.on H level others (omega (arith, within, size)) deep) in
@@ -185,7 +186,7 @@ pub record SlotsDone (T : Table) (fs : List Field) (t : Node) (at c : ℕ) (befo
   pub free_is : free + fields_words T fs (members fs t) ≡ c + fields_words T fs t
   pub past : c ≤ free
   pub on : (H level : ℕ) (others : Expected) → free ≤ H → level + depth t ≤ 33
-      → Begun T H (slots_from (own_slots fs) level at ++ others) others at (at + 2 * length (own_slots fs)) c free before now
+      → BegunAt T H (slots_from (own_slots fs) level at ++ others) others at (at + 2 * length (own_slots fs)) c free before now
       (λ P. slots_tree T fs (own_slots fs) P ≡ t) (λ Q. slots_tree T fs [] Q ≡ members fs t)
 
 pub slots_end : (T : Table) (fs : List Field) (t : Node) (at c : ℕ) (before : Loads) (place free : ℕ) (now : Loads)
@@ -198,10 +199,10 @@ slots_end T fs t at c before place free now r =
       free_is = ap (λ u. free + fields_words T fs u) (sym rest) ∙ r.free_is;
       past = r.past;
       on = λ H level others within deep.
-          subst (λ u. Begun T H (slots_from (own_slots fs) level at ++ others) others at
+          subst (λ u. BegunAt T H (slots_from (own_slots fs) level at ++ others) others at
           (at + 2 * length (own_slots fs)) c free before now (λ P. slots_tree T fs (own_slots fs) P ≡ t)
           (λ Q. slots_tree T fs [] Q ≡ u)) rest
-          (subst (λ p. Begun T H (slots_from (own_slots fs) level at ++ others) others at p c free before now
+          (subst (λ p. BegunAt T H (slots_from (own_slots fs) level at ++ others) others at p c free before now
           (λ P. slots_tree T fs (own_slots fs) P ≡ t) (λ Q. slots_tree T fs [] Q ≡ keep (is_left fs []) t)) there
           (r.on H level others within deep));
     }
@@ -217,7 +218,7 @@ pub record CasesOn (T : Table) (fs : List Field) (t : Node) (all at c : ℕ) (be
   pub free_is : free + fields_words T fs (Behind fs oneof left t) ≡ c + fields_words T fs (members fs t)
   pub past : c ≤ free
   pub on : (H level : ℕ) → free ≤ H → level + depth t ≤ 33
-      → Begun T H (cases_from all fs 0 level at) (cases_from left fs oneof level place) at place c free before now
+      → BegunAt T H (cases_from all fs 0 level at) (cases_from left fs oneof level place) at place c free before now
       (λ P. slots_tree T fs [] P ≡ members fs t) (λ Q. slots_tree T fs [] Q ≡ Behind fs oneof left t)
 
 pub cases_begin : (T : Table) (fs : List Field) (t : Node) (all at c : ℕ) (before : Loads) → members fs t ≡ Behind fs 0 all t → CasesOn T fs t all at c before 0 all at c before
@@ -227,7 +228,7 @@ cases_begin T fs t all at c before is = record {
   free_is = ap (λ u. c + fields_words T fs u) (sym is);
   past = omega arith;
   on = λ H level within deep.
-      subst (λ u. Begun T H (cases_from all fs 0 level at) (cases_from all fs 0 level at) at at c c before before
+      subst (λ u. BegunAt T H (cases_from all fs 0 level at) (cases_from all fs 0 level at) at at c c before before
       (λ P. slots_tree T fs [] P ≡ members fs t) (λ Q. slots_tree T fs [] Q ≡ u)) is
       (begun_none T H (cases_from all fs 0 level at) at c before (λ P. slots_tree T fs [] P ≡ members fs t));
 }
@@ -263,7 +264,7 @@ pub cases_more : (T : Table) (fs : List Field) (t : Node) (all at c : ℕ) (befo
     (o left place free free2 m : ℕ) (now now2 : Loads) → NumbersAscend 0 t → Tells fs o t m → at + 3 * all ≤ c
     → CasesOn T fs t all at c before o (suc left) place free now → free2 ≡ free + found_words T (kind_at fs m) (content_at t m)
     → ((H level : ℕ) → free2 ≤ H → level + depth t ≤ 33
-    → PutsWord T H (case_word fs o level, place) (place + 3) free free2 now now2 (λ w. (u : Node)
+    → PutsWordAt T H (case_word fs o level, place) (place + 3) free free2 now now2 (λ w. (u : Node)
     → with_member T fs w u ≡ with_field m (content_at t m) u))
     → CasesOn T fs t all at c before (o + 1) left (place + 3) free2 now2
 cases_more T fs t all at c before o left place free free2 m now now2 up tells room r size puts =
@@ -288,11 +289,11 @@ all_past fs o t = keep_none (in_oneofs fs o 0) t (each_always (λ n. in_oneofs f
 
 pub cases_end : (T : Table) (fs : List Field) (t : Node) (all at c : ℕ) (before : Loads) (o place free : ℕ) (now : Loads) → CasesOn T fs t all at c before o 0 place free now
     → (H level : ℕ) → free ≤ H → level + depth t ≤ 33
-    → Puts T H (cases_from all fs 0 level at) at (at + 3 * all) c free before now
+    → PutsAt T H (cases_from all fs 0 level at) at (at + 3 * all) c free before now
     (λ P. slots_tree T fs [] P ≡ members fs t)
 cases_end T fs t all at c before o place free now r H level within deep =
     let there : place ≡ at + 3 * all = omega (arith, r.place_is) in
-    subst (λ p. Puts T H (cases_from all fs 0 level at) at p c free before now (λ P. slots_tree T fs [] P ≡ members fs t)) there
+    subst (λ p. PutsAt T H (cases_from all fs 0 level at) at p c free before now (λ P. slots_tree T fs [] P ≡ members fs t)) there
     (begun_end T H (cases_from all fs 0 level at) at place c free before now
     (λ P. slots_tree T fs [] P ≡ members fs t) (λ Q. slots_tree T fs [] Q ≡ Behind fs o 0 t)
     (r.on H level within deep) (sym (all_past fs o t)))
@@ -305,7 +306,7 @@ cases_free T fs t all at c before o place free now r = let none = ap (fields_wor
 
 pub no_case : (T : Table) (H : ℕ) (fs : List Field) (o level place c m : ℕ) (t : Node) (before after : Loads) → m ≡ 0
     → content_at t m ≡ None → place + 3 ≤ c → after ≡ before ++ (place, m) ∷ []
-    → PutsWord T H (case_word fs o level, place) (place + 3) c c before after (λ w. (u : Node) → with_member T fs w u ≡ with_field m (content_at t m) u)
+    → PutsWordAt T H (case_word fs o level, place) (place + 3) c c before after (λ w. (u : Node) → with_member T fs w u ≡ with_field m (content_at t m) u)
 no_case T H fs o level place c m t before after is none slot put =
     let put_zero : after ≡ before ++ (place, 0) ∷ [] = put ∙ ap (λ v. before ++ (place, v) ∷ []) is in
     lone_word T H (case_word fs o level) place 0 (place + 3) c before after (λ w. (u : Node) → with_member T fs w u ≡ with_field m (content_at t m) u) refl (omega arith)
@@ -315,11 +316,11 @@ pub some_case : (T : Table) (H : ℕ) (fs : List Field) (o level place c d m : �
     (before mid next : Loads) → m ≢ 0 → m < 2 ^ 64 → content_at t m ≡ Some (one i) → is_member_of fs o m ≡ true
     → place + 3 ≤ c → c ≤ d
     → mid ≡ before ++ (place, m) ∷ []
-    → PutsWord T H (plain_role (kind_at fs m) level true, place + 1) (place + 1 + element_words (kind_at fs m)) c d mid next (HoldsItem T (kind_at fs m) i)
-    → PutsWord T H (case_word fs o level, place) (place + 3) c d before next (λ w. (u : Node) → with_member T fs w u ≡ with_field m (content_at t m) u)
+    → PutsWordAt T H (plain_role (kind_at fs m) level true, place + 1) (place + 1 + element_words (kind_at fs m)) c d mid next (HoldsItem T (kind_at fs m) i)
+    → PutsWordAt T H (case_word fs o level, place) (place + 3) c d before next (λ w. (u : Node) → with_member T fs w u ≡ with_field m (content_at t m) u)
 some_case T H fs o level place c d m t i before mid next some small found member slot cd put puts =
     let wide = narrow (kind_at fs m) in
-    let inner : Puts T H ((plain_role (kind_at fs m) level true, place + 1) ∷ []) (place + 1) (place + 3) c d mid next
+    let inner : PutsAt T H ((plain_role (kind_at fs m) level true, place + 1) ∷ []) (place + 1) (place + 3) c d mid next
     (λ P. (u : Node) → with_member T fs (word place m P) u ≡ with_field m (content_at t m) u)
     = one_put T H (plain_role (kind_at fs m) level true, place + 1) (place + 3) c d mid next
     (HoldsItem T (kind_at fs m) i) (λ P. (u : Node)
@@ -334,23 +335,23 @@ some_case T H fs o level place c d m t i before mid next some small found member
     → with_member T fs (word place m P) u ≡ with_field m (content_at t m) u) (λ w. (u : Node)
     → with_member T fs w u ≡ with_field m (content_at t m) u)
     (omega arith) slot cd small (fine_case T H fs o level m (λ _. member_found fs o m member)) put
-    (subst (λ es. Puts T H es (place + 1) (place + 3) c d mid next (λ P. (u : Node) → with_member T fs (word place m P) u ≡ with_field m (content_at t m) u)) (sym behind_is) inner)
+    (subst (λ es. PutsAt T H es (place + 1) (place + 3) c d mid next (λ P. (u : Node) → with_member T fs (word place m P) u ≡ with_field m (content_at t m) u)) (sym behind_is) inner)
     (λ P made. made)
 
 -- ---- a node
 
 pub node_put : (T : Table) (H m level : ℕ) (t : Node) (c d : ℕ) (mid_free : ℕ) (before mid next : Loads)
     → c + size_words T m ≤ mid_free → mid_free ≤ d
-    → Begun T H (slots_from (own_slots (fields_of T m)) level c ++ cases_from (oneofs_of T m) (fields_of T m) 0 level
+    → BegunAt T H (slots_from (own_slots (fields_of T m)) level c ++ cases_from (oneofs_of T m) (fields_of T m) 0 level
     (c + 2 * length (own_slots (fields_of T m))))
     (cases_from (oneofs_of T m) (fields_of T m) 0 level (c + 2 * length (own_slots (fields_of T m))))
     c (c + 2 * length (own_slots (fields_of T m))) (c + size_words T m) mid_free before mid
     (λ P. slots_tree T (fields_of T m) (own_slots (fields_of T m)) P ≡ t) (λ Q. slots_tree T (fields_of T m) [] Q
     ≡ members (fields_of T m) t)
-    → Puts T H (cases_from (oneofs_of T m) (fields_of T m) 0 level (c + 2 * length (own_slots (fields_of T m))))
+    → PutsAt T H (cases_from (oneofs_of T m) (fields_of T m) 0 level (c + 2 * length (own_slots (fields_of T m))))
     (c + 2 * length (own_slots (fields_of T m))) (c + 2 * length (own_slots (fields_of T m)) + 3 * oneofs_of T m)
     mid_free d mid next (λ P. slots_tree T (fields_of T m) [] P ≡ members (fields_of T m) t)
-    → Puts T H (node_words T m level c) c c c d before next (λ P. tree_of T m P ≡ t)
+    → PutsAt T H (node_words T m level c) c c c d before next (λ P. tree_of T m P ≡ t)
 node_put T H m level t c d mid_free before mid next lower upper slots cases =
     let end : c + 2 * length (own_slots (fields_of T m)) + 3 * oneofs_of T m ≡ c + size_words T m = omega arith in
     content_put T H (node_words T m level c) c c (c + size_words T m) d before next (λ P. tree_of T m P ≡ t) (λ P. tree_of T m P ≡ t) (omega arith)
@@ -358,7 +359,7 @@ node_put T H m level t c d mid_free before mid next lower upper slots cases =
     c (c + 2 * length (own_slots (fields_of T m))) (c + size_words T m) (c + size_words T m) mid_free d before mid
     next (λ P. tree_of T m P ≡ t) (λ Q. slots_tree T (fields_of T m) [] Q ≡ members (fields_of T m) t)
     (omega arith) (omega (arith, end)) (omega arith) lower upper slots
-    (subst (λ e. Puts T H
+    (subst (λ e. PutsAt T H
     (cases_from (oneofs_of T m) (fields_of T m) 0 level (c + 2 * length (own_slots (fields_of T m))))
     (c + 2 * length (own_slots (fields_of T m))) e mid_free d mid next (λ P. slots_tree T (fields_of T m) [] P
     ≡ members (fields_of T m) t)) end cases))

@@ -2,8 +2,9 @@
 use Rattle.std.proofs.Common.{◌≡◌, ℕ, ◌+◌, ◌<◌, ◌≤◌, List, [], ◌∷◌, ◌++◌, arith, length-append}
 use Rattle.std.specs.List.{AllByRecursion, Contains}
 use Rattle.std.proofs.lemmas.List.Elements.{All-from_recursion, All-contains}
-use Rattle.graph_place.specs.Laid.{Between, Apart, Spread}
+use Rattle.graph_place.specs.Laid.{Apart}
 use Rattle.graph_place.specs.Stored.{places, StandWithin, StandApart}
+use Rattle.graph_place.proofs.Spelled.{BetweenAt, SpreadAt}
 
 -- ---- lists
 
@@ -27,13 +28,13 @@ apart_append (x ∷ xs) ys a b h = (each_append (Differs x) xs ys a.0 h.0, apart
 -- A part has its slots from a to below b and its content from c to below d. The part behind it has its slots from b to
 -- below b2 and its content from d to below d2, so both together have theirs from a to below b2 and from c to below d2.
 
-between_left : (a b b2 c d d2 p : ℕ) → b ≤ b2 → d ≤ d2 → Between a b c d p → Between a b2 c d2 p
+between_left : (a b b2 c d d2 p : ℕ) → b ≤ b2 → d ≤ d2 → BetweenAt a b c d p → BetweenAt a b2 c d2 p
 between_left a b b2 c d d2 p hb hd h = record { low = h.low; high = omega (arith, h.high, hd); gap = λ g. h.gap (omega (arith, g, hb)) }
 
-between_right : (a b b2 c d d2 p : ℕ) → a ≤ b → c ≤ d → Between b b2 d d2 p → Between a b2 c d2 p
+between_right : (a b b2 c d d2 p : ℕ) → a ≤ b → c ≤ d → BetweenAt b b2 d d2 p → BetweenAt a b2 c d2 p
 between_right a b b2 c d d2 p hb hd h = record { low = omega (arith, h.low, hb); high = h.high; gap = λ g. let k = h.gap g in omega (arith, k, hd) }
 
-between_apart : (a b b2 c d d2 p q : ℕ) → b2 ≤ c → Between a b c d p → Between b b2 d d2 q → p ≡ q → ⊥
+between_apart : (a b b2 c d d2 p q : ℕ) → b2 ≤ c → BetweenAt a b c d p → BetweenAt b b2 d d2 q → p ≡ q → ⊥
 between_apart a b b2 c d d2 p q hc hx hy e =
     let above : c ≤ p = hx.gap (omega (arith, hy.low, e)) in
     let past : d ≤ q = hy.gap (omega (arith, above, e, hc)) in
@@ -42,29 +43,29 @@ between_apart a b b2 c d d2 p q hc hx hy e =
 -- ---- words
 
 pub spread_join : (a b b2 c d d2 : ℕ) (xs ys : List (ℕ × ℕ)) → a ≤ b → b ≤ b2 → b2 ≤ c → c ≤ d → d ≤ d2
-    → Spread a b c d xs → Spread b b2 d d2 ys → Spread a b2 c d2 (xs ++ ys)
+    → SpreadAt a b c d xs → SpreadAt b b2 d d2 ys → SpreadAt a b2 c d2 (xs ++ ys)
 spread_join a b b2 c d d2 xs ys ab bb bc cd dd h g = record {
   within =
-      each_append (λ x. Between a b2 c d2 x.0) xs ys (each_weaker (λ x. Between a b c d x.0) (λ x. Between a b2 c d2 x.0) (λ x. between_left a b b2 c d d2 x.0 bb dd) xs h.within)
-      (each_weaker (λ x. Between b b2 d d2 x.0) (λ x. Between a b2 c d2 x.0) (λ x. between_right a b b2 c d d2 x.0 ab cd) ys g.within);
+      each_append (λ x. BetweenAt a b2 c d2 x.0) xs ys (each_weaker (λ x. BetweenAt a b c d x.0) (λ x. BetweenAt a b2 c d2 x.0) (λ x. between_left a b b2 c d d2 x.0 bb dd) xs h.within)
+      (each_weaker (λ x. BetweenAt b b2 d d2 x.0) (λ x. BetweenAt a b2 c d2 x.0) (λ x. between_right a b b2 c d d2 x.0 ab cd) ys g.within);
   apart =
       apart_append xs ys h.apart g.apart
-      (each_weaker (λ x. Between a b c d x.0) (λ x. AllByRecursion (Differs x) ys)
-      (λ x hx. each_weaker (λ y. Between b b2 d d2 y.0) (Differs x) (λ y hy. between_apart a b b2 c d d2 x.0 y.0 bc hx hy) ys g.within) xs h.within);
+      (each_weaker (λ x. BetweenAt a b c d x.0) (λ x. AllByRecursion (Differs x) ys)
+      (λ x hx. each_weaker (λ y. BetweenAt b b2 d d2 y.0) (Differs x) (λ y hy. between_apart a b b2 c d d2 x.0 y.0 bc hx hy) ys g.within) xs h.within);
   few = omega (arith, h.few, g.few, length-append xs ys);
 }
 
-pub spread_none : (a b c d : ℕ) → a ≤ b → c ≤ d → Spread a b c d []
+pub spread_none : (a b c d : ℕ) → a ≤ b → c ≤ d → SpreadAt a b c d []
 spread_none a b c d ab cd = record { within = tt; apart = tt; few = omega (arith, ab, cd) }
 
-pub spread_one : (p b c v : ℕ) → p < b → b ≤ c → Spread p b c c ((p, v) ∷ [])
+pub spread_one : (p b c v : ℕ) → p < b → b ≤ c → SpreadAt p b c c ((p, v) ∷ [])
 spread_one p b c v pb bc = record {
   within = (record { low = omega arith; high = omega (arith, pb, bc); gap = λ g. absurd (omega (arith, g, pb)) }, tt);
   apart = (tt, tt);
   few = omega (arith, pb);
 }
 
-pub spread_free : (b c v : ℕ) → b ≤ c → Spread b b c (c + 1) ((c, v) ∷ [])
+pub spread_free : (b c v : ℕ) → b ≤ c → SpreadAt b b c (c + 1) ((c, v) ∷ [])
 spread_free b c v bc = record {
   within = (record { low = bc; high = omega arith; gap = λ g. omega arith }, tt);
   apart = (tt, tt);
@@ -72,29 +73,29 @@ spread_free b c v bc = record {
 }
 
 -- slots at the front of free places, with their content behind, are content of what stands before
-between_content : (b c e d p : ℕ) → b ≤ c → Between c e e d p → Between b b c d p
+between_content : (b c e d p : ℕ) → b ≤ c → BetweenAt c e e d p → BetweenAt b b c d p
 between_content b c e d p bc h = record { low = omega (arith, h.low, bc); high = h.high; gap = λ g. h.low }
 
-pub spread_content : (b c e d : ℕ) (xs : List (ℕ × ℕ)) → b ≤ c → Spread c e e d xs → Spread b b c d xs
+pub spread_content : (b c e d : ℕ) (xs : List (ℕ × ℕ)) → b ≤ c → SpreadAt c e e d xs → SpreadAt b b c d xs
 spread_content b c e d xs bc h = record {
-  within = each_weaker (λ x. Between c e e d x.0) (λ x. Between b b c d x.0) (λ x. between_content b c e d x.0 bc) xs h.within;
+  within = each_weaker (λ x. BetweenAt c e e d x.0) (λ x. BetweenAt b b c d x.0) (λ x. between_content b c e d x.0 bc) xs h.within;
   apart = h.apart;
   few = omega (arith, h.few);
 }
 
-pub spread_wide : (a b b2 c d : ℕ) (xs : List (ℕ × ℕ)) → b ≤ b2 → Spread a b c d xs → Spread a b2 c d xs
+pub spread_wide : (a b b2 c d : ℕ) (xs : List (ℕ × ℕ)) → b ≤ b2 → SpreadAt a b c d xs → SpreadAt a b2 c d xs
 spread_wide a b b2 c d xs bb h = record {
-  within = each_weaker (λ x. Between a b c d x.0) (λ x. Between a b2 c d x.0) (λ x. between_left a b b2 c d d x.0 bb (omega arith)) xs h.within;
+  within = each_weaker (λ x. BetweenAt a b c d x.0) (λ x. BetweenAt a b2 c d x.0) (λ x. between_left a b b2 c d d x.0 bb (omega arith)) xs h.within;
   apart = h.apart;
   few = omega (arith, h.few, bb);
 }
 
 -- ---- as it is told
 
-pub spread_within : (a d n : ℕ) (xs : List (ℕ × ℕ)) → d ≡ a + n → Spread a a a d xs → StandWithin a n xs
+pub spread_within : (a d n : ℕ) (xs : List (ℕ × ℕ)) → d ≡ a + n → SpreadAt a a a d xs → StandWithin a n xs
 spread_within a d n xs e h =
     All-from_recursion (λ (x : ℕ × ℕ). (a ≤ x.0) × (x.0 < a + n)) xs
-    (each_weaker (λ x. Between a a a d x.0) (λ x. (a ≤ x.0) × (x.0 < a + n)) (λ x hx. (hx.low, omega (arith, hx.high, e))) xs h.within)
+    (each_weaker (λ x. BetweenAt a a a d x.0) (λ x. (a ≤ x.0) × (x.0 < a + n)) (λ x hx. (hx.low, omega (arith, hx.high, e))) xs h.within)
 
 differs_places : (x : ℕ) (ys : List (ℕ × ℕ)) → AllByRecursion (λ (y : ℕ × ℕ). x ≡ y.0 → ⊥) ys → AllByRecursion (λ q. x ≡ q → ⊥) (places ys)
 differs_places x [] h = tt

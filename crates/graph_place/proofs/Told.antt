@@ -7,16 +7,16 @@ use Rattle.graph_form.specs.Roles.{node_words, size_words}
 use Rattle.graph_form.specs.Placed.{loads, LiesIn, IsSound}
 use Rattle.graph_form.specs.Forgotten.{tree_of}
 use Rattle.graph_form.specs.declared.placed.Placed.{Placed as PlacedWords}
-use Rattle.graph_place.specs.Laid.{Puts}
 use Rattle.graph_place.specs.Size.{tree_words}
 use Rattle.graph_place.specs.Stored.{StandsIn, StandWithin, StandApart}
 use Rattle.graph_place.proofs.Beginning.{Loads}
 use Rattle.graph_place.proofs.Items.{NodePut}
+use Rattle.graph_place.proofs.Spelled.{PutsAt}
 use Rattle.graph_place.proofs.Spreads.{spread_within, apart_distinct}
 
 -- a message is laid out from a place on
 abbrev pub LaidOut : Table → ℕ → ℕ → ℕ → ℕ → Node → Loads → Type 0
-LaidOut T H msg at d t words = Puts T H (node_words T msg 1 at) at at at d [] words (λ P. tree_of T msg P ≡ t)
+LaidOut T H msg at d t words = PutsAt T H (node_words T msg 1 at) at at at d [] words (λ P. tree_of T msg P ≡ t)
 
 pub laid_out : (T : Table) (H msg at d free : ℕ) (t : Node) (before words : Loads) → before ≡ [] → free ≡ at
     → NodePut T msg t free before d words → d ≤ H → depth t ≤ 32 → LaidOut T H msg at d t words

@@ -1,7 +1,7 @@
 -- The code's own: what a pass over a part of a message puts behind the words so far, in the words of the builder.
 use Rattle.std.specs.Prelude.{◌≡◌, ◌≢◌, ℕ, ◌+◌, ◌*◌, ◌<◌, ◌≤◌, ◌^◌, take, Bool, true, false, List, [], ◌∷◌, ◌++◌, length, Option, Some, None, if◌then◌else◌, ◌==◌}
 use Rattle.std.specs.List.{AllByRecursion}
-use Rattle.mrpc_table.specs.Node.{Node, no_fields, field, Content, one, many, pairs, Item, run, node, no_items, Pairs, no_pairs, pair, content_at}
+use Rattle.mrpc_table.specs.Node.{Node, no_fields, field, Content, one, many, pairs, Item, node, no_items, Pairs, no_pairs, pair, content_at}
 use Rattle.mrpc_table.specs.Normal.{IsDefault, TakesOne, TakesMany, IsItem, AreItems, ArePairs, KeysAscend}
 use Rattle.mrpc_table.specs.declared.table.Kind.{Kind}
 use Rattle.mrpc_table.specs.declared.table.Kind.TheVariants.{Message as OfMessage}
@@ -9,23 +9,29 @@ use Rattle.mrpc_table.specs.declared.table.Label.{Label}
 use Rattle.mrpc_table.specs.declared.table.Label.TheVariants.{Optional, Map}
 use Rattle.mrpc_table.specs.declared.table.Field.{Field}
 use Rattle.mrpc_table.specs.declared.table.Table.{Table}
-use Rattle.graph_form.specs.Roles.{Role, run_address, Expected, behind, is_member, run_words, word_bytes}
+use Rattle.graph_form.specs.Roles.{Role, run_address, Expected, behind, is_member, word_bytes}
 use Rattle.graph_form.specs.Placed.{Placed, Word, word, loads, IsFine, AreSound}
 use Rattle.graph_form.specs.Forgotten.{plain_item}
 use Rattle.graph_place.specs.Content.{is_member_of}
 use Rattle.graph_place.specs.Size.{content_words}
+use Rattle.graph_place.specs.declared.builder.Builder.{Builder}
 
 -- ---- where words stand
 
--- A part of a message has two spans of places. Its slots stand from `slots_begin` to below `slots_end`. The content
--- that they need stands behind, from `content_begin` to below `content_end`, and has slots and content of its own. Other
--- parts may stand in the gap from `slots_end` to below `content_begin`.
+-- The places of a part of a message. Its slots stand from `slots_begin` to below `slots_end`. The content that they
+-- need stands behind, from `content_begin` to below `content_end`, and has slots and content of its own. Other parts
+-- may stand in the gap between.
+pub record Spans : Type 0 where
+  pub slots_begin : ℕ
+  pub slots_end : ℕ
+  pub content_begin : ℕ
+  pub content_end : ℕ
 
 -- a place lies in the two spans: from the first slot to the end of the content, and not in the gap
-pub record Between (slots_begin slots_end content_begin content_end place : ℕ) : Type 0 where
-  pub low : slots_begin ≤ place
-  pub high : place < content_end
-  pub gap : slots_end ≤ place → content_begin ≤ place
+pub record Between (spans : Spans) (place : ℕ) : Type 0 where
+  pub low : spans.slots_begin ≤ place
+  pub high : place < spans.content_end
+  pub gap : spans.slots_end ≤ place → spans.content_begin ≤ place
 
 -- no two words stand at one place
 abbrev pub Apart : List (ℕ × ℕ) → Type 0
@@ -33,52 +39,94 @@ Apart [] = Unit {0}
 Apart (x ∷ xs) = AllByRecursion (λ y. x.0 ≡ y.0 → ⊥) xs × Apart xs
 
 -- the words of a part stand in its two spans, no two at one place, and are no more than the spans have places
-pub record Spread (slots_begin slots_end content_begin content_end : ℕ) (words : List (ℕ × ℕ)) : Type 0 where
-  pub within : AllByRecursion (λ word. Between slots_begin slots_end content_begin content_end word.0) words
+pub record Spread (spans : Spans) (words : List (ℕ × ℕ)) : Type 0 where
+  pub within : AllByRecursion (λ word. Between spans word.0) words
   pub apart : Apart words
-  pub few : length words + slots_begin + content_begin ≤ slots_end + content_end
+  pub few : length words + spans.slots_begin + spans.content_begin ≤ spans.slots_end + spans.content_end
 
--- ---- what is put
+-- ---- what a pass puts
 
--- Words were put behind those before: the loads of a sound placed tree of the expected words, in a heap of `H` words.
--- They stand in these two spans, and the tree is one of which this is made.
-pub record Puts (T : Table) (H : ℕ) (expected : Expected) (slots_begin slots_end content_begin content_end : ℕ)
-    (before after : List (ℕ × ℕ)) (Made : Placed → Type 0) : Type 0 where
-  pub placed : Placed
-  pub sound : AreSound T H expected placed
-  pub words : after ≡ before ++ loads placed
-  pub spread : Spread slots_begin slots_end content_begin content_end (loads placed)
-  pub made : Made placed
+-- What is laid so far: the words in the order in which they are loaded, each a place and a value, and the place from
+-- which on nothing stands yet.
+pub record Laid : Type 0 where
+  pub words : List (ℕ × ℕ)
+  pub free : ℕ
 
--- One expected word, which is a role and a place, was put behind those before, with its content behind it. The span of
--- slots begins at its place.
-pub record PutsWord (T : Table) (H : ℕ) (expected : Role × ℕ) (slots_end content_begin content_end : ℕ)
-    (before after : List (ℕ × ℕ)) (Made : Word → Type 0) : Type 0 where
-  pub value : ℕ
-  pub content : Placed
-  pub small : value < 2 ^ 64
-  pub fine : IsFine T H expected.0 value
-  pub sound : AreSound T H (behind T expected.0 expected.1 value) content
-  pub words : after ≡ before ++ ((expected.1, value) ∷ loads content)
-  pub spread : Spread expected.1 slots_end content_begin content_end ((expected.1, value) ∷ loads content)
-  pub made : Made (word expected.1 value content)
+-- a pass over a part: what is laid before it and what after it, and where the slots that it fills begin and end
+pub record Pass : Type 0 where
+  pub before : Laid
+  pub after : Laid
+  pub slots_begin : ℕ
+  pub slots_end : ℕ
 
--- a sound placed tree of the rest, behind the own words that were put, makes one of all that is expected
-pub record Completes (T : Table) (H : ℕ) (all : Expected) (own : List (ℕ × ℕ)) (rest : Placed)
-    (Made : Placed → Type 0) : Type 0 where
-  pub placed : Placed
-  pub sound : AreSound T H all placed
-  pub loaded : loads placed ≡ own ++ loads rest
-  pub made : Made placed
+-- the places of a pass: the content of its slots stands where nothing stood before
+abbrev pub spans_of : Pass → Spans
+spans_of pass = record {
+  slots_begin = pass.slots_begin;
+  slots_end = pass.slots_end;
+  content_begin = pass.before.free;
+  content_end = pass.after.free;
+}
 
--- Of all expected words the first ones were put behind those before, in these two spans, and the rest is still
--- expected: each sound placed tree of the rest of which that is made completes one of all of which this is made.
-pub record Begun (T : Table) (H : ℕ) (all rest : Expected) (slots_begin slots_end content_begin content_end : ℕ)
-    (before now : List (ℕ × ℕ)) (Made MadeOfRest : Placed → Type 0) : Type 0 where
-  pub own : List (ℕ × ℕ)
-  pub words : now ≡ before ++ own
-  pub spread : Spread slots_begin slots_end content_begin content_end own
-  pub on : (others : Placed) → AreSound T H rest others → MadeOfRest others → Completes T H all own others Made
+-- what a builder has laid, and the pass of a call that changes the builder and fills the slots between two places
+abbrev pub laid_by : Builder → Laid
+laid_by builder = record { words = builder.words.items; free = builder.free }
+
+abbrev pub pass_of : (old new : Builder) (slots_begin slots_end : ℕ) → Pass
+pass_of old new slots_begin slots_end = record {
+  before = laid_by old;
+  after = laid_by new;
+  slots_begin = slots_begin;
+  slots_end = slots_end;
+}
+
+-- a part of a message: the words that are expected there, and which placed trees of them fit
+pub record Part : Type 1 where
+  pub expected : Expected
+  pub fits : Placed → Type 0
+
+abbrev pub part : Expected → (Placed → Type 0) → Part
+part expected fits = record { expected = expected; fits = fits }
+
+-- under a table, in a heap of H words
+module _ (T : Table) (H : ℕ) where
+  -- A pass puts a part: a placed tree of the expected words is sound and fits. Its loads are put behind the words
+  -- before, and stand in the two spans.
+  pub record Puts (part : Part) (pass : Pass) : Type 0 where
+    pub placed : Placed
+    pub sound : AreSound T H part.expected placed
+    pub made : part.fits placed
+    pub words : pass.after.words ≡ pass.before.words ++ loads placed
+    pub spread : Spread (spans_of pass) (loads placed)
+
+  -- A pass puts one expected word, which is a role and a place: a value that doesn't offend, whose content is a sound
+  -- placed tree of what is expected behind it. The word with its content fits. It is put behind the words before, with
+  -- the loads of its content behind it, and all stand in the two spans.
+  pub record PutsWord (expected : Role × ℕ) (pass : Pass) (Fits : Word → Type 0) : Type 0 where
+    pub value : ℕ
+    pub content : Placed
+    pub small : value < 2 ^ 64
+    pub fine : IsFine T H expected.0 value
+    pub sound : AreSound T H (behind T expected.0 expected.1 value) content
+    pub made : Fits (word expected.1 value content)
+    pub words : pass.after.words ≡ pass.before.words ++ ((expected.1, value) ∷ loads content)
+    pub spread : Spread (spans_of pass) ((expected.1, value) ∷ loads content)
+
+  -- Where its first words were put, a placed tree of the rest completes a part: a placed tree of the whole is sound and
+  -- fits, and its loads are those words and behind them the loads of the rest.
+  pub record Completes (whole : Part) (first_words : List (ℕ × ℕ)) (rest : Placed) : Type 0 where
+    pub placed : Placed
+    pub sound : AreSound T H whole.expected placed
+    pub made : whole.fits placed
+    pub loaded : loads placed ≡ first_words ++ loads rest
+
+  -- A pass puts the first words of a part, and the rest of it is left: these words are put behind those before, and
+  -- stand in the two spans. Each placed tree of the rest that is sound and fits completes the part.
+  pub record Begun (whole rest : Part) (pass : Pass) : Type 0 where
+    pub own : List (ℕ × ℕ)
+    pub words : pass.after.words ≡ pass.before.words ++ own
+    pub spread : Spread (spans_of pass) own
+    pub on : (others : Placed) → AreSound T H rest.expected others → rest.fits others → Completes whole own others
 
 -- the value of a word
 abbrev pub value_of : Word → ℕ
@@ -129,11 +177,7 @@ HoldsContent T l k (many is) = TakesMany l × (is ≢ no_items) × AreItems T k 
 HoldsContent T l k (pairs ps) = (key : Kind) × (l ≡ Map key) × ((m : ℕ) → key ≢ OfMessage m)
     × (ps ≢ no_pairs) × ArePairs T key k ps × KeysAscend key ps
 
--- the words of a run
-abbrev pub run_words_of : Item → ℕ
-run_words_of (run bytes) = run_words (length bytes)
-run_words_of _ = 0
-
+-- a value is no message
 abbrev pub NoMessage : Item → Type 0
 NoMessage (node t) = ⊥
 NoMessage _ = Unit {0}

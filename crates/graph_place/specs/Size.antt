@@ -2,16 +2,16 @@
 use Rattle.std.specs.Prelude.{ℕ, ◌+◌, List, length}
 use Rattle.mrpc_table.specs.Node.{Node, no_fields, field, Content, one, many, pairs, Item, number, run, node, Items, no_items, item, Pairs, no_pairs, pair}
 use Rattle.mrpc_table.specs.Normal.{fields_of, kind_at}
-use Rattle.mrpc_table.specs.Words.{message_of}
+use Rattle.mrpc_table.specs.Words.{nested_message}
 use Rattle.mrpc_table.specs.declared.table.Kind.{Kind}
 use Rattle.mrpc_table.specs.declared.table.Field.{Field}
 use Rattle.mrpc_table.specs.declared.table.Table.{Table}
 use Rattle.graph_form.specs.Roles.{size_words, run_words, element_words}
 
--- the words of a key's content: a key is a number or a run
-abbrev pub key_words : Item → ℕ
-key_words (run bytes) = run_words (length bytes)
-key_words _ = 0
+-- the words of a run, and 0 for what is none
+abbrev pub run_words_of : Item → ℕ
+run_words_of (run bytes) = run_words (length bytes)
+run_words_of _ = 0
 
 abbrev mutual
   -- the content of all fields of a message
@@ -30,15 +30,16 @@ abbrev mutual
   pub item_words : Table → Kind → Item → ℕ
   item_words T k (number n) = 0
   item_words T k (run bytes) = run_words (length bytes)
-  item_words T k (node t) = size_words T (message_of k) + fields_words T (fields_of T (message_of k)) t
+  item_words T k (node t) = size_words T (nested_message k) + fields_words T (fields_of T (nested_message k)) t
 
   pub many_words : Table → Kind → Items → ℕ
   many_words T k no_items = 0
   many_words T k (item i is) = element_words k + item_words T k i + many_words T k is
 
+  -- a key is a number or a run
   pub pairs_words : Table → Kind → Pairs → ℕ
   pairs_words T k no_pairs = 0
-  pairs_words T k (pair i j ps) = 4 + key_words i + item_words T k j + pairs_words T k ps
+  pairs_words T k (pair i j ps) = 4 + run_words_of i + item_words T k j + pairs_words T k ps
 
 -- the words of a tree of the message at a place of the table
 abbrev pub tree_words : Table → ℕ → Node → ℕ

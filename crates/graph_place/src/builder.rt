@@ -12,8 +12,8 @@ ghost use Rattle.mrpc_table.specs.declared.table.Field.{Field};
 ghost use Rattle.mrpc_table.specs.declared.table.Table.{Table};
 ghost use Rattle.graph_form.specs.Roles.{Expected, elements_address, entries_address, case_word, plain_role, optional_role, slot_role, slots_from, cases_from, node_words, own_slots, oneofs_of, is_member, element_words, run_words};
 ghost use Rattle.graph_form.specs.Forgotten.{run_at, slot_content, slots_tree, with_field, with_member, elements_at, entries_at, tree_of};
-ghost use Rattle.graph_place.specs.Laid.{Puts, PutsWord, Begun, HoldsItem, members, found_words, listed, IsMemberOf, HoldsContent, run_words_of, NoMessage, run_expected, HasBytes};
-ghost use Rattle.graph_place.specs.Size.{tree_words, fields_words, content_words, item_words, many_words, pairs_words};
+ghost use Rattle.graph_place.specs.Laid.{Puts, PutsWord, Begun, HoldsItem, pass_of, part, members, found_words, listed, IsMemberOf, HoldsContent, NoMessage, run_expected, HasBytes};
+ghost use Rattle.graph_place.specs.Size.{tree_words, fields_words, content_words, item_words, many_words, pairs_words, run_words_of};
 
 use crate::look_up::{kind_of, members_of, value_of};
 use graph_form::{element_words, is_member, oneofs_of, run_words, size_words};
@@ -71,9 +71,9 @@ impl Builder {
         requires room { self.old.free + tree_words table.now message tree.now < 2 ^ 64 }
         ensures free { OnOk result (self.new.free ≡ self.old.free + tree_words table.now message tree.now) }
         ensures puts { OnOk result ((H level : ℕ) → self.new.free ≤ H → level + depth tree.now ≤ MAX_DEPTH + 1
-            → Puts table.now H (node_words table.now message level self.old.free)
-            self.old.free self.old.free self.old.free self.new.free self.old.words.items self.new.words.items
-            (λ P. tree_of table.now message P ≡ tree.now)) }
+            → Puts table.now H
+            (part (node_words table.now message level self.old.free) (λ P. tree_of table.now message P ≡ tree.now))
+            (pass_of self.old self.new self.old.free self.old.free)) }
     {
         let at = self.take(size_words(table, message));
         let place = self.slots(table, message, tree, at)?;
@@ -94,10 +94,11 @@ impl Builder {
             ≡ self.old.free + fields_words table.now (fields_of table.now message) tree.now) }
         ensures puts { OnOk result (let fs = fields_of table.now message in
             (H level : ℕ) (others : Expected) → self.new.free ≤ H → level + depth tree.now ≤ MAX_DEPTH + 1
-            → Begun table.now H (slots_from (own_slots fs) level at ++ others) others
-            at (at + 2 * length (own_slots fs)) self.old.free self.new.free self.old.words.items self.new.words.items
-            (λ P. slots_tree table.now fs (own_slots fs) P ≡ tree.now)
-            (λ Q. slots_tree table.now fs [] Q ≡ members fs tree.now)) }
+            → Begun table.now H
+            (part (slots_from (own_slots fs) level at ++ others)
+            (λ P. slots_tree table.now fs (own_slots fs) P ≡ tree.now))
+            (part others (λ Q. slots_tree table.now fs [] Q ≡ members fs tree.now))
+            (pass_of self.old self.new at (at + 2 * length (own_slots fs)))) }
     {
         let fields = table.fields(message);
         let mut place = at;
@@ -132,7 +133,7 @@ impl Builder {
         ensures puts { is_member field.now.label ≡ false → OnOk result ((H level : ℕ)
             → self.new.free ≤ H → level + depth tree.now ≤ MAX_DEPTH + 1
             → PutsWord table.now H (slot_role field.now.label field.now.kind level, place)
-            (place + 2) self.old.free self.new.free self.old.words.items self.new.words.items
+            (pass_of self.old self.new place (place + 2))
             (λ w. slot_content table.now field.now.label field.now.kind w ≡ content_at tree.now field.now.number)) }
     {
         if is_member(field.label) {
@@ -165,10 +166,10 @@ impl Builder {
             + fields_words table.now (fields_of table.now message) (members (fields_of table.now message) tree.now)) }
         ensures puts { OnOk result (let fs = fields_of table.now message in
             (H level : ℕ) → self.new.free ≤ H → level + depth tree.now ≤ MAX_DEPTH + 1
-            → Puts table.now H (cases_from (oneofs_of table.now message) fs 0 level at)
-            at (at + 3 * oneofs_of table.now message) self.old.free self.new.free
-            self.old.words.items self.new.words.items
-            (λ P. slots_tree table.now fs [] P ≡ members fs tree.now)) }
+            → Puts table.now H
+            (part (cases_from (oneofs_of table.now message) fs 0 level at)
+            (λ P. slots_tree table.now fs [] P ≡ members fs tree.now))
+            (pass_of self.old self.new at (at + 3 * oneofs_of table.now message))) }
     {
         let members = members_of(table, message, tree);
         let mut place = at;
@@ -202,7 +203,7 @@ impl Builder {
         ensures puts { OnOk result ((H level oneof : ℕ) → self.new.free ≤ H → level + depth tree.now ≤ MAX_DEPTH + 1
             → IsMemberOf (fields_of table.now message) oneof tree.now member
             → PutsWord table.now H (case_word (fields_of table.now message) oneof level, place)
-            (place + 3) self.old.free self.new.free self.old.words.items self.new.words.items
+            (pass_of self.old self.new place (place + 3))
             (λ w. (t : Node) → with_member table.now (fields_of table.now message) w t
             ≡ with_field member (content_at tree.now member) t)) }
     {
@@ -237,7 +238,7 @@ impl Builder {
         ensures puts { OnOk result ((H level : ℕ) → self.new.free ≤ H
             → level + content_depth (content_of content.now) ≤ MAX_DEPTH + 1
             → PutsWord table.now H (slot_role label kind level, place)
-            (place + 2) self.old.free self.new.free self.old.words.items self.new.words.items
+            (pass_of self.old self.new place (place + 2))
             (λ w. slot_content table.now label kind w ≡ Some (content_of content.now))) }
     {
         match content {
@@ -274,9 +275,10 @@ impl Builder {
             ≡ self.old.free + many_words table.now kind (items_of values.now.items)) }
         ensures puts { OnOk result ((H level : ℕ) → self.new.free ≤ H
             → level + items_depth (items_of values.now.items) ≤ MAX_DEPTH + 1
-            → Puts table.now H ((elements_address kind (length values.now.items) level, place) ∷ [])
-            place (place + 1) self.old.free self.new.free self.old.words.items self.new.words.items
-            (λ P. elements_at table.now kind P ≡ items_of values.now.items)) }
+            → Puts table.now H
+            (part ((elements_address kind (length values.now.items) level, place) ∷ [])
+            (λ P. elements_at table.now kind P ≡ items_of values.now.items))
+            (pass_of self.old self.new place (place + 1))) }
     {
         let width = element_words(kind);
         let at = self.take(values.len() as u64 * width);
@@ -309,9 +311,10 @@ impl Builder {
             ≡ self.old.free + pairs_words table.now kind (pairs_of entries.now.items)) }
         ensures puts { OnOk result ((H level : ℕ) → self.new.free ≤ H
             → level + pairs_depth (pairs_of entries.now.items) ≤ MAX_DEPTH + 1
-            → Puts table.now H ((entries_address key kind (length entries.now.items) level, place) ∷ [])
-            place (place + 1) self.old.free self.new.free self.old.words.items self.new.words.items
-            (λ P. entries_at table.now key kind P ≡ listed (pairs_of entries.now.items))) }
+            → Puts table.now H
+            (part ((entries_address key kind (length entries.now.items) level, place) ∷ [])
+            (λ P. entries_at table.now key kind P ≡ listed (pairs_of entries.now.items)))
+            (pass_of self.old self.new place (place + 1))) }
     {
         let at = self.take(4 * entries.len() as u64);
         self.put(place, at)?;
@@ -336,7 +339,7 @@ impl Builder {
         ensures puts { OnOk result ((H level : ℕ) (needed : Bool) → self.new.free ≤ H
             → level + item_depth (item_of value.now) ≤ MAX_DEPTH + 1
             → PutsWord table.now H (plain_role kind level needed, place)
-            (place + element_words kind) self.old.free self.new.free self.old.words.items self.new.words.items
+            (pass_of self.old self.new place (place + element_words kind))
             (HoldsItem table.now kind (item_of value.now))) }
     {
         match value {
@@ -362,7 +365,7 @@ impl Builder {
         ensures puts { OnOk result ((T : Table) (H : ℕ) (kind : Kind) → self.new.free ≤ H
             → ((m : ℕ) → kind ≢ Kind.Message m) → IsItem T kind (item_of value.now)
             → PutsWord T H (optional_role kind, place)
-            (place + 2) self.old.free self.new.free self.old.words.items self.new.words.items
+            (pass_of self.old self.new place (place + 2))
             (λ w. slot_content T Label.Optional kind w ≡ Some (one (item_of value.now)))) }
     {
         match value {
@@ -387,9 +390,9 @@ impl Builder {
         ensures free { OnOk result (self.new.free ≡ self.old.free + run_words (length bytes.now)) }
         ensures puts { OnOk result ((T : Table) (H : ℕ) (kind : Kind) → self.new.free ≤ H
             → (kind ≡ Kind.Text → IsUtf8 bytes.now)
-            → Puts T H (run_expected kind (length bytes.now) place)
-            place (place + 1) self.old.free self.new.free self.old.words.items self.new.words.items
-            (λ P. run_at (length bytes.now) P ≡ bytes.now)) }
+            → Puts T H
+            (part (run_expected kind (length bytes.now) place) (λ P. run_at (length bytes.now) P ≡ bytes.now))
+            (pass_of self.old self.new place (place + 1))) }
     {
         if bytes.is_empty() {
             return Ok(());

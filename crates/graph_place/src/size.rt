@@ -5,7 +5,7 @@ ghost use Rattle.mrpc_table.specs.Normal.{IsNormal};
 ghost use Rattle.mrpc_table.specs.Valid.{IsValid};
 ghost use Rattle.mrpc_table.specs.View.{item_of, items_of, pairs_of, content_of};
 ghost use Rattle.mrpc_table.specs.Capped.{capped};
-ghost use Rattle.graph_place.specs.Size.{tree_words, content_words, item_words, many_words, pairs_words, key_words};
+ghost use Rattle.graph_place.specs.Size.{tree_words, content_words, item_words, many_words, pairs_words, run_words_of};
 
 use crate::look_up::kind_of;
 use graph_form::{element_words, run_words, size_words};
@@ -93,7 +93,7 @@ fn item_words(value: &Value, table: &Table, kind: Kind) -> u64
 
 // The words behind a key, which is a number or a run.
 fn key_words(key: &Value) -> u64
-    ensures { result ≡ capped (key_words (item_of key.now)) }
+    ensures { result ≡ capped (run_words_of (item_of key.now)) }
 {
     match key {
         Value::Run(bytes) => run_words(bytes.len() as u64),
