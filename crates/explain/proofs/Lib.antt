@@ -1,1 +1,1 @@
-pub mod Pointing
+mod Pointing

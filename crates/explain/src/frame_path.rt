@@ -74,11 +74,11 @@ fn inner_message(table: &Table, message: u32, number: u32) -> Option<u32>
 // A record in which a byte stands.
 #[derive(Clone, Copy)]
 struct Around {
-    /// The number of its field.
+    // The number of its field.
     number: u32,
-    /// From where its own payload goes where it has a length, and else the end of all.
+    // From where its own payload goes where it has a length, and else the end of all.
     from: usize,
-    /// To where that goes.
+    // To where that goes.
     to: usize,
 }
 

@@ -16,7 +16,7 @@ const FILE: &[u8] = b"file ";
 #[derive(Clone, Copy)]
 struct Header<'a> {
     path: &'a [u8],
-    /// How many bytes the file is said to have.
+    // How many bytes the file is said to have.
     size: Decimal,
     behind: &'a [u8],
 }

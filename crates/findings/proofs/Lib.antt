@@ -1,3 +1,3 @@
-pub mod Plain
-pub mod Saying
+mod Plain
+mod Saying
 mod Rows

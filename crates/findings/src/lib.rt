@@ -14,6 +14,6 @@ mod word_table;
 
 pub use finding::Finding;
 pub use part::Part;
-pub use sentence::{Around, Sentence};
+pub use sentence::{Around, NAMED, Sentence};
 pub use text_lines::TextLine;
 pub use word_table::{Row, text_for, text_or};

@@ -8,8 +8,8 @@ use mrpc_table::{Bytes, Memory};
 use std::alloc::Global;
 use std::marker::Model;
 
-// How many bytes of a word are named in a sentence, at the most.
-const NAMED: usize = 100;
+/// How many bytes of a word are named in a sentence, at the most.
+pub const NAMED: usize = 100;
 
 const DIGITS: [u8; 16] = *b"0123456789abcdef";
 

@@ -1,2 +1,2 @@
-pub mod Pointed
+mod Pointed
 mod Rows

@@ -13,10 +13,7 @@ use mrpc_table::Bytes;
 use std::alloc::Global;
 use std::io::Eprint;
 use std::time::Clock;
-
-// How many bytes are copied at once, at the most. A longer copy is one string instruction in the C library, which goes
-// byte by byte where instructions are counted.
-const CHUNK: usize = 2_048;
+use whole_input::CHUNK;
 
 // How the line of a fault begins.
 const FAULT: &[u8] = b"fault ";

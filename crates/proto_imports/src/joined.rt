@@ -4,9 +4,10 @@ ghost use Rattle.std.specs.Prelude.{◌≡◌, ◌↔◌, ◌<◌, length, IsTru
 ghost use Rattle.proto_imports.specs.Reaching.{HaveOwnPaths, IsJoined, AreOthers};
 ghost use Rattle.proto_imports.specs.Walking.{AreReached};
 
-use crate::set::{Member, Places};
+use crate::set::Member;
 use crate::walk::Mark;
 use mrpc_table::Memory;
+use proto_file::Places;
 use std::alloc::Global;
 
 // Whether a file was left.

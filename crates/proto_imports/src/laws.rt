@@ -15,7 +15,7 @@ pub fn one_outcome()
     ensures { (set : List Member) (o p : Outcome) → HaveOwnPaths set → VisitsRoot set o → VisitsRoot set p → o ≡ p }
 {}
 
-/// Visiting the root names a ring exactly where a file that it reaches is reached from itself.
+/// A ring that visiting the root names is one, and where it names none there is none.
 pub fn rings()
     // The import that is named leads from a file that the root reaches to one from which that file is reached.
     ensures named { (set : List Member) (i n : ℕ) → VisitsRoot set (ring i n)

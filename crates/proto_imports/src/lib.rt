@@ -21,4 +21,4 @@ mod walk;
 pub use fault::{ImportFault, ImportReason};
 pub use laws::{one_fault, one_outcome, one_reach, reach_or_fault, rings};
 pub use reaching::reach;
-pub use set::{Member, Places, Reach};
+pub use set::{Member, Reach};

@@ -7,8 +7,8 @@ ghost use Rattle.proto_imports.specs.Reaching.{HaveOwnPaths, AreSeen};
 ghost use Rattle.proto_imports.specs.Seeing.{MarksMore, IsLinked, IsLinkedPublicly};
 
 use crate::links::{Graph, Link};
-use crate::set::Places;
 use mrpc_table::{Memory, Sequence};
+use proto_file::Places;
 use std::alloc::Global;
 
 /// Files that are seen so far.

@@ -1,7 +1,7 @@
 //! Sets of files, and what their first file reaches.
 
 use mrpc_table::{Name, Sequence};
-use proto_file::File;
+use proto_file::{File, Places};
 
 /// A file of a set: the path by which others import it, and what it says.
 #[derive(Drop)]
@@ -9,9 +9,6 @@ pub struct Member {
     pub path: Name,
     pub file: File,
 }
-
-/// Files of a set, by their places in it, from 0.
-pub type Places = Sequence<usize>;
 
 /// The files that the first one reaches, and what each of them sees.
 #[derive(Drop)]

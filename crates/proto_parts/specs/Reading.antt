@@ -1,4 +1,4 @@
--- The readers' own, here and in `proto_schema`: what a token does to a part of a statement, by how far that is read. Which
+-- The code's own, here and in `proto_schema`: what a token does to a part of a statement, by how far that is read. Which
 -- tokens are a part, and what it says, is in `Grammar`; `proto_schema` proves that what is read so is what is said there.
 use Rattle.std.specs.Prelude.{◌≡◌, ℕ, ◌+◌, ◌-◌, ◌^◌, ◌<◌, ◌≤◌, length, ◌==◌, nat_le, Bool, true, false, ◌&&◌, ◌||◌}
 use Rattle.std.specs.Prelude.{if◌then◌else◌, List, [], ◌∷◌, ◌++◌, codes, Option, Some, None, Result, Ok, Err}

@@ -80,22 +80,25 @@ edit_open (Some place) change list = edit_at place change list
 
 -- ---- what a statement adds
 
--- The draft with another file, or with another block.
+-- The draft with another file.
 abbrev pub with_file : Draft → File → Draft
 with_file draft file = record { file = file; messages = draft.messages; block = draft.block }
 
+-- The draft with another block.
 abbrev pub with_block : Draft → Block → Draft
 with_block draft block = record { file = draft.file; messages = draft.messages; block = block }
 
--- The draft with a change in its innermost open message, in its last enum, or in its last service.
+-- The draft with a change in its innermost open message.
 abbrev pub in_message : Draft → (MessageDecl → MessageDecl) → Draft
 in_message draft change =
     with_file draft
     (record draft.file { messages = edit_open (innermost_of draft.messages) change draft.file.messages })
 
+-- The draft with a change in the last enum of its file.
 abbrev pub in_enum : Draft → (EnumDecl → EnumDecl) → Draft
 in_enum draft change = with_file draft (record draft.file { enums = edit_last change draft.file.enums })
 
+-- The draft with a change in the last service of its file.
 abbrev pub in_service : Draft → (ServiceDecl → ServiceDecl) → Draft
 in_service draft change = with_file draft (record draft.file { services = edit_last change draft.file.services })
 
@@ -142,11 +145,12 @@ open_service draft name = record {
   block = a_service;
 }
 
--- How many oneofs a message has, and how many the message at a place, if there is one.
+-- How many oneofs a message has, if there is one.
 abbrev pub oneofs_of : Option MessageDecl → ℕ
 oneofs_of None = 0
 oneofs_of (Some m) = length m.oneofs
 
+-- How many oneofs the message at a place has, if there is one: the place of the next one in it.
 abbrev pub count_oneofs : Option ℕ → List MessageDecl → ℕ
 count_oneofs None messages = 0
 count_oneofs (Some place) messages = oneofs_of (slice_get messages place)
@@ -157,10 +161,11 @@ open_oneof draft name =
     with_block (in_message draft (λ m. record m { oneofs = m.oneofs ++ name ∷ [] }))
     (a_oneof (count_oneofs (innermost_of draft.messages) draft.file.messages) false)
 
--- A field is added to the innermost open message, and an rpc to the last service.
+-- A field is added to the innermost open message.
 abbrev pub add_field : Draft → FieldDecl → Draft
 add_field draft f = in_message draft (λ m. record m { fields = m.fields ++ f ∷ [] })
 
+-- An rpc is added to the last service.
 abbrev pub add_rpc : Draft → RpcDecl → Draft
 add_rpc draft r = in_service draft (λ s. record s { rpcs = s.rpcs ++ r ∷ [] })
 

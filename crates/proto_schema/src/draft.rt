@@ -37,7 +37,7 @@ pub struct Draft {
     messages: Vec<MessageDecl>,
     enums: Vec<EnumDecl>,
     services: Vec<ServiceDecl>,
-    /// The places of the messages that are open, the outermost first.
+    // The places of the messages that are open, the outermost first.
     nested: Vec<usize>,
     block: Block,
 }

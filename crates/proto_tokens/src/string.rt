@@ -8,7 +8,7 @@ ghost use Rattle.proto_tokens.specs.Strings.{is_low_escape, is_pair, joined, cod
 ghost use Rattle.proto_tokens.specs.Strings.{escape_of, string_value};
 
 use crate::word::{digits_len, is_digit};
-use mrpc_table::{Bytes, Memory, capped};
+use mrpc_table::{Bytes, Memory, number_capped};
 use std::alloc::Global;
 
 // How many digits stand at the front, `most` at most.
@@ -27,7 +27,7 @@ fn spelled(bytes: &[u8], base: u8, most: usize) -> u32
     requires some { 0 < base }
     ensures { result ≡ spelled base most bytes.now }
 {
-    let number = capped(&bytes[..few(bytes, base, most)], base);
+    let number = number_capped(&bytes[..few(bytes, base, most)], base);
     number as u32
 }
 

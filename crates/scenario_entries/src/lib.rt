@@ -14,5 +14,5 @@ mod program;
 
 pub use chain::Chain;
 pub use laws::{not_both, one_fault};
-pub use link::{Port, read_links};
+pub use link::{Port, has_port, read_links};
 pub use program::{read_program, submissions};

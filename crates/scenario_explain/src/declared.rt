@@ -2,13 +2,13 @@
 
 ghost use Rattle.mrpc_table.specs.Valid.{IsValid};
 
-use crate::site::{Site, items_at, name_at, names_of, text_of};
+use crate::site::{Site, name_at, names_of, text_of};
 use crate::steps::policy_of;
 use mrpc_table::{Memory, Table as Schema};
 use policy_blocks::{Declarations, NamedPolicy};
 use scenario::{ScenarioFault, table_in};
 use scenario_policies::{read_policies, read_tenants};
-use scenario_values::{tables_at, word_at};
+use scenario_values::{items_at, tables_at, word_at};
 use std::alloc::Global;
 use toml::Table;
 

@@ -1,13 +1,13 @@
 //! Names that are none, that are used already, or that nothing has.
 
 use crate::declared::declared_in;
-use crate::site::{Said, Site, first_on, items_at, key_of_name, name_at, names_of, say_at};
+use crate::site::{Said, Site, first_on, key_of_name, name_at, names_of, say_at};
 use findings::Row;
 use mrpc_table::{Bytes, is_full_name, is_name};
 use policy_blocks::Declarations;
 use scenario::Entry;
 use scenario::keys::{conn, end_a, end_b};
-use scenario_values::{text_at, word_at};
+use scenario_values::{items_at, text_at, word_at};
 use scenario_words::{Part, list_of};
 use std::alloc::Global;
 use toml::{Table, Value};

@@ -1,11 +1,12 @@
 //! Lines of programs.
 
-use crate::site::{Said, Site, items_at, say_at, say_in, text_of};
+use crate::site::{Said, Site, say_at, say_in, text_of};
 use app_program::{MAX_REQUEST_STORES, MAX_STORES};
 use mrpc_table::{Bytes, MAX_HEAP};
 use scenario::keys::{heap, role_of};
 use scenario::{RoleWord, ScenarioReason, of_line};
 use scenario_lines::{ProgramRole, read_line};
+use scenario_values::items_at;
 use scenario_words::Part;
 use toml::Value;
 

@@ -3,14 +3,14 @@
 ghost use Rattle.mrpc_table.specs.Valid.{IsValid};
 
 use crate::declared::marks_of;
-use crate::site::{Said, Site, Spot, items_at, say_in, text_of};
+use crate::site::{Said, Site, Spot, say_in, text_of};
 use findings::Row;
 use mrpc_table::{Bytes, Lines, Memory, RuleFault, Table as Schema};
 use policy_access::read_access;
 use policy_redact::read_redact;
 use scenario::keys::kind_of;
 use scenario::{Kind, ScenarioReason, of_rule, table_in};
-use scenario_values::word_at;
+use scenario_values::{items_at, word_at};
 use scenario_words::{Part, say, words_for};
 use std::alloc::Global;
 use toml::{Table, Value};

@@ -3,7 +3,7 @@
 use mrpc_table::{Bytes, Memory};
 use scenario::Entry;
 use scenario::keys::conn;
-use scenario_values::text_at;
+use scenario_values::{items_at, text_at};
 use scenario_words::{Part, list_of, say};
 use toml::{Table, Value};
 
@@ -63,17 +63,6 @@ impl<'a> Site<'a> {
         } else {
             list
         }
-    }
-}
-
-/// The values of the list at a key; none where there is no list.
-pub(crate) fn items_at<'a>(table: &'a Table, key: &str) -> &'a [Value] {
-    let Some(value) = table.get(key) else {
-        return &[];
-    };
-    match value.as_array() {
-        Some(items) => items.as_slice(),
-        None => &[],
     }
 }
 

@@ -2,14 +2,15 @@
 
 use crate::declared::declared_in;
 use crate::rules::say_own_rules;
-use crate::site::{Said, Site, first_on, items_at, say_at, say_in, text_of};
+use crate::site::{Said, Site, first_on, say_at, say_in, text_of};
 use crate::walk::{Refused, refused_on};
 use mrpc_table::Bytes;
 use policy_blocks::Declarations;
 use scenario::keys::conn;
 use scenario::{ScenarioReason, of_line};
 use scenario_lines::{StepText, read_step};
-use scenario_values::word_at;
+use scenario_reader::count_in;
+use scenario_values::{items_at, word_at};
 use scenario_words::Part;
 use std::alloc::Global;
 use toml::{Table, Value};
@@ -59,15 +60,6 @@ fn step_words(reason: ScenarioReason) -> &'static str {
         ScenarioReason::Name =>
             "a name is a letter or \"_\", then letters, digits and \"_\", 64 bytes at the most",
         _ => FORMS,
-    }
-}
-
-// How many calls the connection has taken when a step comes.
-fn count_in(step: &StepText<'_>) -> u64 {
-    match step {
-        StepText::Attach { count, .. }
-        | StepText::Detach { count, .. }
-        | StepText::Upgrade { count, .. } => *count,
     }
 }
 

@@ -1,12 +1,13 @@
 //! The steps of an operator, one after another, on the chain of its connection.
 
 use crate::declared::named_in;
-use crate::site::{items_at, text_of};
+use crate::site::text_of;
 use mrpc_table::{Decimal, Memory};
 use policy_blocks::Declarations;
 use scenario::ScenarioReason;
 use scenario_entries::Chain;
 use scenario_lines::{StepText, read_step};
+use scenario_values::items_at;
 use std::alloc::Global;
 use toml::{Table, Value};
 

@@ -5,11 +5,12 @@ use Rattle.std.proofs.Common.{inl, inr, arith}
 use Rattle.std.specs.Prelude.{codes}
 use Rattle.std.proofs.lemmas.Bool.{cases_lt}
 use Rattle.std.proofs.lemmas.List.Elements.{Contains-append_right}
+use Rattle.mrpc_table.specs.Lines.{IsIn}
 use Rattle.mrpc_table.specs.Valid.{IsValid}
 use Rattle.mrpc_table.specs.declared.table.Table.{Table}
 use Rattle.run_plan.specs.Plans.{IsApplication, IsInbound, IsOwnPolicy, IsOwnSchema}
 use Rattle.run_plan.specs.Plans as plans
-use Rattle.run_plan.specs.Ports.{IsIn, IsPort}
+use Rattle.run_plan.specs.Ports.{IsPort}
 use Rattle.run_plan.specs.declared.application.Application.{Application}
 use Rattle.run_plan.specs.declared.application.OwnPolicy.{OwnPolicy}
 use Rattle.run_plan.specs.declared.application.OwnSchema.{OwnSchema}

@@ -4,7 +4,7 @@ use Rattle.std.specs.List.{IsDistinct, list_any, AllByRecursion}
 use Rattle.std.proofs.lemmas.Bool.{and_parts, eqb-true, false_from_ne_true, leb-true, ne_eqb, not-false, or_cases}
 use Rattle.std.proofs.lemmas.Map.Steps.{length-le_from_distinct_below}
 use Rattle.mrpc_table.specs.Valid.{AreDistinct}
-use Rattle.run_plan.specs.Ports.{IsIn}
+use Rattle.mrpc_table.specs.Lines.{IsIn}
 use Rattle.toml.specs.Data.{Members}
 use Rattle.scenario_values.specs.Values.{TheRange, integer_in, is_out, is_within, natural, number_in}
 use Rattle.scenario_laws.proofs.Lists.{there_first, there_more}

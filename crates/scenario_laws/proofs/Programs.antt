@@ -6,14 +6,14 @@ use Rattle.std.proofs.lemmas.Bool.{and_parts, both_ways, cases_lt, not-true, tru
 use Rattle.std.proofs.lemmas.List.Elements.{All-cons, All-nil}
 use Rattle.std.proofs.lemmas.List.Sums.{sum_by-cons}
 use Rattle.std.proofs.lemmas.Slice.Eq.{bytes_eq-Decides}
-use Rattle.mrpc_table.specs.Lines.{words_of}
+use Rattle.mrpc_table.specs.Lines.{words_of, IsIn}
 use Rattle.app_program.specs.Programs.{IsClientLine, IsClientProgram, IsServerLine, IsServerProgram, line_stores, line_submits, stores_of}
 use Rattle.app_program.specs.Programs as programs
 use Rattle.app_program.specs.declared.program.ProgramLine.{ProgramLine}
 use Rattle.app_program.specs.declared.program.ProgramLine.TheVariants as program
 use Rattle.app_program.specs.declared.program.TheConstants.{MAX_LINES, MAX_REQUEST_STORES, MAX_STORES}
 use Rattle.script_words.specs.Lines.{AreSaid}
-use Rattle.script_words.specs.Sorts.{IsIn, Meaning, number, number_at}
+use Rattle.script_words.specs.Sorts.{Meaning, number, number_at}
 use Rattle.script_words.specs.declared.sort.Sort.TheVariants as sort
 use Rattle.run_plan.specs.Plans.{HasProgram}
 use Rattle.run_plan.specs.Plans as plans

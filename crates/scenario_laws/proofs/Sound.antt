@@ -4,6 +4,7 @@ use Rattle.std.specs.Prelude.{codes}
 use Rattle.std.proofs.lemmas.Bool.{and_from, and_parts, both_ways, cases_Bool}
 use Rattle.std.proofs.lemmas.List.{length-map}
 use Rattle.std.proofs.lemmas.List.Elements.{All-contains}
+use Rattle.mrpc_table.specs.Lines.{IsIn}
 use Rattle.mrpc_table.specs.Names.{IsFullName, is_full_form, is_short_full}
 use Rattle.mrpc_table.specs.declared.limits.TheConstants.{MAX_LOADS}
 use Rattle.mrpc_table.specs.declared.table.Table.{Table}
@@ -11,7 +12,7 @@ use Rattle.policy_blocks.specs.Declarations.{Declared, IsSound}
 use Rattle.policy_blocks.specs.declared.item.NamedPolicy.{NamedPolicy}
 use Rattle.run_plan.specs.Chains.{IsReadUnder}
 use Rattle.run_plan.specs.Plans.{HasWindow, IsApplication, IsOwnPolicy, IsPlan}
-use Rattle.run_plan.specs.Ports.{IsIn, connections_of}
+use Rattle.run_plan.specs.Ports.{connections_of}
 use Rattle.run_plan.specs.declared.application.Application.{Application}
 use Rattle.run_plan.specs.declared.application.OwnPolicy.{OwnPolicy}
 use Rattle.run_plan.specs.declared.limits.TheConstants.{MAX_CONNECTIONS, MAX_WORKERS}

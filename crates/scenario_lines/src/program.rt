@@ -18,15 +18,15 @@ use std::alloc::Global;
 #[derive(Drop)]
 pub struct ProgramReader {
     role: ProgramRole,
-    /// The words of the application's heap.
+    // The words of the application's heap.
     heap: u32,
     lines: Program,
     first: Option<LineReason>,
-    /// How often the lines store. Once they do so too often, they aren't counted on.
+    // How often the lines store. Once they do so too often, they aren't counted on.
     stores: u64,
-    /// Whether a line has the form of a reply.
+    // Whether a line has the form of a reply.
     replied: bool,
-    /// Whether the last line alone has it.
+    // Whether the last line alone has it.
     ends: bool,
 }
 

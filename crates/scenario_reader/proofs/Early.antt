@@ -16,8 +16,8 @@ use Rattle.scenario.specs.declared.fault.ScenarioReason.TheVariants.{Unknown}
 use Rattle.scenario.specs.declared.form.RoleWord.{RoleWord}
 use Rattle.scenario_values.specs.Values.{number_in}
 use Rattle.scenario_policies.specs.Owning.{no_policy}
-use Rattle.scenario_reader.specs.Joining.{EarlyFails, HeadFails, IsEarlyRead, IsRoleRead, ProgramFails, RoleFails, SaysRole, reason_in}
-use Rattle.scenario_reader.specs.Owning.{IsOwnOf, IsOwnRead, OwnFails}
+use Rattle.scenario_reader.specs.Joining.{EarlyFails, AppHeadFails, IsEarlyRead, IsRoleRead, ProgramFails, RoleFails, SaysRole, reason_in}
+use Rattle.scenario_reader.specs.Owning.{IsOwnOf, IsOwnRead, AppOwnFails}
 use Rattle.scenario_reader.specs.declared.application.Early.{Early}
 use Rattle.scenario_reader.proofs.Applying.{part_reason}
 use Rattle.scenario_reader.proofs.FirstReason.{Either, joined, same_reasons}
@@ -35,10 +35,10 @@ module _ (all : Members) (before : List Members) (ms : Members) where
         naming.none_there (λ (p : NamedPolicy). p.name) name d.policies e (subst (λ (ns : List (List ℕ)). Contains ns name) (sym same) h)) refl)))))
 
   module _ (w : RoleWord) (is_role : role_of ms ≡ Some w) (head : Option ScenarioReason) (role : Result Role ScenarioReason)
-      (own : Result (Option OwnSchema) ScenarioReason) (of_head : IsSoFar (HeadFails (policy_tables all) before (conn_of ms) (names_in ms)) head)
+      (own : Result (Option OwnSchema) ScenarioReason) (of_head : IsSoFar (AppHeadFails (policy_tables all) before (conn_of ms) (names_in ms)) head)
       (of_role : IsRoleRead w (number_in heap ms) (program_of ms) role) (of_own : IsOwnRead all ms own) where
     abbrev Head : ScenarioReason → Type 0
-    Head = HeadFails (policy_tables all) before (conn_of ms) (names_in ms)
+    Head = AppHeadFails (policy_tables all) before (conn_of ms) (names_in ms)
 
     abbrev Program : ScenarioReason → Type 0
     Program = ProgramFails w (number_in heap ms) (program_of ms)
@@ -53,9 +53,9 @@ module _ (all : Members) (before : List Members) (ms : Members) where
 
     pub early_first : IsSoFar (EarlyFails all before ms) (earlier (earlier head (reason_in role)) (reason_in own))
     early_first =
-        joined (Either Head (RoleFails ms)) (OwnFails all ms) (earlier head (reason_in role)) (reason_in own)
+        joined (Either Head (RoleFails ms)) (AppOwnFails all ms) (earlier head (reason_in role)) (reason_in own)
         (joined Head (RoleFails ms) head (reason_in role) of_head role_reason)
-        (part_reason (OwnFails all ms) (IsOwnOf all ms) own of_own)
+        (part_reason (AppOwnFails all ms) (IsOwnOf all ms) own of_own)
 
     pub early_is : (r : Result Early ScenarioReason)
         → MatchResult r (λ e. (head ≡ None) × (role ≡ Ok e.role) × (own ≡ Ok e.own))

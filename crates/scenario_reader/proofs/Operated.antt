@@ -27,7 +27,7 @@ use Rattle.scenario_entries.specs.Entries.{IsEntryRead}
 use Rattle.scenario_entries.specs.declared.chain.Chain.{Chain}
 use Rattle.scenario_entries.specs.declared.chain.ChainEntry.{ChainEntry}
 use Rattle.scenario_reader.specs.Joining.{IsApp, IsBegun}
-use Rattle.scenario_reader.specs.Operating.{HeadFails, IsOperatorOf, OwnFails, in_lines, no_policy}
+use Rattle.scenario_reader.specs.Operating.{OperatorHeadFails, IsOperatorOf, OperatorOwnFails, in_lines, no_policy}
 use Rattle.scenario_reader.specs.Stepping.{SomeTell}
 use Rattle.scenario_reader.proofs.FirstReason.{Either}
 use Rattle.scenario_reader.proofs.Judged.{step_refused, steps_taken}
@@ -94,9 +94,9 @@ module _ (laws : Laws) (words : stepping.Laws) (all : Members) (d : Declared) (t
     (distinct : AreDistinct (policy_names d)) (conns : AreDistinct (conns_of (app_tables all)))
     (keys : has_keys operator_keys ms ≡ true) (within : is_out ms conn ≡ false)
     (there : Contains (app_tables all) app) (on : conn_of app ≡ conn_of ms)
-    (head own : Option ScenarioReason) (of_head : IsSoFar (HeadFails all tables ms) head) (of_own : IsSoFar (OwnFails all app ms) own)
+    (head own : Option ScenarioReason) (of_head : IsSoFar (OperatorHeadFails all tables ms) head) (of_own : IsSoFar (OperatorOwnFails all app ms) own)
     (none : earlier head own ≡ None) (told : List StepText) (tell : SomeTell (steps_of ms) told) where
-  nothing_named : (q : ScenarioReason) → Either (HeadFails all tables ms) (OwnFails all app ms) q → ⊥
+  nothing_named : (q : ScenarioReason) → Either (OperatorHeadFails all tables ms) (OperatorOwnFails all app ms) q → ⊥
   nothing_named = none_named all tables ms d.policies keys within app there on conns head own of_head of_own none
 
   no_line : (line : List ℕ) (why : LineReason) → Contains (steps_of ms) line → StepAgainst line why → ⊥

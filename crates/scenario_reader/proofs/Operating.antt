@@ -23,7 +23,7 @@ use Rattle.scenario.specs.declared.fault.ScenarioReason.{ScenarioReason}
 use Rattle.scenario.specs.declared.fault.ScenarioReason.TheVariants.{Key, Known, Number, Unknown}
 use Rattle.scenario_lines.specs.Programs.{Each}
 use Rattle.scenario_values.specs.Values.{TheRange, has_keys, is_out}
-use Rattle.scenario_reader.specs.Operating.{HeadFails, OwnFails, StepFails, in_lines, is_known, is_operated, no_policy, too_many}
+use Rattle.scenario_reader.specs.Operating.{OperatorHeadFails, OperatorOwnFails, StepFails, in_lines, is_known, is_operated, no_policy, too_many}
 use Rattle.scenario_reader.specs.Owning.{AreStepNames}
 use Rattle.scenario_reader.specs.Stepping.{LinesAgainst}
 use Rattle.scenario_reader.proofs.Applying.{at_most, line_late, line_soon, refusal_late, rule_late, rule_soon}
@@ -90,13 +90,13 @@ module _ (all : Members) (tables : List Members) (ms : Members) where
   abbrev head_parts : ScenarioReason → Type 0
   head_parts = Either (Either (Either (LinesAgainst (steps_of ms)) (Flag Many Number)) (Flag IsThere Known)) (Flag Lacking Unknown)
 
-  head_from : (q : ScenarioReason) → head_parts q → HeadFails all tables ms q
+  head_from : (q : ScenarioReason) → head_parts q → OperatorHeadFails all tables ms q
   head_from q (inl (inl (inl h))) = in_lines h
   head_from q (inl (inl (inr (h, is)))) = too_many h is
   head_from q (inl (inr (h, is))) = is_known h is
   head_from q (inr (h, is)) = no_policy h.0 h.1 h.2 is
 
-  head_to : (q : ScenarioReason) → HeadFails all tables ms q → head_parts q
+  head_to : (q : ScenarioReason) → OperatorHeadFails all tables ms q → head_parts q
   head_to q (in_lines h) = inl (inl (inl h))
   head_to q (too_many h is) = inl (inl (inr (h, is)))
   head_to q (is_known h is) = inl (inr (h, is))
@@ -105,14 +105,14 @@ module _ (all : Members) (tables : List Members) (ms : Members) where
   pub head_is : (d : Declared) (operators : List Operator) (names : List (Bor (List ℕ))) (lines : ℕ) (first : Option ScenarioReason)
       → policy_names d ≡ names_of (policy_tables all) → Each (OperatorSays all) tables operators → lines ≡ length (steps_of ms)
       → IsSoFar (LinesAgainst (steps_of ms)) first → AreStepNames ms (map (λ n. n.now) names)
-      → IsSoFar (HeadFails all tables ms) (earlier
+      → IsSoFar (OperatorHeadFails all tables ms) (earlier
       (earlier (earlier first (reason_if (nat_lt MAX_STEPS lines) Number)) (reason_if (is_operated operators (conn_of ms)) Known))
       (reason_if (list_any (λ n. is_none (policy_place d n.now)) names) Unknown))
   head_is d operators names lines first same says long so_far named =
       let many = reason_if (nat_lt MAX_STEPS lines) Number in
       let there = reason_if (is_operated operators (conn_of ms)) Known in
       let lack = reason_if (list_any (λ n. is_none (policy_place d n.now)) names) Unknown in
-      same_reasons head_parts (HeadFails all tables ms) (earlier (earlier (earlier first many) there) lack)
+      same_reasons head_parts (OperatorHeadFails all tables ms) (earlier (earlier (earlier first many) there) lack)
       (joined (Either (Either (LinesAgainst (steps_of ms)) (Flag Many Number)) (Flag IsThere Known)) (Flag Lacking Unknown)
       (earlier (earlier first many) there) lack
       (joined (Either (LinesAgainst (steps_of ms)) (Flag Many Number)) (Flag IsThere Known) (earlier first many) there
@@ -127,28 +127,28 @@ module _ (all : Members) (tables : List Members) (ms : Members) where
       )))
       head_from head_to
 
-  head_late : (q : ScenarioReason) → HeadFails all tables ms q → 2 ≤ order_of q
+  head_late : (q : ScenarioReason) → OperatorHeadFails all tables ms q → 2 ≤ order_of q
   head_late q (in_lines (inl (line, why, there, fails, is))) = at_least q (of_line why) 2 is (line_late why)
   head_late q (in_lines (inr (falls, is))) = at_least q Number 2 is (omega arith)
   head_late q (too_many h is) = at_least q Number 2 is (omega arith)
   head_late q (is_known h is) = at_least q Known 2 is (omega arith)
   head_late q (no_policy name named none is) = at_least q Unknown 2 is (omega arith)
 
-  head_soon : (q : ScenarioReason) → HeadFails all tables ms q → order_of q ≤ 10
+  head_soon : (q : ScenarioReason) → OperatorHeadFails all tables ms q → order_of q ≤ 10
   head_soon q (in_lines (inl (line, why, there, fails, is))) = at_most q (of_line why) 10 is (line_soon why)
   head_soon q (in_lines (inr (falls, is))) = at_most q Number 10 is (omega arith)
   head_soon q (too_many h is) = at_most q Number 10 is (omega arith)
   head_soon q (is_known h is) = at_most q Known 10 is (omega arith)
   head_soon q (no_policy name named none is) = at_most q Unknown 10 is (omega arith)
 
-  own_soon : (app : Members) (q : ScenarioReason) → OwnFails all app ms q → order_of q ≤ 10
+  own_soon : (app : Members) (q : ScenarioReason) → OperatorOwnFails all app ms q → order_of q ≤ 10
   own_soon app q (why, fails, is) = at_most q (of_rule why) 10 is (rule_soon why)
 
   module _ (declared : List NamedPolicy) where
     abbrev Against : ScenarioReason → Type 0
     Against = OperatorAgainst all declared tables ms
 
-    head_against : (q : ScenarioReason) → HeadFails all tables ms q → Against q
+    head_against : (q : ScenarioReason) → OperatorHeadFails all tables ms q → Against q
     head_against q (in_lines (inl (line, why, there, fails, is))) = against.in_line line why there fails is
     head_against q (in_lines (inr (falls, is))) = against.falls falls is
     head_against q (too_many h is) = against.too_many h is
@@ -209,7 +209,7 @@ module _ (all : Members) (tables : List Members) (ms : Members) where
             | inr more ↦ there_more (conn_of a) (conns_of apps) (conn_of ms) (go apps more)
           ]
 
-        alone_to : (Contains (conns_of (app_tables all)) (conn_of ms) → ⊥) → (q : ScenarioReason) → Against q → HeadFails all tables ms q ⊎ NoApp q
+        alone_to : (Contains (conns_of (app_tables all)) (conn_of ms) → ⊥) → (q : ScenarioReason) → Against q → OperatorHeadFails all tables ms q ⊎ NoApp q
         alone_to none q (against.wrong_keys h is) = absurd (both_ways (has_keys operator_keys ms) h keys)
         alone_to none q (against.out_of_range r there h is) = absurd (no_range r there h)
         alone_to none q (against.in_line line why there fails is) = inl (in_lines (inl (line, why, there, fails, is)))
@@ -222,10 +222,10 @@ module _ (all : Members) (tables : List Members) (ms : Members) where
         alone_to none q (against.is_refused app attached ops start r there on are begun steps refused is) = absurd (none (app_there app there on))
 
         pub no_app_is : (Contains (conns_of (app_tables all)) (conn_of ms) → ⊥) → (first : Option ScenarioReason)
-            → IsSoFar (HeadFails all tables ms) first → IsSoFar Against (earlier first (Some Unknown))
+            → IsSoFar (OperatorHeadFails all tables ms) first → IsSoFar Against (earlier first (Some Unknown))
         no_app_is none first so_far =
-            same_reasons (Either (HeadFails all tables ms) NoApp) Against (earlier first (Some Unknown))
-            (joined (HeadFails all tables ms) NoApp first (Some Unknown) so_far
+            same_reasons (Either (OperatorHeadFails all tables ms) NoApp) Against (earlier first (Some Unknown))
+            (joined (OperatorHeadFails all tables ms) NoApp first (Some Unknown) so_far
             (record { stands = (none, refl); first = λ q h. (let e = ap order_of h.1 in omega (arith, e)) }))
             (λ q h. elim h [ inl head ↦ head_against q head | inr gone ↦ against.no_app gone.0 gone.1 ])
             (alone_to none)
@@ -235,7 +235,7 @@ module _ (all : Members) (tables : List Members) (ms : Members) where
         module _ (app : Members) (there : Contains (app_tables all) app) (on : conn_of app ≡ conn_of ms)
             (distinct : AreDistinct (conns_of (app_tables all))) where
           abbrev Named : ScenarioReason → Type 0
-          Named = Either (HeadFails all tables ms) (OwnFails all app ms)
+          Named = Either (OperatorHeadFails all tables ms) (OperatorOwnFails all app ms)
 
           abbrev Refused : ScenarioReason → Type 0
           Refused = StepFails all declared app ms
@@ -253,7 +253,7 @@ module _ (all : Members) (tables : List Members) (ms : Members) where
           split q (against.no_app h is) = absurd (h (app_there app there on))
           split q (against.no_policy name named none is) = inl (inl (no_policy name named none is))
           split q (against.in_policy a why a_there a_on fails is) =
-              inl (inr (subst (λ (x : Members). OwnFails all x ms q) (is_app a a_there a_on) (why, fails, is)))
+              inl (inr (subst (λ (x : Members). OperatorOwnFails all x ms q) (is_app a a_there a_on) (why, fails, is)))
           split q (against.is_refused a attached ops start r a_there a_on are begun steps refused is) =
               inr (subst (λ (x : Members). StepFails all declared x ms q) (is_app a a_there a_on) (record {
                 attached = attached;
@@ -279,11 +279,11 @@ module _ (all : Members) (tables : List Members) (ms : Members) where
           named_soon q (inl head) = head_soon q head
           named_soon q (inr own) = own_soon app q own
 
-          pub named_first : (head own : Option ScenarioReason) (q : ScenarioReason) → IsSoFar (HeadFails all tables ms) head
-              → IsSoFar (OwnFails all app ms) own → earlier head own ≡ Some q → IsFirstReason Against q
+          pub named_first : (head own : Option ScenarioReason) (q : ScenarioReason) → IsSoFar (OperatorHeadFails all tables ms) head
+              → IsSoFar (OperatorOwnFails all app ms) own → earlier head own ≡ Some q → IsFirstReason Against q
           named_first head own q h o e =
               let first : IsFirstReason Named q =
-              subst (λ (x : Option ScenarioReason). IsSoFar Named x) e (joined (HeadFails all tables ms) (OwnFails all app ms) head own h o) in
+              subst (λ (x : Option ScenarioReason). IsSoFar Named x) e (joined (OperatorHeadFails all tables ms) (OperatorOwnFails all app ms) head own h o) in
               record {
                 stands = named_against q first.stands;
                 first = λ r a. elim (split r a) [
@@ -293,11 +293,11 @@ module _ (all : Members) (tables : List Members) (ms : Members) where
                 ];
               }
 
-          pub none_named : (head own : Option ScenarioReason) → IsSoFar (HeadFails all tables ms) head → IsSoFar (OwnFails all app ms) own
+          pub none_named : (head own : Option ScenarioReason) → IsSoFar (OperatorHeadFails all tables ms) head → IsSoFar (OperatorOwnFails all app ms) own
               → earlier head own ≡ None → (q : ScenarioReason) → Named q → ⊥
           none_named head own h o e =
               let none : IsSoFar Named None =
-              subst (λ (x : Option ScenarioReason). IsSoFar Named x) e (joined (HeadFails all tables ms) (OwnFails all app ms) head own h o) in none
+              subst (λ (x : Option ScenarioReason). IsSoFar Named x) e (joined (OperatorHeadFails all tables ms) (OperatorOwnFails all app ms) head own h o) in none
 
           pub step_first : ((q : ScenarioReason) → Named q → ⊥) → (q : ScenarioReason) → Refused q
               → ((r : ScenarioReason) → Refused r → r ≡ q) → IsFirstReason Against q

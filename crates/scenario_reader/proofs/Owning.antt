@@ -15,7 +15,7 @@ use Rattle.scenario.specs.declared.fault.ScenarioReason.TheVariants.{Schema}
 use Rattle.scenario_values.specs.Values.{text_at}
 use Rattle.scenario_policies.specs.Owning.{AreOwn, NamedFails}
 use Rattle.scenario_reader.specs.Above.{IsPart}
-use Rattle.scenario_reader.specs.Owning.{IsOwn, IsOwnOf, IsUsedIn, OwnFails}
+use Rattle.scenario_reader.specs.Owning.{IsOwn, IsOwnOf, IsUsedIn, AppOwnFails}
 
 pub fails_map : (all app : Members) (P Q : List ℕ → Type 0) → ((n : List ℕ) → P n → Q n) → (q : ScenarioReason) → NamedFails all app P q
     → NamedFails all app Q q
@@ -35,9 +35,9 @@ fails_map all app P Q f q (why, h, is) = (
 )
 
 module _ (all ms : Members) where
-  pub own_none : text_at (codes "schema") ms ≡ None → IsPart (OwnFails all ms) (IsOwnOf all ms) (Ok None)
+  pub own_none : text_at (codes "schema") ms ≡ None → IsPart (AppOwnFails all ms) (IsOwnOf all ms) (Ok None)
   own_none none = (by, none) where
-    by : (q : ScenarioReason) → OwnFails all ms q → ⊥
+    by : (q : ScenarioReason) → AppOwnFails all ms q → ⊥
     by q (inl h) = absurd (let gone : None ≡ Some h.text = sym none ∙ h.there in cc)
     by q (inr (why, h, is)) = absurd (let gone : None ≡ Some h.text = sym none ∙ h.own in cc)
 
@@ -45,7 +45,7 @@ module _ (all ms : Members) where
     same_text : (other : List ℕ) → text_at (codes "schema") ms ≡ Some other → other ≡ text
     same_text other h = same_Some other text (sym h ∙ there)
 
-    pub own_without : ((T : Table) → HasTable text T → ⊥) → IsFirstReason (OwnFails all ms) Schema
+    pub own_without : ((T : Table) → HasTable text T → ⊥) → IsFirstReason (AppOwnFails all ms) Schema
     own_without none = record {
       stands = inl (record { text = text; there = there; none = none; is = refl });
       first = λ q h. elim h [
@@ -55,7 +55,7 @@ module _ (all ms : Members) where
     }
 
     module _ (T : Table) (has : HasTable text T) where
-      pub own_first : (q : ScenarioReason) → IsFirstReason (NamedFails all ms (Contains (names_in ms))) q → IsFirstReason (OwnFails all ms) q
+      pub own_first : (q : ScenarioReason) → IsFirstReason (NamedFails all ms (Contains (names_in ms))) q → IsFirstReason (AppOwnFails all ms) q
       own_first q first = record {
         stands = inr first.stands;
         first = λ other h. elim h [
@@ -64,7 +64,7 @@ module _ (all ms : Members) where
         ];
       }
 
-      pub own_free : ((q : ScenarioReason) → NamedFails all ms (Contains (names_in ms)) q → ⊥) → (q : ScenarioReason) → OwnFails all ms q → ⊥
+      pub own_free : ((q : ScenarioReason) → NamedFails all ms (Contains (names_in ms)) q → ⊥) → (q : ScenarioReason) → AppOwnFails all ms q → ⊥
       own_free none q (inl gone) = gone.none T (subst (λ (t : List ℕ). HasTable t T) (sym (same_text gone.text gone.there)) has)
       own_free none q (inr fails) = none q fails
 

@@ -13,7 +13,7 @@ use Rattle.scenario.specs.Reasons.{IsFirstReason, IsSoFar}
 use Rattle.scenario.specs.declared.fault.ScenarioReason.{ScenarioReason}
 use Rattle.scenario_policies.specs.Owning.{AreOwn, NamedFails}
 use Rattle.scenario_reader.specs.Joining.{IsApp}
-use Rattle.scenario_reader.specs.Operating.{OwnFails}
+use Rattle.scenario_reader.specs.Operating.{OperatorOwnFails}
 use Rattle.scenario_reader.specs.Owning.{AreStepNames, IsOwn, IsOwnOf}
 use Rattle.scenario_reader.proofs.Owning.{fails_map}
 
@@ -27,7 +27,7 @@ module _ (all ams : Members) where
   app_own d app is own some = subst (IsOwnOf all ams) some (its_own d app is)
 
   module _ (ms : Members) where
-    pub no_own_reason : (d : Declared) (app : Application) → IsApp all d ams app → app.own ≡ None → (q : ScenarioReason) → OwnFails all ams ms q → ⊥
+    pub no_own_reason : (d : Declared) (app : Application) → IsApp all d ams app → app.own ≡ None → (q : ScenarioReason) → OperatorOwnFails all ams ms q → ⊥
     no_own_reason d app is none q (why, fails, same) =
         let no_text = subst (IsOwnOf all ams) none (its_own d app is) in
         absurd (let gone : None ≡ Some fails.text = sym no_text ∙ fails.own in cc)
@@ -35,7 +35,7 @@ module _ (all ams : Members) where
     module _ (own : Table) (names : List (List ℕ)) (named : AreStepNames ms names) where
       pub own_reasons : (r : Result (List OwnPolicy) ScenarioReason)
           → MatchResult r (λ policies. AreOwn all own names policies × ((q : ScenarioReason) → NamedFails all ams (Contains names) q → ⊥))
-          (IsFirstReason (NamedFails all ams (Contains names))) → IsSoFar (OwnFails all ams ms) (result_err r)
+          (IsFirstReason (NamedFails all ams (Contains names))) → IsSoFar (OperatorOwnFails all ams ms) (result_err r)
       own_reasons (Ok policies) h = λ q fails. h.1 q (fails_map all ams (NamesPolicy (steps_of ms)) (Contains names) (λ n k. (named n).1 k) q fails)
       own_reasons (Err q) first = record {
         stands = fails_map all ams (Contains names) (NamesPolicy (steps_of ms)) (λ n k. (named n).0 k) q first.stands;

@@ -34,7 +34,7 @@ use Rattle.scenario_entries.specs.Ports.{IsPortOf}
 use Rattle.scenario_entries.specs.declared.chain.ChainEntry.{ChainEntry}
 use Rattle.scenario_policies.specs.Owning.{NamesAgainst}
 use Rattle.scenario_reader.specs.Above.{IsPart}
-use Rattle.scenario_reader.specs.Owning.{IsOwnOf, OwnFails}
+use Rattle.scenario_reader.specs.Owning.{IsOwnOf, AppOwnFails}
 use Rattle.scenario_reader.specs.Walking.{IsWalkedTo}
 use Rattle.scenario_reader.specs.declared.above.Apps.{Apps}
 use Rattle.scenario_reader.specs.declared.above.JoinedApplication.{JoinedApplication}
@@ -66,15 +66,17 @@ IsRoleRead r words texts = IsPart (ProgramFails r words texts) (SaysRole r words
 
 -- ---- names and the connection
 
-abbrev pub HeadFails : List Members → List Members → ℕ → List (List ℕ) → ScenarioReason → Type 0
-HeadFails policies before conn names q = NamesAgainst policies names q ⊎ (Contains (conns_of before) conn × (q ≡ Known))
+-- a reason stands against the names of an application, or against its connection behind others
+abbrev pub AppHeadFails : List Members → List Members → ℕ → List (List ℕ) → ScenarioReason → Type 0
+AppHeadFails policies before conn names q =
+    NamesAgainst policies names q ⊎ (Contains (conns_of before) conn × (q ≡ Known))
 
 abbrev pub RoleFails : Members → ScenarioReason → Type 0
 RoleFails ms q = (r : RoleWord) × (role_of ms ≡ Some r) × ProgramFails r (number_in heap ms) (program_of ms) q
 
 abbrev pub EarlyFails : Members → List Members → Members → ScenarioReason → Type 0
 EarlyFails all before ms q =
-    (HeadFails (policy_tables all) before (conn_of ms) (names_in ms) q ⊎ RoleFails ms q) ⊎ OwnFails all ms q
+    (AppHeadFails (policy_tables all) before (conn_of ms) (names_in ms) q ⊎ RoleFails ms q) ⊎ AppOwnFails all ms q
 
 -- nothing of these stands
 abbrev pub NotEarly : Members → List Members → Members → Type 0

@@ -27,16 +27,16 @@ abbrev pub is_operated : List Operator → ℕ → Bool
 is_operated operators conn = list_any (λ o. o.conn == conn) operators
 
 -- a reason stands against the lines, the connection or the named policies of an operator
-pub data HeadFails (all : Members) (before : List Members) (ms : Members) (q : ScenarioReason) : Type 0 where
-  in_lines : LinesAgainst (steps_of ms) q → HeadFails all before ms q
-  too_many : MAX_STEPS < length (steps_of ms) → q ≡ Number → HeadFails all before ms q
-  is_known : Contains (conns_of before) (conn_of ms) → q ≡ Known → HeadFails all before ms q
+pub data OperatorHeadFails (all : Members) (before : List Members) (ms : Members) (q : ScenarioReason) : Type 0 where
+  in_lines : LinesAgainst (steps_of ms) q → OperatorHeadFails all before ms q
+  too_many : MAX_STEPS < length (steps_of ms) → q ≡ Number → OperatorHeadFails all before ms q
+  is_known : Contains (conns_of before) (conn_of ms) → q ≡ Known → OperatorHeadFails all before ms q
   no_policy : (name : List ℕ) → NamesPolicy (steps_of ms) name → (Contains (names_of (policy_tables all)) name → ⊥) → q ≡ Unknown
-      → HeadFails all before ms q
+      → OperatorHeadFails all before ms q
 
 -- the policies that it names fail under the schema of an application
-abbrev pub OwnFails : Members → Members → Members → ScenarioReason → Type 0
-OwnFails all app ms q = NamedFails all app (NamesPolicy (steps_of ms)) q
+abbrev pub OperatorOwnFails : Members → Members → Members → ScenarioReason → Type 0
+OperatorOwnFails all app ms q = NamedFails all app (NamesPolicy (steps_of ms)) q
 
 -- the chain of an application refuses one of its steps
 pub record StepFails (all : Members) (declared : List NamedPolicy) (app ms : Members) (q : ScenarioReason) : Type 0 where

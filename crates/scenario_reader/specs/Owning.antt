@@ -32,8 +32,9 @@ pub record HasNoTable (ms : Members) (q : ScenarioReason) : Type 0 where
   pub none : (T : Table) → HasTable text T → ⊥
   pub is : q ≡ Schema
 
-abbrev pub OwnFails : Members → Members → ScenarioReason → Type 0
-OwnFails all ms q = HasNoTable ms q ⊎ NamedFails all ms (Contains (names_in ms)) q
+-- a reason stands against the own schema of an application: it has no table, or a policy that is named fails under it
+abbrev pub AppOwnFails : Members → Members → ScenarioReason → Type 0
+AppOwnFails all ms q = HasNoTable ms q ⊎ NamedFails all ms (Contains (names_in ms)) q
 
 -- the own schema, whose policies are those that are used, where none of them fails under it
 pub record IsOwn (all ms : Members) (own : OwnSchema) : Type 0 where
@@ -48,7 +49,7 @@ IsOwnOf all ms None = text_at (codes "schema") ms ≡ None
 IsOwnOf all ms (Some own) = IsOwn all ms own
 
 abbrev pub IsOwnRead : Members → Members → Result (Option OwnSchema) ScenarioReason → Type 0
-IsOwnRead all ms = IsPart (OwnFails all ms) (IsOwnOf all ms)
+IsOwnRead all ms = IsPart (AppOwnFails all ms) (IsOwnOf all ms)
 
 -- the own schema of this table with the policies, or the first reason against it
 abbrev pub IsOwnUnder : Members → Members → Table → Result (List OwnPolicy) ScenarioReason → Type 0

@@ -15,9 +15,9 @@ ghost use Rattle.scenario.specs.Reasons.{IsSoFar, earlier};
 ghost use Rattle.scenario.specs.declared.fault.Entry.TheVariants as place;
 ghost use Rattle.scenario_lines.specs.Programs.{Each};
 ghost use Rattle.scenario_entries.specs.Entries.{AreFree, IsEntryRead, IsFaultIn, views};
-ghost use Rattle.scenario_entries.specs.Ports.{IsPortOf, has_port};
+ghost use Rattle.scenario_entries.specs.Ports.{IsPortOf};
 ghost use Rattle.scenario_reader.specs.Above.{IsAbove};
-ghost use Rattle.scenario_reader.specs.Joining.{AreJoined, HeadFails, IsDraft, IsEarlyRead, IsJoined, IsLateRead, IsRoleRead, NotEarly, is_on_end, judges_otherwise, reason_in};
+ghost use Rattle.scenario_reader.specs.Joining.{AreJoined, AppHeadFails, IsDraft, IsEarlyRead, IsJoined, IsLateRead, IsRoleRead, NotEarly, is_on_end, judges_otherwise, reason_in};
 ghost use Rattle.scenario_reader.specs.Owning.{HasValidOwn, IsValidOwn};
 
 use crate::above::{Above, Apps, JoinedApplication};
@@ -32,7 +32,7 @@ use scenario::keys::{conn, has_app_keys, heap, receive, ring, role_of, weight};
 use scenario::{
     Entry, RoleWord, ScenarioFault, ScenarioReason, earlier, earliest, of_line, reason_if,
 };
-use scenario_entries::{Chain, Port, read_program, submissions};
+use scenario_entries::{Chain, Port, has_port, read_program, submissions};
 use scenario_lines::ProgramRole;
 use scenario_policies::{names_reason, same_names};
 use scenario_values::{are_within, texts_at};
@@ -93,13 +93,6 @@ fn number_of(entry: &Table) -> u64
     conn().number(entry)
 }
 
-// Whether an application is on the connection.
-fn has_port(ports: &[Port], conn: u64) -> bool
-    ensures { result ≡ has_port ports.now conn }
-{
-    ports.iter().any(|port| port.conn == conn)
-}
-
 // The first reason against the connection of an application and the policies that it names.
 fn head_reason(
     declared: &Declarations,
@@ -108,7 +101,7 @@ fn head_reason(
     names: &[&[u8]],
 ) -> Option<ScenarioReason>
     ensures { (policies before : List Members) → policy_names declared.now ≡ names_of policies → Each IsPortOf before ports.now
-        → IsSoFar (HeadFails policies before conn (map (λ n. n.now) names.now)) result }
+        → IsSoFar (AppHeadFails policies before conn (map (λ n. n.now) names.now)) result }
 {
     let known = reason_if(has_port(ports, conn), ScenarioReason::Known);
     earlier(names_reason(declared, names), known)

@@ -19,7 +19,7 @@ ghost use Rattle.scenario_values.specs.Values.{has_keys, is_out};
 ghost use Rattle.scenario_entries.specs.Entries.{AreFree, IsEntryRead, IsFaultIn, views};
 ghost use Rattle.scenario_reader.specs.Above.{IsAbove};
 ghost use Rattle.scenario_reader.specs.Joining.{AreJoined, IsApp};
-ghost use Rattle.scenario_reader.specs.Operating.{HeadFails, IsOperatorOf, OwnFails, is_operated};
+ghost use Rattle.scenario_reader.specs.Operating.{OperatorHeadFails, IsOperatorOf, OperatorOwnFails, is_operated};
 ghost use Rattle.scenario_reader.specs.Owning.{AreStepNames, HasValidOwn};
 ghost use Rattle.scenario_reader.specs.Stepping.{HasTold};
 
@@ -63,7 +63,7 @@ fn head_reason(
     ensures { (all ms : Members) (tables : List Members) → policy_names declared.now ≡ names_of (policy_tables all)
         → Each (OperatorSays all) tables before.now → conn ≡ conn_of ms → lines ≡ length (steps_of ms)
         → HasTold (steps_of ms) steps.now.told.items steps.now.most steps.now.first
-        → AreStepNames ms (map (λ n. n.now) names.now) → IsSoFar (HeadFails all tables ms) result }
+        → AreStepNames ms (map (λ n. n.now) names.now) → IsSoFar (OperatorHeadFails all tables ms) result }
 {
     let counted = earlier(
         steps.first,
@@ -111,7 +111,7 @@ fn asked_in<'a>(
     ensures names { IfOk result (λ asked. AreStepNames (table_view entry.now) (map (λ n. n.now) asked.names.items)) }
     ensures head { (all : Members) (tables : List Members) → policy_names declared.now ≡ names_of (policy_tables all)
         → Each (OperatorSays all) tables before.now → conn ≡ conn_of (table_view entry.now)
-        → IfOk result (λ asked. IsSoFar (HeadFails all tables (table_view entry.now)) asked.head) }
+        → IfOk result (λ asked. IsSoFar (OperatorHeadFails all tables (table_view entry.now)) asked.head) }
 {
     let lines = texts_at(alloc, entry, "steps")?;
     let steps = read_steps(alloc, lines.as_slice())?;
@@ -146,7 +146,7 @@ fn own_reason(
     requires long { length above.policies.now ≡ length above.declared.now.policies }
     requires valid { HasValidOwn app.now }
     ensures { (all ams ms : Members) (T : TheTable) → IsAbove all T above.entry → IsApp all above.entry.declared.now ams app.now
-        → AreStepNames ms (map (λ n. n.now) names.now) → IfOk result (IsSoFar (OwnFails all ams ms)) }
+        → AreStepNames ms (map (λ n. n.now) names.now) → IfOk result (IsSoFar (OperatorOwnFails all ams ms)) }
 {
     match &app.own {
         None => Ok(None),

@@ -11,6 +11,6 @@ mod range;
 mod value;
 
 pub use key::{Key, Shape, has_keys};
-pub use lists::{tables_at, texts_at};
+pub use lists::{items_at, tables_at, texts_at};
 pub use range::{Range, are_within};
 pub use value::{flag_at, text_at, word_at};

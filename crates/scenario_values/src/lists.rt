@@ -10,8 +10,8 @@ use mrpc_table::Memory;
 use std::alloc::Global;
 use toml::{Table, Value};
 
-// The values of the list at a key; none where there is no list.
-fn items_at<'a>(table: &'a Table, key: &str) -> &'a [Value]
+/// The values of the list at a key; none where there is no list.
+pub fn items_at<'a>(table: &'a Table, key: &str) -> &'a [Value]
     ensures { map view result.now ≡ items_at key.now (table_view table.now) }
 {
     match at(table, key) {

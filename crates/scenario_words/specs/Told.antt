@@ -1,12 +1,8 @@
 -- What is told of a scenario's fault.
-use Rattle.std.specs.Prelude.{◌≡◌, ℕ, List, ◌++◌, codes}
+use Rattle.std.specs.Prelude.{ℕ, List, ◌++◌, codes}
 use Rattle.std.specs.Fmt.{decimal}
 use Rattle.scenario.specs.declared.fault.Entry.{Entry}
 use Rattle.scenario.specs.declared.fault.Entry.TheVariants as entry
-
--- what is said stands behind what was said before
-abbrev pub SaysOn : List ℕ → List ℕ → Type 0
-SaysOn before after = (more : List ℕ) × (after ≡ before ++ more)
 
 -- the key of the list that an entry stands in
 abbrev pub list_key : Entry → List ℕ

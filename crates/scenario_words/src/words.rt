@@ -1,15 +1,12 @@
 //! What sentences are put together of.
 
 ghost use Rattle.std.specs.Prelude.{◌≡◌, ◌⊎◌, Contains, map};
-ghost use Rattle.scenario_words.specs.Told.{SaysOn};
+ghost use Rattle.findings.specs.Said.{SaysOn};
 
-use findings::{Row, text_or};
+use findings::{NAMED, Row, text_or};
 use itoa::Buffer;
 use mrpc_table::{Bytes, Memory};
 use scenario::ScenarioReason;
-
-// How many bytes of a word are named, at the most.
-const NAMED: usize = 100;
 
 /// A part of a sentence.
 #[derive(Clone, Copy)]

@@ -22,7 +22,7 @@ const TOO_MANY: usize = 1 << 62;
 pub struct Places<'a> {
     files: Joined<'a>,
     numbering: Numbering<'a>,
-    /// Of each front, the number of its parts.
+    // Of each front, the number of its parts.
     depths: Vec<usize>,
     packages: Vec<Package<'a>>,
 }

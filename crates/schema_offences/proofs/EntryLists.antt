@@ -17,7 +17,7 @@ use Rattle.proto_file.specs.declared.joined.Home.{Home}
 use Rattle.proto_file.specs.declared.joined.Home.TheVariants as home
 use Rattle.schema_names.specs.Numbers.{scope_count}
 use Rattle.schema_offences.specs.Entries
-use Rattle.schema_offences.specs.Entries.{Entry, entry, entry_of, entries_of, HasNumber, OfMessage, OfEnum, OfService, OfFirst, OfSome, Adds, HaveNumbers, AreStarts}
+use Rattle.schema_offences.specs.Entries.{Entry, entry, entry_of, entries_of, HasNumber, OfMessage, OfEnum, OfService, EntryOfFirst, OfSome, Adds, HaveNumbers, AreStarts}
 use Rattle.schema_offences.specs.declared.names.Declared.{Declared}
 use Rattle.schema_offences.specs.declared.names.Starts.{Starts}
 
@@ -69,21 +69,21 @@ adds_then P Q R a b c p q to from = record {
   ];
 }
 
-pub adds_start : {X : Type 0} (xs : List X) (of : ℕ → X → Entry → Type 0) (a : List Entry) → Adds (OfFirst 0 xs of) a a
+pub adds_start : {X : Type 0} (xs : List X) (of : ℕ → X → Entry → Type 0) (a : List Entry) → Adds (EntryOfFirst 0 xs of) a a
 adds_start xs of a = record {
   one = λ e h. inl h;
   each = λ e h. elim h [ inl x ↦ x | inr x ↦ let l : x.place < 0 = x.below in absurd (omega arith) ];
 }
 
 first_to : {X : Type 0} (xs : List X) (of : ℕ → X → Entry → Type 0) (i : ℕ) (x : X) → slice_get xs i ≡ Some x
-    → (e : Entry) → (OfFirst i xs of e ⊎ of i x e) → OfFirst (i + 1) xs of e
+    → (e : Entry) → (EntryOfFirst i xs of e ⊎ of i x e) → EntryOfFirst (i + 1) xs of e
 first_to xs of i x at e (inl o) =
     let l : o.place < i = o.below in
     record { place = o.place; thing = o.thing; below = omega arith; at = o.at; is = o.is }
 first_to xs of i x at e (inr o) = record { place = i; thing = x; below = omega arith; at = at; is = o }
 
 first_from : {X : Type 0} (xs : List X) (of : ℕ → X → Entry → Type 0) (i : ℕ) (x : X) → slice_get xs i ≡ Some x
-    → (e : Entry) → OfFirst (i + 1) xs of e → OfFirst i xs of e ⊎ of i x e
+    → (e : Entry) → EntryOfFirst (i + 1) xs of e → EntryOfFirst i xs of e ⊎ of i x e
 first_from {X} xs of i x at e o =
     let l : o.place < i + 1 = o.below in
     elim (cases_lt o.place i) [
@@ -96,14 +96,14 @@ first_from {X} xs of i x at e o =
     ]
 
 pub adds_next : {X : Type 0} (xs : List X) (of : ℕ → X → Entry → Type 0) (i : ℕ) (x : X) (a b c : List Entry)
-    → slice_get xs i ≡ Some x → Adds (OfFirst i xs of) a b → Adds (of i x) b c → Adds (OfFirst (i + 1) xs of) a c
+    → slice_get xs i ≡ Some x → Adds (EntryOfFirst i xs of) a b → Adds (of i x) b c → Adds (EntryOfFirst (i + 1) xs of) a c
 adds_next xs of i x a b c at p q =
-    adds_then (OfFirst i xs of) (of i x) (OfFirst (i + 1) xs of) a b c p q
+    adds_then (EntryOfFirst i xs of) (of i x) (EntryOfFirst (i + 1) xs of) a b c p q
     (first_to xs of i x at) (first_from xs of i x at)
 
 pub adds_all : {X : Type 0} (xs : List X) (of : ℕ → X → Entry → Type 0) (i : ℕ) (a b : List Entry) → i ≡ length xs
-    → Adds (OfFirst i xs of) a b → Adds (OfSome xs of) a b
-adds_all xs of i a b e p = subst (λ (n : ℕ). Adds (OfFirst n xs of) a b) e p
+    → Adds (EntryOfFirst i xs of) a b → Adds (OfSome xs of) a b
+adds_all xs of i a b e p = subst (λ (n : ℕ). Adds (EntryOfFirst n xs of) a b) e p
 
 -- ---- names that are added
 

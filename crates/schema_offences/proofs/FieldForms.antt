@@ -19,7 +19,8 @@ use Rattle.schema_names.specs.declared.named.Named.TheVariants.{Message, Enum}
 use Rattle.schema_offences.specs.Types
 use Rattle.schema_offences.specs.Types.{IsScalar, IsNoScalar, HasType, HasForm, label_in, single_label}
 use Rattle.schema_offences.specs.Members
-use Rattle.schema_offences.specs.Members.{IsUnknown, IsMisplaced}
+use Rattle.schema_names.specs.Finding.{NamesNothing}
+use Rattle.schema_offences.specs.Members.{IsMisplaced}
 use Rattle.schema_offences.specs.Forms.{IsType, IsWordOf, IsForm, is_message, is_packable}
 use Rattle.schema_offences.specs.declared.types.TypeOf.{TypeOf}
 use Rattle.schema_offences.specs.declared.types.TypeOf.TheVariants.{Scalar, Named as OfName}
@@ -95,7 +96,7 @@ has_word F file scope w (OfName (Enum i)) is = record {
 
 pub no_type : (F : Joined) (file : ℕ) (scope : List (List ℕ)) (w : Word) (word : List ℕ) (m p : Bool)
     → IsNoScalar w.name
-    → IsUnknown F file scope w.name → HasType F file scope w word m p → ⊥
+    → NamesNothing F file scope w.name → HasType F file scope w word m p → ⊥
 no_type F file scope w word m p none unknown (Types.scalar k is) = none k is
 no_type F file scope w word m p none unknown (Types.message full s names) = unknown _ full names
 no_type F file scope w word m p none unknown (Types.enum full s names) = unknown _ full names
@@ -103,7 +104,7 @@ no_type F file scope w word m p none unknown (Types.enum full s names) = unknown
 -- ---- forms
 
 module _ (F : Joined) (file : ℕ) (scope : List (List ℕ)) (f : FieldDecl) where
-  pub no_single : (w : Word) → f.kind ≡ Named w → IsNoScalar w.name → IsUnknown F file scope w.name
+  pub no_single : (w : Word) → f.kind ≡ Named w → IsNoScalar w.name → NamesNothing F file scope w.name
       → (label : Label) (word : List ℕ) → HasForm F file scope f label word → ⊥
   no_single w e none unknown label word (Types.single x other m p k has) =
       let same : x ≡ w = cc in
@@ -112,7 +113,7 @@ module _ (F : Joined) (file : ℕ) (scope : List (List ℕ)) (f : FieldDecl) whe
   no_single w e none unknown label word (Types.a_map a b k other m p kind plain out scalar key has) = absurd cc
 
   pub no_value : (key value : Word) → f.kind ≡ Map key value → IsNoScalar value.name
-      → IsUnknown F file scope value.name → (label : Label) (word : List ℕ) → HasForm F file scope f label word → ⊥
+      → NamesNothing F file scope value.name → (label : Label) (word : List ℕ) → HasForm F file scope f label word → ⊥
   no_value key value e none unknown label word (Types.single x other m p k has) = absurd cc
   no_value key value e none unknown label word (Types.a_map a b k other m p kind plain out scalar is_key has) =
       let same : b ≡ value = cc in

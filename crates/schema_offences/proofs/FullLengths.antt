@@ -22,7 +22,8 @@ use Rattle.schema_names.specs.Scopes.{IsScope, text_of}
 use Rattle.schema_names.specs.Numbers
 use Rattle.schema_names.specs.Numbers.{StandsAt}
 use Rattle.schema_names.specs.declared.named.Named.TheVariants.{Message, Enum}
-use Rattle.schema_offences.specs.Lengths.{at_most_64_bits, front_length, KeepsLengths, full_length, IsKeptHome}
+use Rattle.mrpc_table.specs.Capped.{capped}
+use Rattle.schema_offences.specs.Lengths.{front_length, KeepsLengths, full_length, IsKeptHome}
 use Rattle.schema_offences.specs.declared.lines.Lengths.{Lengths}
 use Rattle.schema_offences.proofs.Formed.{stand_behind, message_file, enum_file}
 use Rattle.schema_offences.proofs.EntryLists.{mapped_get}
@@ -30,7 +31,7 @@ use Rattle.schema_offences.proofs.EntryLists.{mapped_get}
 -- ---- numbers
 
 -- a sum of a length that is cut off is cut off alike
-pub cut_sum : (a b c : ℕ) → a ≡ at_most_64_bits b → at_most_64_bits (a + c) ≡ at_most_64_bits (b + c)
+pub cut_sum : (a b c : ℕ) → a ≡ capped b → capped (a + c) ≡ capped (b + c)
 cut_sum a b c e = omega arith
 
 -- ---- texts
@@ -66,35 +67,35 @@ contains_at xs i x at = (i, slice_get_within xs i x at, get_or_from_slice_get xs
 
 -- the length that is kept of a package and its dot
 front_at : (F : Joined) (kept : Lengths) (k : ℕ)
-    → kept.fronts.items ≡ map (λ h. at_most_64_bits (front_length (package_parts h.package))) F.heads
+    → kept.fronts.items ≡ map (λ h. capped (front_length (package_parts h.package))) F.heads
     → k < length kept.fronts.items
-    → get_or kept.fronts.items k 0 ≡ at_most_64_bits (front_length (package_at F k))
+    → get_or kept.fronts.items k 0 ≡ capped (front_length (package_at F k))
 front_at F kept k fronts l =
     let none : Head = record { «package» = None; sees = [] } in
-    let f : Head → ℕ = λ h. at_most_64_bits (front_length (package_parts h.package)) in
+    let f : Head → ℕ = λ h. capped (front_length (package_parts h.package)) in
     let h = get_or F.heads k none in
     let here : k < length F.heads = omega (arith, ap length fronts, length-map F.heads f) in
     let at : slice_get F.heads k ≡ Some h = slice_get-get_or F.heads k none here in
     ap (λ (xs : List ℕ). get_or xs k 0) fronts
     ∙ get_or_from_slice_get (map f F.heads) k (f h) 0 (mapped_get f F.heads k h at)
-    ∙ ap (λ (o : Option Head). at_most_64_bits (front_length (package_in o))) (sym at)
+    ∙ ap (λ (o : Option Head). capped (front_length (package_in o))) (sym at)
 
 pub full_is : (F : Joined) (messages enums : ℕ) (kept : Lengths) (place : Home) (w : Word) {outer : List (List ℕ)}
     → KeepsLengths F messages enums kept → IsKeptHome kept place → IsScope F place outer
-    → full_length kept place w ≡ at_most_64_bits (length (text_of (outer ++ w.name ∷ [])))
+    → full_length kept place w ≡ capped (length (text_of (outer ++ w.name ∷ [])))
 full_is F messages enums kept (home.File file) w k here (Scopes.of_file f) =
     cut_sum (get_or kept.fronts.items file 0) (front_length (package_at F file)) (length w.name)
     (front_at F kept file k.fronts here)
-    ∙ ap at_most_64_bits (sym (text_length (package_at F file) w.name))
+    ∙ ap capped (sym (text_length (package_at F file) w.name))
 full_is F messages enums kept (home.Message i) w k here (Scopes.of_message place m {outer = outer} at up) =
     let full = outer ++ m.name.name ∷ [] in
     let below : i < messages = omega (arith, k.all_messages) in
-    let known : get_or kept.messages.items i 0 ≡ at_most_64_bits (length (text_of full)) =
+    let known : get_or kept.messages.items i 0 ≡ capped (length (text_of full)) =
     k.of_message i full m.name.span below (Numbers.message i m at up) in
     let front : front_length full ≡ length (text_of full) + 1 = last_front outer m.name.name in
     let whole : length (text_of (full ++ w.name ∷ [])) ≡ front_length full + length w.name = text_length full w.name in
-    let sum : at_most_64_bits (get_or kept.messages.items i 0 + (1 + length w.name))
-    ≡ at_most_64_bits (length (text_of full) + (1 + length w.name)) =
+    let sum : capped (get_or kept.messages.items i 0 + (1 + length w.name))
+    ≡ capped (length (text_of full) + (1 + length w.name)) =
     cut_sum (get_or kept.messages.items i 0) (length (text_of full)) (1 + length w.name) known in
     omega arith
 
@@ -103,7 +104,7 @@ full_is F messages enums kept (home.Message i) w k here (Scopes.of_message place
 module _ (F : Joined) (messages enums : ℕ) (kept : Lengths) (k : KeepsLengths F messages enums kept) where
   pub file_kept : (file : ℕ) → file < length F.heads → IsKeptHome kept (home.File file)
   file_kept file l =
-      let f : Head → ℕ = λ h. at_most_64_bits (front_length (package_parts h.package)) in
+      let f : Head → ℕ = λ h. capped (front_length (package_parts h.package)) in
       let same : length kept.fronts.items ≡ length F.heads = ap length k.fronts ∙ length-map F.heads f in
       omega arith
 
@@ -132,7 +133,7 @@ module _ (F : Joined) (messages enums : ℕ) (kept : Lengths) (k : KeepsLengths 
 -- ---- lengths that are kept
 
 pub keeps_none : (F : Joined) (kept : Lengths)
-    → kept.fronts.items ≡ map (λ h. at_most_64_bits (front_length (package_parts h.package))) F.heads
+    → kept.fronts.items ≡ map (λ h. capped (front_length (package_parts h.package))) F.heads
     → kept.messages.items ≡ [] → kept.enums.items ≡ [] → KeepsLengths F 0 0 kept
 keeps_none F kept fronts ms es = record {
   fronts = fronts;
@@ -149,7 +150,7 @@ module _ (F : Joined) (old new : Lengths) where
   message_added : (i : ℕ) (m : MessageDecl) → IsFormed F → KeepsLengths F i 0 old → slice_get F.messages i ≡ Some m
       → new.messages.items ≡ old.messages.items ++ full_length old (home_of m) m.name ∷ []
       → (j : ℕ) (full : List (List ℕ)) (s : Span) → j ≡ i → StandsAt F (Message j) full s
-      → get_or new.messages.items j 0 ≡ at_most_64_bits (length (text_of full))
+      → get_or new.messages.items j 0 ≡ capped (length (text_of full))
   message_added i m formed k at ms j full s e (Numbers.message j2 n {outer = outer} found up) =
       let here : slice_get F.messages i ≡ Some n = ap (λ (x : ℕ). slice_get F.messages x) (sym e) ∙ found in
       let same : m ≡ n = same_Some m n (sym at ∙ here) in
@@ -186,7 +187,7 @@ module _ (F : Joined) (old new : Lengths) where
       → slice_get F.enums i ≡ Some x
       → new.enums.items ≡ old.enums.items ++ full_length old (enum_home_of x) x.name ∷ []
       → (j : ℕ) (full : List (List ℕ)) (s : Span) → j ≡ i → StandsAt F (Enum j) full s
-      → get_or new.enums.items j 0 ≡ at_most_64_bits (length (text_of full))
+      → get_or new.enums.items j 0 ≡ capped (length (text_of full))
   enum_added i x formed k at es j full s e (Numbers.enum j2 y {outer = outer} found up) =
       let here : slice_get F.enums i ≡ Some y = ap (λ (z : ℕ). slice_get F.enums z) (sym e) ∙ found in
       let same : x ≡ y = same_Some x y (sym at ∙ here) in

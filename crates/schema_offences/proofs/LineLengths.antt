@@ -28,7 +28,8 @@ use Rattle.schema_offences.specs.Types.{value_of, label_in, HasForm}
 use Rattle.schema_offences.specs.Members.{IsNoMessage, IsFieldNumberOf}
 use Rattle.schema_offences.specs.Forms.{IsWordOf, IsForm}
 use Rattle.schema_offences.specs.Lengths
-use Rattle.schema_offences.specs.Lengths.{at_most_64_bits, AreLengths, full_length, IsKept, IsKeptHome, type_length, LineAt, IsLineOf, IsLengthAt, rpcs_before}
+use Rattle.mrpc_table.specs.Capped.{capped}
+use Rattle.schema_offences.specs.Lengths.{AreLengths, full_length, IsKept, IsKeptHome, type_length, LineAt, IsLineOf, IsLengthAt, rpcs_before}
 use Rattle.schema_offences.specs.declared.lines.Lengths.{Lengths}
 use Rattle.schema_offences.specs.declared.types.TypeOf.{TypeOf}
 use Rattle.schema_offences.specs.declared.types.TypeOf.TheVariants.{Scalar, Named as OfName}
@@ -71,30 +72,30 @@ six_words a b c d e f =
 
 -- ---- cut sums
 
-cut_one : (a b n : ℕ) → a ≡ at_most_64_bits b → min (a + n) (2 ^ 64 - 1) ≡ at_most_64_bits (b + n)
+cut_one : (a b n : ℕ) → a ≡ capped b → min (a + n) (2 ^ 64 - 1) ≡ capped (b + n)
 cut_one a b n e = omega arith
 
-cut_three : (front label word name l t r : ℕ) → l ≡ at_most_64_bits label → at_most_64_bits t ≡ at_most_64_bits word
-    → r ≡ at_most_64_bits (at_most_64_bits (at_most_64_bits (front + l) + t) + name)
-    → r ≡ at_most_64_bits (front + label + word + name)
+cut_three : (front label word name l t r : ℕ) → l ≡ capped label → capped t ≡ capped word
+    → r ≡ capped (capped (capped (front + l) + t) + name)
+    → r ≡ capped (front + label + word + name)
 cut_three front label word name l t r a b e = omega arith
 
-cut_four : (front full name input output l i o r : ℕ) → l ≡ at_most_64_bits full → i ≡ at_most_64_bits input
-    → o ≡ at_most_64_bits output
-    → r ≡ at_most_64_bits (at_most_64_bits (at_most_64_bits (at_most_64_bits (front + l) + name) + i) + o)
-    → r ≡ at_most_64_bits (front + full + name + input + output)
+cut_four : (front full name input output l i o r : ℕ) → l ≡ capped full → i ≡ capped input
+    → o ≡ capped output
+    → r ≡ capped (capped (capped (capped (front + l) + name) + i) + o)
+    → r ≡ capped (front + full + name + input + output)
 cut_four front full name input output l i o r a b d e = omega arith
 
 -- the sums as the code makes them
 pub sums_three : (d digits l t len n a b c : ℕ) → digits ≡ d → len ≡ n → a ≡ min ((10 + digits) + l) (2 ^ 64 - 1)
     → b ≡ min (a + t) (2 ^ 64 - 1) → c ≡ min (b + len) (2 ^ 64 - 1)
-    → c ≡ at_most_64_bits (at_most_64_bits (at_most_64_bits ((10 + d) + l) + t) + n)
+    → c ≡ capped (capped (capped ((10 + d) + l) + t) + n)
 sums_three d digits l t len n a b c p q x y z = cc
 
 pub sums_four : (d digits l len n i j a b c e : ℕ) → digits ≡ d → len ≡ n
     → a ≡ min ((12 + digits) + l) (2 ^ 64 - 1) → b ≡ min (a + len) (2 ^ 64 - 1) → c ≡ min (b + i) (2 ^ 64 - 1)
     → e ≡ min (c + j) (2 ^ 64 - 1)
-    → e ≡ at_most_64_bits (at_most_64_bits (at_most_64_bits (at_most_64_bits ((12 + d) + l) + n) + i) + j)
+    → e ≡ capped (capped (capped (capped ((12 + d) + l) + n) + i) + j)
 sums_four d digits l len n i j a b c e p q x y z w = cc
 
 -- ---- types
@@ -107,7 +108,7 @@ module _ (F : Joined) (kept : Lengths) (k : AreLengths F kept) where
   enum_within i full s (Numbers.enum j e at up) = slice_get_within F.enums j e at
 
   pub message_kept : (i : ℕ) (full : List (List ℕ)) (s : Span) → StandsAt F (Message i) full s
-      → get_or kept.messages.items i 0 ≡ at_most_64_bits (length (text_of full))
+      → get_or kept.messages.items i 0 ≡ capped (length (text_of full))
   message_kept i full s st = k.of_message i full s (message_within i full s st) st
 
   pub message_in : (i : ℕ) (full : List (List ℕ)) (s : Span) → StandsAt F (Message i) full s
@@ -120,25 +121,25 @@ module _ (F : Joined) (kept : Lengths) (k : AreLengths F kept) where
   is_kept (OfName (Enum i)) word is = omega (arith, enum_within i is.0 is.1 is.2, k.all_enums)
 
   word_length : (t : TypeOf) (word : List ℕ) → IsWordOf F t word
-      → at_most_64_bits (type_length kept t) ≡ at_most_64_bits (length word)
-  word_length (Scalar kind) word is = ap (λ (w : List ℕ). at_most_64_bits (length w)) (sym is)
+      → capped (type_length kept t) ≡ capped (length word)
+  word_length (Scalar kind) word is = ap (λ (w : List ℕ). capped (length w)) (sym is)
   word_length (OfName (Message i)) word is =
-      let known : get_or kept.messages.items i 0 ≡ at_most_64_bits (length (text_of is.0)) =
+      let known : get_or kept.messages.items i 0 ≡ capped (length (text_of is.0)) =
       message_kept i is.0 is.1 is.2 in
       omega (arith, ap length is.3)
   word_length (OfName (Enum i)) word is =
-      let known : get_or kept.enums.items i 0 ≡ at_most_64_bits (length (text_of is.0)) =
+      let known : get_or kept.enums.items i 0 ≡ capped (length (text_of is.0)) =
       k.of_enum i is.0 is.1 (enum_within i is.0 is.1 is.2) is.2 in
       omega (arith, ap length is.3)
 
   -- ---- lines
 
   pub message_line : (i : ℕ) (m : MessageDecl) (outer : List (List ℕ)) (n : ℕ) → slice_get F.messages i ≡ Some m
-      → IsScope F (home_of m) outer → n ≡ at_most_64_bits (get_or kept.messages.items i 0 + 9)
+      → IsScope F (home_of m) outer → n ≡ capped (get_or kept.messages.items i 0 + 9)
       → IsLineOf F (message_decl i) (m.name.span, n)
   message_line i m outer n at up e =
       let full = outer ++ m.name.name ∷ [] in
-      let known : get_or kept.messages.items i 0 ≡ at_most_64_bits (length (text_of full)) =
+      let known : get_or kept.messages.items i 0 ≡ capped (length (text_of full)) =
       message_kept i full m.name.span (Numbers.message i m at up) in
       let whole : length (line (codes "message" ∷ text_of full ∷ []))
       ≡ length (codes "message") + length (text_of full) + 2 =
@@ -150,11 +151,11 @@ module _ (F : Joined) (kept : Lengths) (k : AreLengths F kept) where
       }
 
   pub enum_line : (i : ℕ) (x : EnumDecl) (outer : List (List ℕ)) (n : ℕ) → slice_get F.enums i ≡ Some x
-      → IsScope F (enum_home_of x) outer → n ≡ at_most_64_bits (get_or kept.enums.items i 0 + 6)
+      → IsScope F (enum_home_of x) outer → n ≡ capped (get_or kept.enums.items i 0 + 6)
       → IsLineOf F (enum_decl i) (x.name.span, n)
   enum_line i x outer n at up e =
       let full = outer ++ x.name.name ∷ [] in
-      let known : get_or kept.enums.items i 0 ≡ at_most_64_bits (length (text_of full)) =
+      let known : get_or kept.enums.items i 0 ≡ capped (length (text_of full)) =
       k.of_enum i full x.name.span (slice_get_within F.enums i x at) (Numbers.enum i x at up) in
       let whole : length (line (codes "enum" ∷ text_of full ∷ [])) ≡ length (codes "enum") + length (text_of full) + 2 =
       two_words (codes "enum") (text_of full) in
@@ -167,14 +168,14 @@ module _ (F : Joined) (kept : Lengths) (k : AreLengths F kept) where
   pub field_line : (i j : ℕ) (m : MessageDecl) (f : FieldDecl) (scope : List (List ℕ)) (form : Form) (n l r : ℕ)
       → slice_get F.messages i ≡ Some m → slice_get m.fields j ≡ Some f → IsScope F (home.Message i) scope
       → IsForm F m.file scope f form → value_of f.number ≡ pos n → IsFieldNumber n
-      → l ≡ at_most_64_bits (length (label_text no_table (map (λ o. o.name) m.oneofs) (label_in form.oneof form.label)))
-      → r ≡ at_most_64_bits
-      (at_most_64_bits (at_most_64_bits ((10 + length (decimal n)) + l) + type_length kept form.type_of)
+      → l ≡ capped (length (label_text no_table (map (λ o. o.name) m.oneofs) (label_in form.oneof form.label)))
+      → r ≡ capped
+      (capped (capped ((10 + length (decimal n)) + l) + type_length kept form.type_of)
       + length f.name.name)
       → IsLineOf F (field_decl i j) (f.name.span, r)
   field_line i j m f scope form n l r at fat is has number inside label e =
       let text = label_text no_table (map (λ o. o.name) m.oneofs) (label_in form.oneof form.label) in
-      let sum : r ≡ at_most_64_bits ((10 + length (decimal n)) + length text + length has.word + length f.name.name) =
+      let sum : r ≡ capped ((10 + length (decimal n)) + length text + length has.word + length f.name.name) =
       cut_three (10 + length (decimal n)) (length text) (length has.word) (length f.name.name) l
       (type_length kept form.type_of) r label (word_length form.type_of has.word has.of_type) e in
       let whole : length (line (codes "field" ∷ decimal n ∷ text ∷ has.word ∷ f.name.name ∷ []))
@@ -192,14 +193,14 @@ module _ (F : Joined) (kept : Lengths) (k : AreLengths F kept) where
       → Names F x.file (package_at F x.file) r.input.name a_message input
       → Names F x.file (package_at F x.file) r.output.name a_message output
       → IsFirstAt F x.file (Message a) input → IsFirstAt F x.file (Message b) output
-      → v ≡ at_most_64_bits (at_most_64_bits
-      (at_most_64_bits (at_most_64_bits ((12 + length (decimal n)) + full_length kept (home.File x.file) x.name)
+      → v ≡ capped (capped
+      (capped (capped ((12 + length (decimal n)) + full_length kept (home.File x.file) x.name)
       + length r.name.name)
       + get_or kept.messages.items a 0) + get_or kept.messages.items b 0)
       → IsLineOf F (rpc_decl i j) (r.name.span, v)
   method_line i j n x r a b input output v at rat count there names_in names_out first_in first_out e =
       let full = text_of (package_at F x.file ++ x.name.name ∷ []) in
-      let sum : v ≡ at_most_64_bits ((12 + length (decimal n)) + length full + length r.name.name
+      let sum : v ≡ capped ((12 + length (decimal n)) + length full + length r.name.name
       + length (text_of input) + length (text_of output)) =
       cut_four (12 + length (decimal n)) (length full) (length r.name.name) (length (text_of input))
       (length (text_of output)) (full_length kept (home.File x.file) x.name) (get_or kept.messages.items a 0)
@@ -285,7 +286,7 @@ no_value_line F i j e v at vat none s text (Lengths.of_value a b x u xat uat fit
 pub value_at : (F : Joined) (i j : ℕ) (e : EnumDecl) (v : ValueDecl) (n : Option ℕ) → slice_get F.enums i ≡ Some e
     → slice_get e.values j ≡ Some v
     → MatchOption n (FitsSigned w32 (value_of v.number) → ⊥) (λ r. FitsSigned w32 (value_of v.number)
-    × (r ≡ at_most_64_bits (length (value_line (value_of v.number, v.name.name)))))
+    × (r ≡ capped (length (value_line (value_of v.number, v.name.name)))))
     → IsLengthAt F (value_decl i j) v.name.span n
 value_at F i j e v None at vat none = λ s text line. no_value_line F i j e v at vat none s text line
 value_at F i j e v (Some r) at vat p =

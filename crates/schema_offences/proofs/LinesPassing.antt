@@ -26,7 +26,8 @@ use Rattle.schema_offences.specs.Lines
 use Rattle.schema_offences.specs.Lines.{HasLine, PassesAt}
 use Rattle.schema_offences.specs.Meeting.{AtSome, OfElement, PassesIn}
 use Rattle.schema_offences.specs.Lengths
-use Rattle.schema_offences.specs.Lengths.{at_most_64_bits, LineAt, IsLineOf, AreApart, Covers, CoversAll, IsPast, IsBefore, class_of, place_of, part_of, rpcs_before}
+use Rattle.mrpc_table.specs.Capped.{capped}
+use Rattle.schema_offences.specs.Lengths.{LineAt, IsLineOf, AreApart, Covers, CoversAll, IsPast, IsBefore, class_of, place_of, part_of, rpcs_before}
 use Rattle.schema_offences.specs.declared.reason.ResolveReason.{ResolveReason}
 use Rattle.schema_offences.proofs.FullLengths.{contains_at}
 use Rattle.schema_offences.proofs.LongNames.{placed}
@@ -276,7 +277,7 @@ ascends_tail l (x ∷ ls) a = a.1
 
 -- a name with the length of a line, which is cut off
 abbrev cut : Span × List ℕ → Span × ℕ
-cut l = (l.0, at_most_64_bits (length l.1))
+cut l = (l.0, capped (length l.1))
 
 -- what stands behind the first name isn't the first
 behind_first : (x : Span × ℕ) (xs : List (Span × ℕ)) (y : Span × ℕ) → x.0.start < y.0.start → Contains (x ∷ xs) y
@@ -310,7 +311,7 @@ first_below x xs y r c =
 
 all_covered : (xs : List (Span × ℕ)) (ls : List (Span × List ℕ)) → Rise xs → Ascends (λ a b. a.0.start < b.0.start) ls
     → AreAmong ls xs
-    → at_most_64_bits (length (flat_map (λ (l : Span × List ℕ). l.1) ls)) ≤ sum_by (λ (x : Span × ℕ). x.1) xs
+    → capped (length (flat_map (λ (l : Span × List ℕ). l.1) ls)) ≤ sum_by (λ (x : Span × ℕ). x.1) xs
 all_covered xs [] r a among = omega arith
 all_covered [] (l ∷ ls) r a among = absurd (let c = among l (here l ls) in let k : c.0 < 0 = c.1 in omega arith)
 all_covered (x ∷ xs) (l ∷ ls) r a among =
@@ -318,7 +319,7 @@ all_covered (x ∷ xs) (l ∷ ls) r a among =
     elim (first_or_rest x xs (cut l) (among l (here l ls))) [
       | inl e ↦
           let start : x.0.start ≡ l.0.start = ap (λ (y : Span × ℕ). y.0.start) e in
-          let own : x.1 ≡ at_most_64_bits (length l.1) = ap (λ (y : Span × ℕ). y.1) e in
+          let own : x.1 ≡ capped (length l.1) = ap (λ (y : Span × ℕ). y.1) e in
           let rest = all_covered xs ls (rise_tail x xs r) (ascends_tail l ls a) (λ m c.
           let far : l.0.start < m.0.start = ascends_all l ls a m c in
           behind_first x xs (cut m) (omega arith) (among m (later l m ls c))) in
@@ -362,18 +363,18 @@ module _ (F : Joined) (lines ys : List (Span × ℕ)) (v : CoversAll F lines) (p
   have_lines : (n : ℕ) → HaveLines F (take n ys)
   have_lines n x c =
       let o = v.sound x (Contains-permutation ys lines x (IsPermutation-sym lines ys p) (in_front n x c)) in
-      let is : x.1 ≡ at_most_64_bits (length o.2.text) = o.2.is in
+      let is : x.1 ≡ capped (length o.2.text) = o.2.is in
       (o.2.text, has_line F o.0 x.0 o.2.text o.2.at, omega arith)
 
-  known : (s : Span) (text : List ℕ) → HasLine F s text → Contains ys (s, at_most_64_bits (length text))
+  known : (s : Span) (text : List ℕ) → HasLine F s text → Contains ys (s, capped (length text))
   known s text has =
       let d = line_at F s text has in
       let o = v.whole d.0 s text (every_before F d.0 s text d.1) d.1 in
       let x = o.0 in
       let same = one d.0 x.0 s o.2.text text o.2.at d.1 in
-      let length_is : x.1 ≡ at_most_64_bits (length text) =
-      o.2.is ∙ ap (λ (t : List ℕ). at_most_64_bits (length t)) same.1 in
-      subst (λ (t : Span). Contains ys (t, at_most_64_bits (length text))) same.0
+      let length_is : x.1 ≡ capped (length text) =
+      o.2.is ∙ ap (λ (t : List ℕ). capped (length t)) same.1 in
+      subst (λ (t : Span). Contains ys (t, capped (length text))) same.0
       (subst (λ (n : ℕ). Contains ys (x.0, n)) length_is (Contains-permutation lines ys x p o.1))
 
   pub text_to : (q : ResolveReason) (s : Span) → AtSome (OfElement ys (IsPast ys)) q s → PassesIn F q s
@@ -412,7 +413,7 @@ module _ (F : Joined) (lines ys : List (Span × ℕ)) (v : CoversAll F lines) (p
       let passes = k.1 in
       let line_of : (l : Span × List ℕ) → Contains passes.lines l → HasLine F l.0 l.1 =
       λ l c. All-contains (λ (m : Span × List ℕ). HasLine F m.0 m.1) passes.lines l passes.are c in
-      let x : Span × ℕ = (span, at_most_64_bits (length passes.own)) in
+      let x : Span × ℕ = (span, capped (length passes.own)) in
       let there : Contains ys x = known span passes.own (line_of (span, passes.own) passes.last) in
       let i = there.0 in
       let l : i < length ys = there.1 in
@@ -432,7 +433,7 @@ module _ (F : Joined) (lines ys : List (Span × ℕ)) (v : CoversAll F lines) (p
         | inr near ↦ near
       ] in
       (in_all.0, omega arith, get_or-take n ys in_all.0 (cut y) (omega arith) ∙ in_all.2) in
-      let covered : at_most_64_bits (length (flat_map (λ (z : Span × List ℕ). z.1) passes.lines))
+      let covered : capped (length (flat_map (λ (z : Span × List ℕ). z.1) passes.lines))
       ≤ sum_by (λ (z : Span × ℕ). z.1) (take n ys) =
       all_covered (take n ys) passes.lines (rise_take n ys risen) passes.ascend among in
       record {

@@ -19,7 +19,8 @@ use Rattle.schema_offences.specs.Offences
 use Rattle.schema_offences.specs.Offences.{IsLongInFull}
 use Rattle.schema_offences.specs.Members.{Is}
 use Rattle.schema_offences.specs.Meeting.{AtSome, OfElement, LongIn}
-use Rattle.schema_offences.specs.Lengths.{at_most_64_bits, AreLengths, full_length, IsKeptHome, IsLongName}
+use Rattle.mrpc_table.specs.Capped.{capped}
+use Rattle.schema_offences.specs.Lengths.{AreLengths, full_length, IsKeptHome, IsLongName}
 use Rattle.schema_offences.specs.declared.reason.ResolveReason.{ResolveReason}
 use Rattle.schema_offences.specs.declared.reason.ResolveReason.TheVariants.{Limit}
 use Rattle.schema_offences.specs.declared.lines.Lengths.{Lengths}
@@ -29,10 +30,10 @@ use Rattle.schema_offences.proofs.FullLengths.{full_is, contains_at, file_kept, 
 pub placed : {X : Type 0} (xs : List X) (x : X) → Contains xs x → (i : ℕ) × (slice_get xs i ≡ Some x)
 placed xs x c = (c.0, slice_get_read xs (length xs) c.0 x refl c.1 (sym c.2))
 
-long_cut : (n m : ℕ) → m ≡ at_most_64_bits n → MAX_FULL_NAME < m → MAX_FULL_NAME < n
+long_cut : (n m : ℕ) → m ≡ capped n → MAX_FULL_NAME < m → MAX_FULL_NAME < n
 long_cut n m e l = omega arith
 
-long_whole : (n m : ℕ) → m ≡ at_most_64_bits n → MAX_FULL_NAME < n → MAX_FULL_NAME < m
+long_whole : (n m : ℕ) → m ≡ capped n → MAX_FULL_NAME < n → MAX_FULL_NAME < m
 long_whole n m e l = omega arith
 
 module _ (F : Joined) (kept : Lengths) (formed : IsFormed F) (k : AreLengths F kept)

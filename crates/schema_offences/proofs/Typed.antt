@@ -12,7 +12,8 @@ use Rattle.proto_file.specs.Joined.{Joined}
 use Rattle.schema_names.specs.Numbers.{sort_of}
 use Rattle.schema_offences.specs.Types.{IsNoScalar}
 use Rattle.schema_offences.specs.Members
-use Rattle.schema_offences.specs.Members.{Is, IsUnknown, IsNoType, KeyOffends, IsMisplaced, TypeOffends}
+use Rattle.schema_names.specs.Finding.{NamesNothing}
+use Rattle.schema_offences.specs.Members.{Is, IsNoType, KeyOffends, IsMisplaced, TypeOffends}
 use Rattle.schema_offences.specs.Forms.{IsType, may_be_key}
 use Rattle.schema_offences.specs.Meeting.{first_of, IsWhere, Meets}
 use Rattle.schema_offences.specs.declared.types.TypeOf.{TypeOf}
@@ -27,7 +28,7 @@ use Rattle.schema_offences.proofs.Unless.{meets_unless}
 -- ---- a type that nothing has
 
 abbrev IsNone : Joined → ℕ → List (List ℕ) → Word → Type 0
-IsNone F file scope w = IsNoScalar w.name × IsUnknown F file scope w.name
+IsNone F file scope w = IsNoScalar w.name × NamesNothing F file scope w.name
 
 known_type : (F : Joined) (file : ℕ) (scope : List (List ℕ)) (w : Word) (t : TypeOf) → IsType F file scope w.name t
     → IsNone F file scope w → ⊥
@@ -37,7 +38,7 @@ known_type F file scope w (OfName n) is none = none.1 (sort_of n) is.1.0 is.1.1
 pub meets_no_type : (F : Joined) (file : ℕ) (scope : List (List ℕ)) (w : Word) (o : Option TypeOf) (missing : Bool)
     (a b : First)
     → is_some o ≡ not missing
-    → MatchOption o (IsNoScalar w.name × IsUnknown F file scope w.name) (IsType F file scope w.name)
+    → MatchOption o (IsNoScalar w.name × NamesNothing F file scope w.name) (IsType F file scope w.name)
     → b.found ≡ cond missing (Some (first_of a.found (record { reason = UnknownName; span = w.span }))) a.found
     → Meets (IsNoType F file scope w) a b
 meets_no_type F file scope w o missing a b e m is =
@@ -87,14 +88,14 @@ meets_key F file scope key t bad a b is e noted =
     (key_to F file scope key t is) (key_from F file scope key t is)
 
 no_key_from : (F : Joined) (file : ℕ) (scope : List (List ℕ)) (key : Word)
-    → IsNoScalar key.name × IsUnknown F file scope key.name
+    → IsNoScalar key.name × NamesNothing F file scope key.name
     → (q : ResolveReason) (s : Span) → KeyOffends F file scope key q s → Is UnknownName key.span q s
 no_key_from F file scope key none q s (Members.unknown_key p) = p.is
 no_key_from F file scope key none q s (Members.scalar_key j named bad here) = absurd (none.0 j named)
 no_key_from F file scope key none q s (Members.type_key sort full n names here) = absurd (none.1 sort full names)
 
 pub meets_no_key : (F : Joined) (file : ℕ) (scope : List (List ℕ)) (key : Word) (a b : First)
-    → IsNoScalar key.name × IsUnknown F file scope key.name
+    → IsNoScalar key.name × NamesNothing F file scope key.name
     → b.found ≡ Some (first_of a.found (record { reason = UnknownName; span = key.span }))
     → Meets (KeyOffends F file scope key) a b
 meets_no_key F file scope key a b none noted =

@@ -73,7 +73,7 @@ pub data OfService (F : Joined) (i : ℕ) (s : ServiceDecl) : Entry → Type 0 w
   rpc : (r : RpcDecl) → Contains s.rpcs r → OfService F i s (entry (scope_count F + i) r.name)
 
 -- an entry of one of the first n things of a list
-pub record OfFirst {X : Type 0} (n : ℕ) (xs : List X) (of : ℕ → X → Entry → Type 0) (e : Entry) : Type 0 where
+pub record EntryOfFirst {X : Type 0} (n : ℕ) (xs : List X) (of : ℕ → X → Entry → Type 0) (e : Entry) : Type 0 where
   pub place : ℕ
   pub thing : X
   pub below : place < n
@@ -81,7 +81,7 @@ pub record OfFirst {X : Type 0} (n : ℕ) (xs : List X) (of : ℕ → X → Entr
   pub is : of place thing e
 
 abbrev pub OfSome : {X : Type 0} → List X → (ℕ → X → Entry → Type 0) → Entry → Type 0
-OfSome xs of e = OfFirst (length xs) xs of e
+OfSome xs of e = EntryOfFirst (length xs) xs of e
 
 -- the new entries are the old ones and some more
 pub record Adds (more : Entry → Type 0) (old new : List Entry) : Type 0 where

@@ -1,10 +1,11 @@
 -- The code's own: how long full names and the lines of a table's text are, where no length is above the largest number of 64 bits, and
 -- which lines were added up to a declaration.
-use Rattle.std.specs.Prelude.{◌≡◌, ◌⊎◌, ℕ, pos, ◌+◌, ◌-◌, ◌<◌, ◌^◌, ◌≢◌, min, List, [], ◌∷◌, ◌++◌, codes, length, map, take, sum_by, Option, Some, None, slice_get, Contains, FitsSigned}
+use Rattle.std.specs.Prelude.{◌≡◌, ◌⊎◌, ℕ, pos, ◌+◌, ◌-◌, ◌<◌, ◌≢◌, List, [], ◌∷◌, ◌++◌, codes, length, map, take, sum_by, Option, Some, None, slice_get, Contains, FitsSigned}
 use Rattle.std.proofs.Common.{suc, get_or}
 use Rattle.std.specs.Int.{w32}
 use Rattle.std.specs.List.{flat_map}
 use Rattle.std.specs.Fmt.{decimal}
+use Rattle.mrpc_table.specs.Capped.{capped}
 use Rattle.mrpc_table.specs.Scalars.{no_table}
 use Rattle.mrpc_table.specs.Valid.{IsFieldNumber}
 use Rattle.mrpc_table.specs.Text.{kind_text, label_text, line, value_line}
@@ -34,9 +35,6 @@ use Rattle.schema_offences.specs.declared.types.TypeOf.{TypeOf}
 use Rattle.schema_offences.specs.declared.types.TypeOf.TheVariants.{Scalar, Named as OfName}
 use Rattle.schema_offences.specs.declared.lines.Lengths.{Lengths}
 
-abbrev pub at_most_64_bits : ℕ → ℕ
-at_most_64_bits n = min n (2 ^ 64 - 1)
-
 -- ---- full names
 
 -- what stands before the last part of a full name: its scope and a dot
@@ -46,13 +44,13 @@ front_length (part ∷ parts) = length (text_of (part ∷ parts)) + 1
 
 -- the first messages and enums have the lengths of their full names
 pub record KeepsLengths (F : Joined) (messages enums : ℕ) (kept : Lengths) : Type 0 where
-  pub fronts : kept.fronts.items ≡ map (λ h. at_most_64_bits (front_length (package_parts h.package))) F.heads
+  pub fronts : kept.fronts.items ≡ map (λ h. capped (front_length (package_parts h.package))) F.heads
   pub all_messages : length kept.messages.items ≡ messages
   pub all_enums : length kept.enums.items ≡ enums
   pub of_message : (i : ℕ) (full : List (List ℕ)) (s : Span) → i < messages → StandsAt F (Message i) full s
-      → get_or kept.messages.items i 0 ≡ at_most_64_bits (length (text_of full))
+      → get_or kept.messages.items i 0 ≡ capped (length (text_of full))
   pub of_enum : (i : ℕ) (full : List (List ℕ)) (s : Span) → i < enums → StandsAt F (Enum i) full s
-      → get_or kept.enums.items i 0 ≡ at_most_64_bits (length (text_of full))
+      → get_or kept.enums.items i 0 ≡ capped (length (text_of full))
 
 -- all of them
 abbrev pub AreLengths : Joined → Lengths → Type 0
@@ -68,7 +66,7 @@ IsKeptHome kept (home.Message i) = i < length kept.messages.items
 
 -- the length of the full name of what stands in a file or in a message
 abbrev pub full_length : Lengths → Home → Word → ℕ
-full_length kept parent w = at_most_64_bits (kept_front kept parent + length w.name)
+full_length kept parent w = capped (kept_front kept parent + length w.name)
 
 -- ---- types
 
@@ -80,8 +78,8 @@ IsKept kept (OfName (Enum i)) = i < length kept.enums.items
 -- the length of the word for a type
 abbrev pub type_length : Lengths → TypeOf → ℕ
 type_length kept (Scalar k) = length (kind_text no_table k)
-type_length kept (OfName (Message i)) = at_most_64_bits (get_or kept.messages.items i 0 + 8)
-type_length kept (OfName (Enum i)) = at_most_64_bits (get_or kept.enums.items i 0 + 5)
+type_length kept (OfName (Message i)) = capped (get_or kept.messages.items i 0 + 8)
+type_length kept (OfName (Enum i)) = capped (get_or kept.enums.items i 0 + 5)
 
 -- ---- lines
 
@@ -118,7 +116,7 @@ pub data LineAt (F : Joined) : Declaration → Span → List ℕ → Type 0 wher
 pub record IsLineOf (F : Joined) (d : Declaration) (x : Span × ℕ) : Type 0 where
   pub text : List ℕ
   pub at : LineAt F d x.0 text
-  pub is : x.1 ≡ at_most_64_bits (length text)
+  pub is : x.1 ≡ capped (length text)
 
 -- the length of the line of a declaration's name here, where it has a line
 abbrev pub IsLengthAt : Joined → Declaration → Span → Option ℕ → Type 0

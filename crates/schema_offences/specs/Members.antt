@@ -20,6 +20,7 @@ use Rattle.proto_file.specs.declared.file.EnumDecl.{EnumDecl}
 use Rattle.proto_file.specs.declared.file.RpcDecl.{RpcDecl}
 use Rattle.proto_file.specs.Joined.{Joined}
 use Rattle.schema_names.specs.Scopes.{Sort, a_message, Names}
+use Rattle.schema_names.specs.Finding.{NamesNothing}
 use Rattle.schema_offences.specs.Types.{value_of, IsScalar, IsNoScalar}
 use Rattle.schema_offences.specs.declared.reason.ResolveReason.{ResolveReason}
 use Rattle.schema_offences.specs.declared.reason.ResolveReason.TheVariants.{UnknownName, NumberRange, DuplicateNumber, Reserved, FirstEnum, MapKey, MapPlace, Limit}
@@ -30,10 +31,6 @@ Is reason span q s = (q ≡ reason) × (s ≡ span)
 
 -- ---- types of fields and rpcs
 
--- no message or enum is named
-abbrev pub IsUnknown : Joined → ℕ → List (List ℕ) → List ℕ → Type 0
-IsUnknown F file scope name = (sort : Sort) (full : List (List ℕ)) → Names F file scope name sort full → ⊥
-
 abbrev pub IsNoMessage : Joined → ℕ → List (List ℕ) → List ℕ → Type 0
 IsNoMessage F file scope name = (full : List (List ℕ)) → Names F file scope name a_message full → ⊥
 
@@ -41,7 +38,7 @@ IsNoMessage F file scope name = (full : List (List ℕ)) → Names F file scope 
 pub record IsNoType (F : Joined) (file : ℕ) (scope : List (List ℕ)) (w : Word) (q : ResolveReason)
     (s : Span) : Type 0 where
   pub no_scalar : IsNoScalar w.name
-  pub unknown : IsUnknown F file scope w.name
+  pub unknown : NamesNothing F file scope w.name
   pub is : Is UnknownName w.span q s
 
 -- the key of a map is no type, a scalar that no key may have, or a message or enum

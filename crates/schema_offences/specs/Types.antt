@@ -1,8 +1,7 @@
 -- Numbers, types and labels of fields, as a table has them (Protocol Buffers, proto3 language guide: "Scalar Value
 -- Types", "Specifying Field Labels", "Maps"; the names of labels and kinds are this project's own).
-use Rattle.std.specs.Prelude.{◌≡◌, ℕ, ℤ, pos, neg_ℤ, ◌^◌, ◌&&◌, Bool, true, false, List, ◌++◌, codes, Option, Some, None, IsTrue, if◌then◌else◌}
-use Rattle.mrpc_table.specs.declared.words.Decimal.{Decimal}
-use Rattle.mrpc_table.specs.declared.words.Decimal.TheVariants.{Small, Large}
+use Rattle.std.specs.Prelude.{◌≡◌, ℕ, ℤ, pos, neg_ℤ, ◌&&◌, Bool, true, false, List, ◌++◌, codes, Option, Some, None, IsTrue, if◌then◌else◌}
+use Rattle.mrpc_table.specs.Lines.{magnitude}
 use Rattle.mrpc_table.specs.declared.table.Kind.{Kind}
 use Rattle.mrpc_table.specs.declared.table.Kind.TheVariants.{Message as OfMessage, Choice}
 use Rattle.mrpc_table.specs.declared.table.Label.{Label}
@@ -20,11 +19,6 @@ use Rattle.proto_file.specs.Joined.{Joined}
 use Rattle.schema_names.specs.Scopes.{a_message, an_enum, text_of, Names}
 
 -- ---- numbers
-
--- a number of more than 64 bits stands for the least of these: all of them lie outside of every range
-abbrev pub magnitude : Decimal → ℕ
-magnitude (Small n) = n
-magnitude Large = 2 ^ 64
 
 abbrev pub value_of : Number → ℤ
 value_of n = if n.negative then neg_ℤ (pos (magnitude n.value)) else pos (magnitude n.value)

@@ -12,7 +12,8 @@ ghost use Rattle.proto_file.specs.declared.joined.Home.TheVariants as home;
 ghost use Rattle.schema_names.specs.Scopes.{IsScope};
 ghost use Rattle.schema_offences.specs.Types.{value_of, label_in};
 ghost use Rattle.schema_offences.specs.Meeting.{Meets, AtSome, OfElement, LongIn, PassesIn};
-ghost use Rattle.schema_offences.specs.Lengths.{at_most_64_bits, front_length, KeepsLengths, AreLengths, full_length, IsKept, IsKeptHome, type_length, IsLengthAt, added, rpcs_before, Covers, CoversAll, IsPast, IsLongName};
+ghost use Rattle.mrpc_table.specs.Capped.{capped};
+ghost use Rattle.schema_offences.specs.Lengths.{front_length, KeepsLengths, AreLengths, full_length, IsKept, IsKeptHome, type_length, IsLengthAt, added, rpcs_before, Covers, CoversAll, IsPast, IsLongName};
 
 use crate::first::First;
 use crate::numbers::{enum_number, field_number};
@@ -37,7 +38,7 @@ pub struct Lengths {
 
 // The length of a package and the dot behind it.
 fn package_front(declared: &Option<Word>) -> usize
-    ensures { result ≡ at_most_64_bits (front_length (package_parts declared.now)) }
+    ensures { result ≡ capped (front_length (package_parts declared.now)) }
 {
     match declared {
         Some(word) => word.name.len().saturating_add(1),
@@ -48,7 +49,7 @@ fn package_front(declared: &Option<Word>) -> usize
 // The same for each file.
 fn package_fronts(alloc: Global, heads: &[Head]) -> Result<Vec<usize>, Memory>
     ensures { IfOk result (λ v.
-        v.items ≡ map (λ h. at_most_64_bits (front_length (package_parts h.package))) heads.now) }
+        v.items ≡ map (λ h. capped (front_length (package_parts h.package))) heads.now) }
 {
     let mut fronts = Vec::with_capacity(alloc, heads.len())?;
     for head in heads {
@@ -201,8 +202,7 @@ fn kind_length(kind: Kind) -> usize
 
 // The length of a oneof's name and the word before it.
 fn oneof_length(oneofs: &Words, place: usize) -> usize
-    ensures { result ≡ at_most_64_bits (length (label_text no_table (map (λ o. o.name) oneofs.now)
-        (labels.Member place))) }
+    ensures { result ≡ capped (length (label_text no_table (map (λ o. o.name) oneofs.now) (labels.Member place))) }
 {
     match oneofs.as_slice().get(place) {
         Some(word) => word.name.len().saturating_add(6),
@@ -211,8 +211,8 @@ fn oneof_length(oneofs: &Words, place: usize) -> usize
 }
 
 fn label_length(oneofs: &Words, form: Form) -> usize
-    ensures { result ≡ at_most_64_bits
-        (length (label_text no_table (map (λ o. o.name) oneofs.now) (label_in form.oneof form.label))) }
+    ensures { result
+        ≡ capped (length (label_text no_table (map (λ o. o.name) oneofs.now) (label_in form.oneof form.label))) }
 {
     if let Some(place) = form.oneof {
         return oneof_length(oneofs, place);
@@ -244,7 +244,7 @@ fn digits(number: u128) -> usize
 fn value_length(value: &ValueDecl) -> Option<usize>
     ensures { MatchOption result (FitsSigned w32 (value_of value.now.number) → ⊥)
         (λ n. FitsSigned w32 (value_of value.now.number)
-        × (n ≡ at_most_64_bits (length (value_line (value_of value.now.number, value.now.name.name))))) }
+        × (n ≡ capped (length (value_line (value_of value.now.number, value.now.name.name))))) }
 {
     let number = enum_number(&value.number)?;
     let sign: usize = if number < 0 { 1 } else { 0 };

@@ -7,7 +7,8 @@ ghost use Rattle.mrpc_table.specs.declared.table.Label.{Label};
 ghost use Rattle.proto_file.specs.declared.joined.Home.TheVariants as home;
 ghost use Rattle.schema_names.specs.Scopes.{IsScope};
 ghost use Rattle.schema_offences.specs.Types.{single_label, IsScalar, IsNoScalar, HasForm};
-ghost use Rattle.schema_offences.specs.Members.{IsUnknown, IsMisplaced};
+ghost use Rattle.schema_names.specs.Finding.{NamesNothing};
+ghost use Rattle.schema_offences.specs.Members.{IsMisplaced};
 ghost use Rattle.schema_offences.specs.Forms.{IsType, IsForm, is_message, is_packable, may_be_key};
 
 use mrpc_table::{Kind, Label};
@@ -40,7 +41,7 @@ pub fn type_of<'a>(
     requires file { file < length scopes.now.heads }
     requires message { message < length scopes.now.messages }
     ensures { (scope : List (List ℕ)) → IsScope scopes.now (home.Message message) scope
-        → MatchOption result (IsNoScalar word.now.name × IsUnknown scopes.now file scope word.now.name)
+        → MatchOption result (IsNoScalar word.now.name × NamesNothing scopes.now file scope word.now.name)
         (IsType scopes.now file scope word.now.name) }
 {
     let name = word.name.as_slice();

@@ -30,7 +30,8 @@ use Rattle.proto_file.specs.Together
 use Rattle.schema_names.specs.Scopes
 use Rattle.schema_names.specs.Scopes.{Sort, a_message, an_enum, no_type, is_type, Names, Finds, text_of, IsScope, of_message}
 use Rattle.schema_offences.specs.Types.{value_of, IsScalar, IsNoScalar, HasType, scalar, message, enum, HasForm, single, a_map}
-use Rattle.schema_offences.specs.Members.{IsUnknown, unknown_key, scalar_key, type_key, nested, labelled, in_oneof}
+use Rattle.schema_names.specs.Finding.{NamesNothing}
+use Rattle.schema_offences.specs.Members.{unknown_key, scalar_key, type_key, nested, labelled, in_oneof}
 use Rattle.schema_offences.specs.Members.{TypeOffends, unknown_type, bad_key, unknown_value, misplaced}
 use Rattle.schema_offences.specs.Members.{IsFieldNumberOf, of_type, of_number, number_out_of_range, number_met_before}
 use Rattle.schema_offences.specs.Offences
@@ -72,7 +73,7 @@ module _ (F : Joined) (i : ℕ) (m : MessageDecl) (scope : List (List ℕ)) (f :
 
   has_type : (w : Word)
       → ((word : List ℕ) (is_message packable : Bool) → HasType F m.file scope w word is_message packable → ⊥)
-      → IsNoScalar w.name × IsUnknown F m.file scope w.name
+      → IsNoScalar w.name × NamesNothing F m.file scope w.name
   has_type w none =
       let plain : IsNoScalar w.name = λ k s. none w.name false (is_numeric k) (scalar k s) in
       (plain, λ sort full names. no_sort w sort full plain none names)
@@ -102,7 +103,7 @@ module _ (F : Joined) (i : ℕ) (m : MessageDecl) (scope : List (List ℕ)) (f :
         | inl t ↦ key_scalar k s t
         | inr t ↦ well_typed MapKey key.span (bad_key key value is (scalar_key k s t (refl, refl)))
       ] in
-      let no_names : IsUnknown F m.file scope key.name =
+      let no_names : NamesNothing F m.file scope key.name =
       λ sort full names. well_typed MapKey key.span (bad_key key value is (type_key sort full no_key names (refl, refl))) in
       well_typed UnknownName key.span
       (bad_key key value is (unknown_key (record { no_scalar = no_key; unknown = no_names; is = (refl, refl) })))

@@ -7,6 +7,7 @@ ghost use Rattle.deliveries.specs.Arriving.{AreSame, HaveLived};
 ghost use Rattle.link_greeting.specs.Greeting.{HasBound};
 ghost use Rattle.run_plan.specs.Plans.{IsPlan};
 ghost use Rattle.run_plan.specs.Ports.{all_ends, connections_of};
+ghost use Rattle.service_wiring.specs.declared.wiring.TheConstants.{MOST_BYTES};
 ghost use Rattle.service.specs.Ends.{Opened};
 ghost use Rattle.service.specs.Greeted.{BothGreeted, WasGreeted, WasIntroduced, WasLeft, WereGreeted};
 ghost use Rattle.service.specs.Served.{IsNewLink};
@@ -19,12 +20,10 @@ use mrpc_base::{Fabric, Link, OpenFault};
 use mrpc_table::{Memory, Name};
 use receive_core::Inbound;
 use run_plan::{Application, Pair, Plan};
+use service_wiring::MOST_BYTES;
 use shared_heap::Reader;
 use std::alloc::Global;
 use std::sync::Wait;
-
-// How many bytes are received at once, at the most.
-const MOST_BYTES: usize = 65536;
 
 // An end of a link that said its hello, or whose link failed at it.
 #[derive(Drop)]

@@ -1,5 +1,6 @@
 -- What an application of a run is given, and what it does with it (this project's own).
 use Rattle.std.specs.Prelude.{◌≡◌, ◌≤◌, ◌++◌, false, List, map, IfSome}
+use Rattle.mrpc_table.specs.Lines.{IsIn}
 use Rattle.mrpc_table.specs.Valid.{IsValid}
 use Rattle.mrpc_table.specs.declared.limits.TheConstants.{MAX_HEAP, MIN_HEAP}
 use Rattle.mrpc_table.specs.declared.table.Table.{Table}
@@ -13,7 +14,6 @@ use Rattle.app_stub.specs.declared.port.AppEnd.{AppEnd}
 use Rattle.app_stub.specs.declared.port.AppPort.{AppPort}
 use Rattle.app_stub.specs.declared.port.AppSent.{AppSent}
 use Rattle.run_plan.specs.Plans.{HasProgram}
-use Rattle.run_plan.specs.Ports.{IsIn}
 use Rattle.run_plan.specs.declared.application.Role.{Role}
 use Rattle.run_plan.specs.declared.application.Role.TheVariants as role
 use Rattle.service_wiring.specs.declared.applications.Job.{Job}

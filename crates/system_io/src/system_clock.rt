@@ -9,7 +9,7 @@ use std::time::Instant;
 #[derive(Drop)]
 pub struct SystemClock<'r, T> {
     time: &'r T,
-    /// None where the system told no time then; such a clock stands still at 0.
+    // None where the system told no time then; such a clock stands still at 0.
     start: Option<Instant>,
 }
 

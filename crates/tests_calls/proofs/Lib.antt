@@ -1,2 +1,2 @@
 mod HistoryRows
-pub mod Young
+mod Young

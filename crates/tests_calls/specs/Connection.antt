@@ -1,10 +1,13 @@
 -- The code's own: what holds of a connection with its heap and its tickets, whatever it was asked.
 use Rattle.std.specs.Prelude.{◌≡◌, ℕ, ◌<◌, ◌^◌, ◌+◌, All, length}
+use Rattle.mrpc_table.specs.Valid.{IsValid}
+use Rattle.mrpc_table.specs.declared.table.Table.{Table}
 use Rattle.call_history.specs.Behind.{taken}
 use Rattle.conn_core.specs.Connections.{Connection, behind}
 
--- the heap has 16 words, and there is a tenant
-pub record IsScene (size known : ℕ) : Type 0 where
+-- the table is one of a service, the heap has 16 words, and there is a tenant
+pub record IsScene (T : Table) (size known : ℕ) : Type 0 where
+  pub valid : IsValid T
   pub words : size ≡ 16
   pub tenant : 0 < known
 

@@ -8,14 +8,15 @@ ghost use Rattle.conn_core.specs.Steps.{IfPolicy};
 ghost use Rattle.tests_calls.specs.Connection.{IsYoung};
 
 use crate::given::bytes_of;
+use crate::kinds::{Kind, Step, policy_of};
+use crate::told::{Told, told_at};
 use crate::wanting::{NoFrames, NoLoads};
 use call_history::{Record, Refusal};
 use chain_upgrade::{Chain, ChainFault};
 use conn_core::{AcceptFault, Ask, Conn, Drained};
-use engine_core::{Op, Policy};
+use engine_core::{MAX_CALLS, Op, Policy};
 use mrpc_base::{MemLink, PlainTickets, PlainWords, Room, Stores};
 use mrpc_table::Table;
-use policy_rate::Rate;
 use std::alloc::Global;
 use std::marker::Model;
 use std::process::Abort;
@@ -48,10 +49,13 @@ fn stepped_by(step: &Result<(), ChainFault>) -> Stepped {
 /// invariant or is tried when they run, so that hardly a helper has a clause.
 pub struct Scene<'t> {
     alloc: Global,
+    table: &'t Table,
     words: PlainWords,
     tickets: PlainTickets,
     link: MemLink,
     conn: Conn<'t>,
+    // How many records were compared.
+    told: usize,
 }
 
 // By hand, so that a drop is one call where it is needed, and not a drop of each part.
@@ -59,10 +63,12 @@ impl<'t> Drop for Scene<'t> {
     fn drop(self) {
         let Scene {
             alloc: _,
+            table: _,
             words: _words,
             tickets: _tickets,
             link: _link,
             conn: _conn,
+            told: _,
         } = self;
     }
 }
@@ -75,7 +81,7 @@ impl<'t> Model for Scene<'t> {
 
     ghost view = { λ s. s.tickets.tenants };
 
-    ghost invariant = { λ s. IsScene s.words.size s.tickets.tenants };
+    ghost invariant = { λ s. IsScene s.table.now s.words.size s.tickets.tenants };
 }
 
 // A history of fewer than 1000 records leaves room in all numbers.
@@ -110,18 +116,6 @@ fn knows_tenants(chain: &Chain, tickets: &PlainTickets) -> bool
     true
 }
 
-// A rate of a call a second, and two at once.
-fn slow_rate() -> Policy
-    ensures { IsPolicy result }
-{
-    Policy::Rate(Rate {
-        amount: 1,
-        per: 1000,
-        burst: 2,
-        hold: true,
-    })
-}
-
 // A link whose send of a number fails, counted from 1; none where it is 0.
 fn link_of(rt: &impl Abort, alloc: Global, failing: u64) -> MemLink {
     let mut sends = Vec::new(alloc);
@@ -144,10 +138,12 @@ impl<'t> Scene<'t> {
     {
         Scene {
             alloc,
+            table,
             words: PlainWords::open(alloc, 16).expect(rt, "memory"),
             tickets: PlainTickets::new(alloc, 1).expect(rt, "memory"),
             link: link_of(rt, alloc, failing),
             conn: Conn::open(alloc, 1, table, 16384).expect(rt, "memory"),
+            told: 0,
         }
     }
 
@@ -211,13 +207,13 @@ impl<'t> Scene<'t> {
         stepped_by(&self.conn.operate(self.alloc, step))
     }
 
-    /// What the attachment of a policy that counts comes to.
-    pub fn attach(&mut self, rt: &impl Abort, at: u32, name: &[u8]) -> Stepped {
+    /// What the attachment of a policy of a kind comes to.
+    pub fn attach(&mut self, rt: &impl Abort, at: u32, name: &[u8], kind: Kind) -> Stepped {
         let step = Op::Attach {
             at,
             name: bytes_of(rt, self.alloc, name),
             label: bytes_of(rt, self.alloc, name),
-            policy: Policy::Count,
+            policy: policy_of(rt, self.alloc, self.table, kind),
         };
         self.operate(rt, step)
     }
@@ -228,12 +224,12 @@ impl<'t> Scene<'t> {
         self.operate(rt, Op::Detach { name })
     }
 
-    /// What it comes to that a rate is put into the entry of a name.
-    pub fn upgrade(&mut self, rt: &impl Abort, name: &[u8]) -> Stepped {
+    /// What it comes to that a policy of a kind is put into the entry of a name.
+    pub fn upgrade(&mut self, rt: &impl Abort, name: &[u8], kind: Kind) -> Stepped {
         let step = Op::Upgrade {
             name: bytes_of(rt, self.alloc, name),
             label: bytes_of(rt, self.alloc, name),
-            policy: slow_rate(),
+            policy: policy_of(rt, self.alloc, self.table, kind),
         };
         self.operate(rt, step)
     }
@@ -263,7 +259,87 @@ impl<'t> Scene<'t> {
         self.conn.fail();
     }
 
+    // One turn of the engine at a position.
+    fn turn(&mut self, rt: &impl Abort, at: u32) {
+        assert!(rt; at < self.conn.chain().engines());
+        assert!(rt; knows_tenants(self.conn.chain(), &self.tickets));
+        let _ = self.conn.turn(at, &mut self.tickets);
+    }
+
+    // ---- steps
+
+    // Records that a call isn't accepted, while 64 stand.
+    fn turn_away(&mut self, rt: &impl Abort) {
+        assert!(rt; matches!(self.submit(rt), Some(AcceptFault::Standing)));
+        assert!(rt; self.conn.chain().calls().len() == MAX_CALLS);
+        let ask = self.ask();
+        self.conn.turn_away(ask).expect(rt, "memory");
+    }
+
+    /// Takes a step.
+    pub fn takes(&mut self, rt: &impl Abort, step: Step) {
+        match step {
+            Step::Store(place, value) => self.store(rt, place, value),
+            Step::Accept(times) => {
+                for _ in 0..times {
+                    self.accepts(rt);
+                }
+            }
+            Step::TurnAway => self.turn_away(rt),
+            Step::Attach(at, name, kind) => {
+                assert!(rt; self.attach(rt, at, name, kind) == Stepped::Done);
+            }
+            Step::Detach(name) => assert!(rt; self.detach(rt, name) == Stepped::Done),
+            Step::Upgrade(name, kind) => {
+                assert!(rt; self.upgrade(rt, name, kind) == Stepped::Done);
+            }
+            Step::Clock(now) => self.conn.clock(now).expect(rt, "memory"),
+            Step::Turn(at, times) => {
+                for _ in 0..times {
+                    self.turn(rt, at);
+                }
+            }
+            Step::Drain => assert!(rt; self.drain(rt) == Drained::Done),
+            Step::Hold(number, level) => self.holds(rt, number, level),
+            Step::Hand(frame) => {
+                assert!(rt; self.frames() == 1);
+                self.hands(rt, 0, frame);
+            }
+        }
+    }
+
+    /// The next record tells this.
+    pub fn tells(&mut self, rt: &impl Abort, expected: Told) {
+        let history = self.conn.history();
+        assert!(rt; self.told < history.len());
+        assert!(rt; told_at(history, self.told) == expected);
+        self.told += 1;
+    }
+
+    /// Takes these steps, and behind all that was compared the history tells this, and nothing more.
+    pub fn does(&mut self, rt: &impl Abort, steps: &[Step], expected: &[Told]) {
+        for step in steps {
+            self.takes(rt, *step);
+        }
+        for told in expected {
+            self.tells(rt, *told);
+        }
+        assert!(rt; self.told == self.conn.history().len());
+    }
+
     // ---- what came of it
+
+    // The first call that stands has this number and is held at the first engine, at this level, where it costs 1000.
+    fn holds(&self, rt: &impl Abort, number: u32, wanted: u64) {
+        let chain = self.conn.chain();
+        let (seq, at) = chain.standing(0).expect(rt, "a call");
+        assert!(rt; seq == number);
+        assert!(rt; at == 0);
+        assert!(rt; 0 < chain.engines());
+        let (level, cost) = chain.held(0).expect(rt, "a held call");
+        assert!(rt; level == wanted);
+        assert!(rt; cost == 1000);
+    }
 
     /// How many records there are.
     pub fn records(&self) -> usize {

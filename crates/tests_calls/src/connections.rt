@@ -3,30 +3,24 @@
 
 use crate::connection::{Scene, Stepped};
 use crate::discard;
-use crate::given::{SMALL, table_of};
+use crate::given::{FIRST_WITH_7, SECOND_WITH_7, SMALL, table_of};
+use crate::kinds::Kind;
 use conn_core::Drained;
 use std::process::Abort;
-
-// Frames of the message with 7 in its first field.
-const FIRST_WITH_7: &[u8] =
-    b"\x00\x00\x00\x02\x01\x01\x00\x00\x00\x00\x00\x01\x00\x00\x00\x01\x08\x07";
-
-const SECOND_WITH_7: &[u8] =
-    b"\x00\x00\x00\x02\x01\x01\x00\x00\x00\x00\x00\x01\x00\x00\x00\x02\x08\x07";
 
 const NAMES: [&[u8]; 8] = [b"a", b"b", b"c", b"d", b"e", b"f", b"g", b"h"];
 
 // What each test asks of its scene stands in a function that borrows it, so that no `assert!` has a drop behind it.
 fn refuse_steps(rt: &impl Abort, scene: &mut Scene) {
     assert!(rt; scene.detach(rt, b"a") == Stepped::NoSuch);
-    assert!(rt; scene.upgrade(rt, b"a") == Stepped::NoSuch);
+    assert!(rt; scene.upgrade(rt, b"a", Kind::Rate(2)) == Stepped::NoSuch);
     for name in NAMES {
-        assert!(rt; scene.attach(rt, 0, name) == Stepped::Done);
+        assert!(rt; scene.attach(rt, 0, name, Kind::Count) == Stepped::Done);
     }
-    assert!(rt; scene.attach(rt, 9, b"a") == Stepped::Taken);
-    assert!(rt; scene.attach(rt, 9, b"i") == Stepped::At(9));
-    assert!(rt; scene.attach(rt, 8, b"i") == Stepped::ChainFull(8));
-    assert!(rt; scene.upgrade(rt, b"a") == Stepped::OtherKind);
+    assert!(rt; scene.attach(rt, 9, b"a", Kind::Count) == Stepped::Taken);
+    assert!(rt; scene.attach(rt, 9, b"i", Kind::Count) == Stepped::At(9));
+    assert!(rt; scene.attach(rt, 8, b"i", Kind::Count) == Stepped::ChainFull(8));
+    assert!(rt; scene.upgrade(rt, b"a", Kind::Rate(2)) == Stepped::OtherKind);
     assert!(rt; scene.records() == 8);
 }
 
@@ -40,14 +34,14 @@ fn a_refused_step_is_no_happening(rt: HostRuntime) {
 }
 
 fn judge_before_a_drain(rt: &impl Abort, scene: &mut Scene) {
-    assert!(rt; scene.attach(rt, 0, b"c") == Stepped::Done);
+    assert!(rt; scene.attach(rt, 0, b"c", Kind::Count) == Stepped::Done);
     scene.store(rt, 2, 7);
     scene.accepts(rt);
     scene.judge(rt);
     assert!(rt; scene.records() == 3);
     assert!(rt; scene.frames() == 0);
     // The new count counts the call, and that behind it lets it pass by its mark.
-    assert!(rt; scene.attach(rt, 0, b"d") == Stepped::Done);
+    assert!(rt; scene.attach(rt, 0, b"d", Kind::Count) == Stepped::Done);
     scene.judge(rt);
     assert!(rt; scene.records() == 5);
     assert!(rt; scene.drain(rt) == Drained::Done);
@@ -90,7 +84,7 @@ fn behind_a_failed_sending_no_call_is_accepted(rt: HostRuntime) {
 }
 
 fn fail_while_calls_stand(rt: &impl Abort, scene: &mut Scene) {
-    assert!(rt; scene.attach(rt, 0, b"c") == Stepped::Done);
+    assert!(rt; scene.attach(rt, 0, b"c", Kind::Count) == Stepped::Done);
     scene.accepts(rt);
     scene.accepts(rt);
     scene.fail();

@@ -13,6 +13,14 @@ pub const SMALL: &[u8] = b"message M\nfield 1 plain uint64 a\nmethod 0 S Get M M
 /// A message with packed numbers, and a method on it.
 pub const NUMBERS: &[u8] = b"message M\nfield 6 packed uint64 n\nmethod 0 S Get M M\n";
 
+/// The frame of call 1 with 7 in its first field.
+pub const FIRST_WITH_7: &[u8] =
+    b"\x00\x00\x00\x02\x01\x01\x00\x00\x00\x00\x00\x01\x00\x00\x00\x01\x08\x07";
+
+/// The same of call 2.
+pub const SECOND_WITH_7: &[u8] =
+    b"\x00\x00\x00\x02\x01\x01\x00\x00\x00\x00\x00\x01\x00\x00\x00\x02\x08\x07";
+
 /// The table of a text.
 pub fn table_of(rt: &impl Abort, alloc: Global, text: &[u8]) -> Table
     ensures { IsValid result }

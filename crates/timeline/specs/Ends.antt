@@ -1,4 +1,4 @@
--- The ends of calls by their number, as the reader of a row keeps them (its own).
+-- The code's own: the ends of calls by their number, as the reader of a row keeps them.
 use Rattle.std.specs.Prelude.{ℕ, List, Option, Some, None}
 use Rattle.std.specs.Option.{option_map_or}
 use Rattle.std.specs.BTreeMap.{is_at}

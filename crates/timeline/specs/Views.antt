@@ -1,4 +1,4 @@
--- What the parts of a drawing are as data, as the code has them (its own).
+-- The code's own: what the parts of a drawing are as data, as the code has them.
 use Rattle.std.specs.Prelude.{List, map}
 use Rattle.timeline.specs.Lines.{Told, took, sent, refused, step, moment, Happening}
 use Rattle.timeline.specs.Rows.{Mark, Fate, was_sent, was_refused, stands, End, Bar, Row}

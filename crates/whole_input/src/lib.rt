@@ -7,4 +7,4 @@
 
 mod reading;
 
-pub use reading::{INPUT_LIMIT, Input, read_input};
+pub use reading::{CHUNK, INPUT_LIMIT, Input, read_input};

@@ -13,9 +13,9 @@ pub const INPUT_LIMIT: usize = 16_777_216;
 // How many bytes are asked for in one read, at the most.
 const PIECE: usize = 65_536;
 
-// How many bytes are copied at once, at the most. A longer copy is one string instruction in the C library, which goes
-// byte by byte where instructions are counted.
-const CHUNK: usize = 2_048;
+/// How many bytes are copied at once, at the most. A longer copy is one string instruction in the C library, which goes
+/// byte by byte where instructions are counted.
+pub const CHUNK: usize = 2_048;
 
 /// How reading an input ended.
 #[derive(Drop)]

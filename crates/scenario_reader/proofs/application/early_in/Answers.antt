@@ -5,7 +5,7 @@ use Rattle.scenario.specs.Applications.{conn_of, policy_tables, tenant_tables}
 use Rattle.scenario.specs.Keys.{heap}
 use Rattle.scenario.specs.Reasons.{IsSoFar}
 use Rattle.scenario_values.specs.Values.{number_in}
-use Rattle.scenario_reader.specs.Joining.{HeadFails, IsRoleRead}
+use Rattle.scenario_reader.specs.Joining.{AppHeadFails, IsRoleRead}
 use Rattle.scenario_reader.proofs.Early.{early_is}
 use Rattle.scenario_reader.proofs.application.early_in.Goals as goal
 
@@ -16,8 +16,8 @@ returns-clause-read c = λ all T before above on is_role.
     let lines = ap (λ (xs : List (Bor (List ℕ))). map (λ n. n.now) xs) c.as_slice.ensures.value ∙ c.in_ok-lines.ensures in
     let names = ap (λ (xs : List (Bor (List ℕ))). map (λ n. n.now) xs) c.as_slice-2.ensures.value ∙ c.in_ok-names.ensures in
     let head =
-    subst (λ (ns : List (List ℕ)). IsSoFar (HeadFails (policy_tables all) before (conn_of ms) ns) c.head_reason-head.result) names
-    (subst (λ (n : ℕ). IsSoFar (HeadFails (policy_tables all) before n (map (λ n. n.now) c.as_slice-2.result.now)) c.head_reason-head.result)
+    subst (λ (ns : List (List ℕ)). IsSoFar (AppHeadFails (policy_tables all) before (conn_of ms) ns) c.head_reason-head.result) names
+    (subst (λ (n : ℕ). IsSoFar (AppHeadFails (policy_tables all) before n (map (λ n. n.now) c.as_slice-2.result.now)) c.head_reason-head.result)
     c.number_of.ensures (c.head_reason-head.ensures (policy_tables all) before same on)) in
     let role =
     subst (λ (ls : List (List ℕ)). IsRoleRead c.args.role (number_in heap ms) ls c.in_ok-said.said) lines

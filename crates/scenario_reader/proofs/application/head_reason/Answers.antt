@@ -6,7 +6,7 @@ use Rattle.scenario.specs.declared.fault.ScenarioReason.{ScenarioReason}
 use Rattle.scenario.specs.declared.fault.ScenarioReason.TheVariants.{Known}
 use Rattle.scenario_entries.specs.Ports.{has_port}
 use Rattle.scenario_policies.specs.Owning.{NamesAgainst}
-use Rattle.scenario_reader.specs.Joining.{HeadFails}
+use Rattle.scenario_reader.specs.Joining.{AppHeadFails}
 use Rattle.scenario_reader.proofs.FirstReason.{Flag, flag, joined}
 use Rattle.scenario_reader.proofs.Judging.{port_there}
 use Rattle.scenario_reader.proofs.application.head_reason.Goals as goal
@@ -18,6 +18,6 @@ returns c = λ policies before same on.
     subst (λ (o : Option ScenarioReason). IsSoFar (Flag (Contains (conns_of before) c.args.conn) Known) o)
     (sym (c.reason_if-known.ensures ∙ ap (λ (b : Bool). reason_if b Known) c.has_port.ensures))
     (flag (Contains (conns_of before) c.args.conn) Known (has_port c.args.ports.now c.args.conn) (port_there before c.args.ports.now c.args.conn on)) in
-    subst (λ (o : Option ScenarioReason). IsSoFar (HeadFails policies before c.args.conn names) o) (sym c.earlier.ensures)
+    subst (λ (o : Option ScenarioReason). IsSoFar (AppHeadFails policies before c.args.conn names) o) (sym c.earlier.ensures)
     (joined (NamesAgainst policies names) (Flag (Contains (conns_of before) c.args.conn) Known) c.names_reason.result c.reason_if-known.result
     (c.names_reason.ensures policies same) known)

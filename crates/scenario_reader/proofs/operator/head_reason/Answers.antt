@@ -4,7 +4,7 @@ use Rattle.scenario.specs.Applications.{conn_of}
 use Rattle.scenario.specs.Reasons.{IsSoFar, earlier, reason_if}
 use Rattle.scenario.specs.declared.fault.ScenarioReason.{ScenarioReason}
 use Rattle.scenario.specs.declared.fault.ScenarioReason.TheVariants.{Known, Number, Unknown}
-use Rattle.scenario_reader.specs.Operating.{HeadFails, is_operated}
+use Rattle.scenario_reader.specs.Operating.{OperatorHeadFails, is_operated}
 use Rattle.scenario_reader.proofs.Operating.{head_is}
 use Rattle.scenario_reader.proofs.operator.head_reason.Goals as goal
 
@@ -21,5 +21,5 @@ returns c = λ all ms tables same says conn long told named.
     let whole =
     c.earlier.ensures ∙ ap (λ (o : Option ScenarioReason). earlier o c.reason_if-3.result) b
     ∙ ap (earlier (earlier (earlier first many) there)) (c.reason_if-3.ensures ∙ ap (λ (x : Bool). reason_if x Unknown) c.lacks_policy.ensures) in
-    subst (λ (o : Option ScenarioReason). IsSoFar (HeadFails all tables ms) o) (sym whole)
+    subst (λ (o : Option ScenarioReason). IsSoFar (OperatorHeadFails all tables ms) o) (sym whole)
     (head_is all tables ms c.args.declared.now c.args.before.now c.args.names.now c.args.lines first same says long told.reason named)

@@ -1,5 +1,5 @@
 -- What was said before stays.
-use Rattle.scenario_words.specs.Told.{SaysOn}
+use Rattle.findings.specs.Said.{SaysOn}
 use Rattle.scenario_words.proofs.words.say.Given as goal
 
 abbrev pub invariant-loop-part : goal.invariant-loop-part

@@ -2,7 +2,8 @@ use Rattle.std.proofs.Common.{◌≡◌, ◌∙◌, ◌+◌, ◌<◌, ◌≤◌,
 use Rattle.std.specs.Prelude.{Some, slice_get}
 use Rattle.proto_file.specs.Together.{enum_decl}
 use Rattle.proto_file.specs.Joined.{enum_home_of}
-use Rattle.schema_offences.specs.Lengths.{at_most_64_bits, Covers}
+use Rattle.mrpc_table.specs.Capped.{capped}
+use Rattle.schema_offences.specs.Lengths.{Covers}
 use Rattle.schema_offences.proofs.Meetings.{item_at}
 use Rattle.std.proofs.lemmas.Grind.{get_or_default_zero}
 use Rattle.schema_offences.proofs.Formed.{stand_behind, enum_place}
@@ -25,7 +26,7 @@ add_values-requires-clause-choices c =
     c.index.ensures
     ∙ get_or_default_zero kept.enums.items i c.index.result.now (omega (arith, c.requires.lengths.all_enums)) in
     let line = enum_line F kept c.requires.lengths i e outer.0 c.saturating_add-length.result at outer.1
-    (c.saturating_add-length.ensures ∙ ap (λ (n : ℕ). at_most_64_bits (n + 6)) read) in
+    (c.saturating_add-length.ensures ∙ ap (λ (n : ℕ). capped (n + 6)) read) in
     let more = covers_add F 1 i 0 c.loop-i.lines.items c.requires.ordered (enum_decl i) e.name.span
     (Some c.saturating_add-length.result) (own_enum i) refl refl refl line c.loop-i.invariant in
     subst (Covers F 1 i 1) (sym c.in_ok-add.ensures) more

@@ -3,7 +3,8 @@ use Rattle.std.specs.Prelude.{Some, slice_get}
 use Rattle.proto_file.specs.Together.{message_decl}
 use Rattle.proto_file.specs.Joined.{home_of}
 use Rattle.proto_file.specs.declared.joined.Home.TheVariants as home
-use Rattle.schema_offences.specs.Lengths.{at_most_64_bits, Covers}
+use Rattle.mrpc_table.specs.Capped.{capped}
+use Rattle.schema_offences.specs.Lengths.{Covers}
 use Rattle.schema_offences.proofs.Meetings.{item_at}
 use Rattle.std.proofs.lemmas.Grind.{get_or_default_zero}
 use Rattle.schema_offences.proofs.Formed.{stand_behind, message_place}
@@ -32,7 +33,7 @@ add_fields-requires-clause-message c =
     c.index.ensures
     ∙ get_or_default_zero kept.messages.items i c.index.result.now (omega (arith, c.requires.lengths.all_messages)) in
     let line = message_line F kept c.requires.lengths i m outer.0 c.saturating_add-length.result at outer.1
-    (c.saturating_add-length.ensures ∙ ap (λ (n : ℕ). at_most_64_bits (n + 9)) read) in
+    (c.saturating_add-length.ensures ∙ ap (λ (n : ℕ). capped (n + 9)) read) in
     let more = covers_add F 0 i 0 c.loop-i.lines.items c.requires.ordered (message_decl i) m.name.span
     (Some c.saturating_add-length.result) (own_message i) refl refl refl line c.loop-i.invariant in
     subst (Covers F 0 i 1) (sym c.in_ok-add.ensures) more

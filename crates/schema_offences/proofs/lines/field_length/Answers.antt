@@ -1,7 +1,8 @@
 use Rattle.std.proofs.Common.{◌≡◌, ◌∙◌, ◌+◌, ℕ, length, sym, ap, subst}
 use Rattle.std.specs.Fmt.{decimal}
 use Rattle.proto_file.specs.Together.{field_decl}
-use Rattle.schema_offences.specs.Lengths.{at_most_64_bits, IsLengthAt}
+use Rattle.mrpc_table.specs.Capped.{capped}
+use Rattle.schema_offences.specs.Lengths.{IsLengthAt}
 use Rattle.schema_offences.proofs.LineLengths.{is_kept, sums_three, field_line, no_form, no_number}
 use Rattle.schema_offences.proofs.lines.field_length.Goals as goal
 
@@ -34,5 +35,5 @@ returns c = λ j fat.
     c.saturating_add-2.result c.saturating_add-3.result
     (c.digits-front.ensures.is ∙ ap (λ (n : ℕ). length (decimal n)) c.from.ensures) c.len.ensures
     c.saturating_add.ensures
-    (subst (λ (t : ℕ). c.saturating_add-2.result ≡ at_most_64_bits (c.saturating_add.result + t))
+    (subst (λ (t : ℕ). c.saturating_add-2.result ≡ capped (c.saturating_add.result + t))
     c.of_type.ensures c.saturating_add-2.ensures) c.saturating_add-3.ensures)

@@ -1,7 +1,8 @@
 use Rattle.std.proofs.Common.{◌≡◌, ◌∙◌, ◌+◌, ◌<◌, rules, length, ℕ, sym, subst}
 use Rattle.std.proofs.lemmas.Grind.{get_or_default_zero}
 use Rattle.proto_file.specs.Together.{rpc_decl}
-use Rattle.schema_offences.specs.Lengths.{at_most_64_bits, IsLengthAt}
+use Rattle.mrpc_table.specs.Capped.{capped}
+use Rattle.schema_offences.specs.Lengths.{IsLengthAt}
 use Rattle.schema_offences.proofs.LineLengths.{message_in, sums_four, method_line, no_output}
 use Rattle.schema_offences.proofs.FullLengths.{file_kept}
 use Rattle.schema_offences.proofs.lines.method_length.Goals as goal
@@ -41,11 +42,11 @@ returns c = λ i j at rat count.
     c.in_ok-output.output a.0 b.0 c.saturating_add-4.result at rat count c.requires.file a.1 b.1 a.2 b.2
     (sums_four _ c.digits-front.result _ c.len.result _ _ _ c.saturating_add.result c.saturating_add-2.result
     c.saturating_add-3.result c.saturating_add-4.result c.digits-front.ensures.is c.len.ensures
-    (subst (λ (n : ℕ). c.saturating_add.result ≡ at_most_64_bits (12 + c.digits-front.result + n)) c.full.ensures
+    (subst (λ (n : ℕ). c.saturating_add.result ≡ capped (12 + c.digits-front.result + n)) c.full.ensures
     c.saturating_add.ensures) c.saturating_add-2.ensures
-    (subst (λ (n : ℕ). c.saturating_add-3.result ≡ at_most_64_bits (c.saturating_add-2.result + n)) input
+    (subst (λ (n : ℕ). c.saturating_add-3.result ≡ capped (c.saturating_add-2.result + n)) input
     c.saturating_add-3.ensures)
-    (subst (λ (n : ℕ). c.saturating_add-4.result ≡ at_most_64_bits (c.saturating_add-3.result + n)) output
+    (subst (λ (n : ℕ). c.saturating_add-4.result ≡ capped (c.saturating_add-3.result + n)) output
     c.saturating_add-4.ensures))
 
 pub full-requires : goal.full-requires

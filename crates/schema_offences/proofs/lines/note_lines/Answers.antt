@@ -5,20 +5,21 @@ use Rattle.std.proofs.lemmas.List.Sums.{sum_by_more}
 use Rattle.std.proofs.lemmas.Option.{slice_get-get_or}
 use Rattle.mrpc_table.specs.declared.limits.TheConstants.{MAX_TEXT}
 use Rattle.proto_file.specs.declared.file.Span.{Span}
-use Rattle.schema_offences.specs.Lengths.{at_most_64_bits, IsPast}
+use Rattle.mrpc_table.specs.Capped.{capped}
+use Rattle.schema_offences.specs.Lengths.{IsPast}
 use Rattle.schema_offences.specs.declared.reason.ResolveReason.TheVariants.{Limit}
 use Rattle.schema_offences.proofs.Meetings.{meets_when, meets_next, meets_elements}
 use Rattle.schema_offences.proofs.lines.note_lines.Goals as goal
 
 -- a sum that is cut off passes the limit where the sum does
-is_past : (n m : ℕ) → n ≡ at_most_64_bits m → ltb MAX_TEXT n ≡ true → MAX_TEXT < m
+is_past : (n m : ℕ) → n ≡ capped m → ltb MAX_TEXT n ≡ true → MAX_TEXT < m
 is_past n m e t = omega (arith, ltb-true MAX_TEXT n t)
 
-past : (n m : ℕ) → n ≡ at_most_64_bits m → MAX_TEXT < m → ltb MAX_TEXT n ≡ true
+past : (n m : ℕ) → n ≡ capped m → MAX_TEXT < m → ltb MAX_TEXT n ≡ true
 past n m e l = lt-ltb MAX_TEXT n (omega arith)
 
-more : (total n sum all cut : ℕ) → total ≡ at_most_64_bits sum → cut ≡ min (total + n) (2 ^ 64 - 1) → all ≡ sum + n
-    → cut ≡ at_most_64_bits all
+more : (total n sum all cut : ℕ) → total ≡ capped sum → cut ≡ min (total + n) (2 ^ 64 - 1) → all ≡ sum + n
+    → cut ≡ capped all
 more total n sum all cut a b e = omega arith
 
 pub loop-i-preserved : goal.loop-i-preserved
@@ -29,7 +30,7 @@ loop-i-preserved c =
     let x = get_or xs i none in
     let l : i < length xs = c.loop-i-test.true in
     let sum = sum_by (λ (y : Span × ℕ). y.1) (take (i + 1) xs) in
-    let total : c.saturating_add-total.result ≡ at_most_64_bits sum =
+    let total : c.saturating_add-total.result ≡ capped sum =
     more c.loop-i.total x.1 (sum_by (λ (y : Span × ℕ). y.1) (take i xs)) sum c.saturating_add-total.result
     c.loop-i.invariant.total c.saturating_add-total.ensures (sum_by_more (λ (y : Span × ℕ). y.1) xs i none l) in
     record {

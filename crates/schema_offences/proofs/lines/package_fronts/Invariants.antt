@@ -1,11 +1,12 @@
 use Rattle.std.proofs.Common.{◌≡◌, map, take}
 use Rattle.proto_file.specs.declared.joined.Head.{Head}
 use Rattle.proto_file.specs.Joined.{package_parts}
-use Rattle.schema_offences.specs.Lengths.{at_most_64_bits, front_length}
+use Rattle.mrpc_table.specs.Capped.{capped}
+use Rattle.schema_offences.specs.Lengths.{front_length}
 use Rattle.schema_offences.proofs.lines.package_fronts.Given as goal
 
 -- the lengths up to here are kept
 abbrev pub invariant-loop-head : goal.invariant-loop-head
 invariant-loop-head l =
     l.fronts.items
-    ≡ map (λ (h : Head). at_most_64_bits (front_length (package_parts h.package))) (take l.head-index l.heads)
+    ≡ map (λ (h : Head). capped (front_length (package_parts h.package))) (take l.head-index l.heads)

@@ -1,11 +1,11 @@
 use Rattle.proto_file.specs.Joined.{enum_home_of}
-use Rattle.schema_offences.specs.Entries.{HaveNumbers, OfEnum, OfFirst, Adds, entries_of}
+use Rattle.schema_offences.specs.Entries.{HaveNumbers, OfEnum, EntryOfFirst, Adds, entries_of}
 use Rattle.schema_offences.proofs.names.add_enums.Given as goal
 
 -- the enums up to here were added, and have numbers
 abbrev pub invariant-loop-i : goal.invariant-loop-i
 invariant-loop-i l = record {
   numbers : HaveNumbers l.fn.files l.i l.fn.files.enums enum_home_of;
-  names : Adds (OfFirst l.i l.fn.files.enums (OfEnum l.fn.files))
+  names : Adds (EntryOfFirst l.i l.fn.files.enums (OfEnum l.fn.files))
       (entries_of l.initial.names.items) (entries_of l.names.items);
 }

@@ -1,5 +1,5 @@
 use Rattle.proto_file.specs.Joined.{home_of}
-use Rattle.schema_offences.specs.Entries.{HaveNumbers, HaveOwnNumbers, OfMessage, OfFirst, Adds, entries_of}
+use Rattle.schema_offences.specs.Entries.{HaveNumbers, HaveOwnNumbers, OfMessage, EntryOfFirst, Adds, entries_of}
 use Rattle.schema_offences.proofs.names.add_messages.Given as goal
 
 -- the messages up to here were added, and have numbers
@@ -7,6 +7,6 @@ abbrev pub invariant-loop-i : goal.invariant-loop-i
 invariant-loop-i l = record {
   outer : HaveNumbers l.fn.files l.i l.fn.files.messages home_of;
   own : HaveOwnNumbers l.fn.files l.i;
-  names : Adds (OfFirst l.i l.fn.files.messages (OfMessage l.fn.files))
+  names : Adds (EntryOfFirst l.i l.fn.files.messages (OfMessage l.fn.files))
       (entries_of l.initial.names.items) (entries_of l.names.items);
 }

@@ -1,12 +1,12 @@
 use Rattle.proto_file.specs.declared.file.ServiceDecl.{ServiceDecl}
 use Rattle.proto_file.specs.declared.joined.Home.TheVariants as home
-use Rattle.schema_offences.specs.Entries.{HaveNumbers, OfService, OfFirst, Adds, entries_of}
+use Rattle.schema_offences.specs.Entries.{HaveNumbers, OfService, EntryOfFirst, Adds, entries_of}
 use Rattle.schema_offences.proofs.names.add_services.Given as goal
 
 -- the services up to here were added, and have numbers
 abbrev pub invariant-loop-i : goal.invariant-loop-i
 invariant-loop-i l = record {
   numbers : HaveNumbers l.fn.files l.i l.fn.files.services (λ (s : ServiceDecl). home.File s.file);
-  names : Adds (OfFirst l.i l.fn.files.services (OfService l.fn.files))
+  names : Adds (EntryOfFirst l.i l.fn.files.services (OfService l.fn.files))
       (entries_of l.initial.names.items) (entries_of l.names.items);
 }

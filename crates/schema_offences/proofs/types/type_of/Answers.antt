@@ -1,7 +1,7 @@
 use Rattle.std.proofs.Common.{ℕ, List, sym, subst}
 use Rattle.std.specs.Prelude.{Option, MatchOption}
 use Rattle.schema_offences.specs.Types.{IsNoScalar}
-use Rattle.schema_offences.specs.Members.{IsUnknown}
+use Rattle.schema_names.specs.Finding.{NamesNothing}
 use Rattle.schema_offences.specs.Forms.{IsType}
 use Rattle.schema_offences.specs.declared.types.TypeOf.{TypeOf}
 use Rattle.schema_offences.proofs.Scalars.{no_scalar}
@@ -13,7 +13,7 @@ returns-in_err-find-in-None c = λ scope is.
     let file = c.args.file in
     let name = c.args.word.now.name in
     subst
-    (λ (r : Option TypeOf). MatchOption r (IsNoScalar name × IsUnknown F file scope name) (IsType F file scope name))
+    (λ (r : Option TypeOf). MatchOption r (IsNoScalar name × NamesNothing F file scope name) (IsType F file scope name))
     (sym c.from_residual.ensures)
-    (subst (λ (n : List ℕ). IsNoScalar n × IsUnknown F file scope n) c.as_slice-name.ensures
+    (subst (λ (n : List ℕ). IsNoScalar n × NamesNothing F file scope n) c.as_slice-name.ensures
     (no_scalar c.as_slice-name.result.now (sym c.in-None.ensures), c.in_err-find-in-None.ensures scope is))

@@ -1,5 +1,6 @@
 use Rattle.std.proofs.Common.{◌≡◌, ℕ, ◌<◌, ◌≤◌, List, [], Option, Some, ap, length, refl, subst, sym, ◌∙◌}
 use Rattle.std.specs.Prelude.{IfSome}
+use Rattle.mrpc_table.specs.Lines.{IsIn}
 use Rattle.mrpc_table.specs.Valid.{IsValid}
 use Rattle.mrpc_table.specs.declared.limits.TheConstants.{MAX_HEAP, MIN_HEAP}
 use Rattle.mrpc_table.specs.declared.table.Table.{Table}
@@ -13,7 +14,6 @@ use Rattle.deliveries.specs.Arriving.{AreSame}
 use Rattle.deliveries.specs.Telling.{number_ring_of, ring_of}
 use Rattle.deliveries.specs.declared.arrivals.Arrivals.{Arrivals}
 use Rattle.run_plan.specs.Plans.{HasProgram}
-use Rattle.run_plan.specs.Ports.{IsIn}
 use Rattle.service_loop.specs.Delivering.{HaveDelivered}
 use Rattle.service_loop.specs.Rounds.{IsNewShare}
 use Rattle.service_loop.specs.Steps.{KnowTenants}

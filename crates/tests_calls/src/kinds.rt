@@ -1,0 +1,99 @@
+//! The policies of several tests, and the steps that a scene goes through.
+
+ghost use Rattle.mrpc_table.specs.Valid.{IsValid};
+ghost use Rattle.engine_core.specs.Policies.{IsPolicy};
+
+use crate::given::bytes_of;
+use engine_core::Policy;
+use mrpc_table::{Lines, Table};
+use policy_access::read_access;
+use policy_rate::Rate;
+use policy_redact::read_redact;
+use std::alloc::Global;
+use std::process::Abort;
+
+/// The policies that tests attach.
+#[derive(Clone, Copy)]
+pub enum Kind<'a> {
+    /// Rules, and then a default.
+    Access(&'a [&'a [u8]]),
+    /// A call a second, and so many at once, from 1 to 10; what comes short is held.
+    Rate(u64),
+    /// So many calls of the first tenant a second.
+    Quota(u64),
+    /// Calls are counted.
+    Count,
+    /// Fields are cleared.
+    Redact(&'a [&'a [u8]]),
+}
+
+/// What a connection is asked, and what is looked at between.
+#[derive(Clone, Copy)]
+pub enum Step<'a> {
+    /// A value is stored at a place.
+    Store(u64, u64),
+    /// The message at place 2 is accepted so often.
+    Accept(u32),
+    /// A call is turned away, since 64 stand.
+    TurnAway,
+    /// A policy of a kind is attached at a position under a name.
+    Attach(u32, &'a [u8], Kind<'a>),
+    /// The policy of a name is detached.
+    Detach(&'a [u8]),
+    /// A policy of a kind is put into the entry of a name.
+    Upgrade(&'a [u8], Kind<'a>),
+    /// The clock shows a moment.
+    Clock(u64),
+    /// The engine at a position has so many turns.
+    Turn(u32, u32),
+    /// All is judged and sent.
+    Drain,
+    /// The first engine holds the call of a number, which is the first that stands, at a level that is below its cost.
+    Hold(u32, u64),
+    /// One frame was handed over in all, and it is this one.
+    Hand(&'a [u8]),
+}
+
+fn lines_of(rt: &impl Abort, alloc: Global, texts: &[&[u8]]) -> Lines {
+    let mut lines = Lines::new(alloc);
+    for text in texts {
+        lines.push(bytes_of(rt, alloc, text)).expect(rt, "memory");
+    }
+    lines
+}
+
+fn rate_of(rt: &impl Abort, burst: u64) -> Policy
+    ensures { IsPolicy result }
+{
+    assert!(rt; (1..=10).contains(&burst));
+    Policy::Rate(Rate {
+        amount: 1,
+        per: 1000,
+        burst,
+        hold: true,
+    })
+}
+
+/// The policy of a kind.
+pub fn policy_of(rt: &impl Abort, alloc: Global, table: &Table, kind: Kind) -> Policy
+    requires { IsValid table.now }
+    ensures { IsPolicy result }
+{
+    match kind {
+        Kind::Access(texts) => {
+            let lines = lines_of(rt, alloc, texts);
+            Policy::Access(read_access(alloc, &lines, table).expect(rt, "a policy"))
+        }
+        Kind::Rate(burst) => rate_of(rt, burst),
+        Kind::Quota(cap) => Policy::Quota {
+            tenant: 0,
+            per: 1000,
+            cap,
+        },
+        Kind::Count => Policy::Count,
+        Kind::Redact(texts) => {
+            let lines = lines_of(rt, alloc, texts);
+            Policy::Redact(read_redact(alloc, &lines, table).expect(rt, "a policy"))
+        }
+    }
+}
