@@ -1,18 +1,21 @@
 -- What a string of a proto file stands for (Protocol Buffers, proto3 language specification, "String literals"; escapes
 -- as protoc reads them).
-use Rattle.std.specs.Prelude.{ℕ, zero, suc, ◌+◌, ◌-◌, ◌*◌, ◌/◌, ◌%◌, ◌==◌, nat_lt, nat_le, min, Bool, false, ◌&&◌}
-use Rattle.std.specs.Prelude.{if◌then◌else◌, List, [], ◌∷◌, ◌++◌, length, take, drop}
+use Rattle.std.specs.Prelude.{◌≢◌, ℕ, zero, suc, ◌+◌, ◌-◌, ◌*◌, ◌/◌, ◌%◌, ◌==◌, nat_lt, nat_le, min, Bool, false}
+use Rattle.std.specs.Prelude.{◌&&◌, if◌then◌else◌, List, [], ◌∷◌, ◌++◌, length, take, drop}
 use Rattle.std.specs.List.{prefix_len}
 use Rattle.std.specs.Char.{is_digit, digit_char}
 use Rattle.std.specs.Str.Parse.{digits_value}
 use Rattle.proto_tokens.specs.Literals.{is_octal_digit}
 
--- the digits of a base at the front, n at most: how many there are, and what they spell
+-- the digits of a base at the front, n at most: how many there are, what they spell, and the bytes behind them
 abbrev pub few : ℕ → ℕ → List ℕ → ℕ
 few base n bytes = min n (prefix_len (λ c. is_digit c base) bytes)
 
 abbrev pub spelled : ℕ → ℕ → List ℕ → ℕ
 spelled base n bytes = digits_value base (take (few base n bytes) bytes)
+
+abbrev pub behind_digits : ℕ → ℕ → List ℕ → List ℕ
+behind_digits base n bytes = drop (few base n bytes) bytes
 
 -- the UTF-8 bytes of a code point; of a number above the code points, the escape that spells it
 abbrev pub low_six : ℕ → ℕ
@@ -45,23 +48,24 @@ is_low_escape _ = false
 abbrev pub joined : ℕ → ℕ → ℕ
 joined high low = 65536 + ((high - 55296) * 1024 + (low - 56320))
 
--- what stands behind a backslash: the bytes that the escape stands for, and how many bytes it has
+-- an escape, given the bytes behind its backslash: the bytes that it stands for, and those that stand behind it
 pub record Escape : Type 0 where
   pub value : List ℕ
-  pub len : ℕ
+  pub behind : List ℕ
 
 abbrev pub is_pair : ℕ → List ℕ → Bool
 is_pair n behind = is_high n && is_low_escape behind
 
-abbrev pub code_point : ℕ → ℕ → List ℕ → Escape
-code_point n len behind =
+-- the code point n, joined with the second half of a pair where the bytes behind begin with one
+abbrev pub code_point : ℕ → List ℕ → Escape
+code_point n behind =
     if is_pair n behind
-    then record { value = utf8 (joined n (spelled 16 4 (drop 2 behind))); len = len + 6 }
-    else record { value = utf8 n; len = len }
+    then record { value = utf8 (joined n (spelled 16 4 (drop 2 behind))); behind = drop 6 behind }
+    else record { value = utf8 n; behind = behind }
 
 -- `\u` or `\U`, given the number of its digits
 abbrev pub unicode_escape : ℕ → List ℕ → Escape
-unicode_escape most cs = code_point (spelled 16 most cs) (few 16 most cs + 1) (drop (few 16 most cs) cs)
+unicode_escape most cs = code_point (spelled 16 most cs) (behind_digits 16 most cs)
 
 -- `\a`, `\b`, `\f`, `\n`, `\r`, `\t` and `\v` are control bytes; every other byte stands for itself
 abbrev pub simple_value : ℕ → ℕ
@@ -70,24 +74,35 @@ simple_value c =
     else if c == 114 then 13 else if c == 116 then 9 else if c == 118 then 11 else c
 
 unfoldable pub escape_of : List ℕ → Escape
-escape_of [] = record { value = []; len = 0 }
+escape_of [] = record { value = []; behind = [] }
 escape_of (c ∷ cs) =
-    if is_octal_digit c then record { value = spelled 8 3 (c ∷ cs) % 256 ∷ []; len = few 8 3 (c ∷ cs) }
-    else if c == 120 then record { value = spelled 16 2 cs % 256 ∷ []; len = few 16 2 cs + 1 }
+    if is_octal_digit c then record { value = spelled 8 3 (c ∷ cs) % 256 ∷ []; behind = behind_digits 8 3 (c ∷ cs) }
+    else if c == 120 then record { value = spelled 16 2 cs % 256 ∷ []; behind = behind_digits 16 2 cs }
     else if c == 117 then unicode_escape 4 cs
     else if c == 85 then unicode_escape 8 cs
-    else record { value = simple_value c ∷ []; len = 1 }
+    else record { value = simple_value c ∷ []; behind = cs }
 
--- what the bytes between the quotes stand for, up to n bytes and escapes of them
-unfoldable pub value_up_to : ℕ → List ℕ → List ℕ
-value_up_to zero bytes = []
-value_up_to (suc n) [] = []
-value_up_to (suc n) (c ∷ cs) =
-    if c == 92 then (escape_of cs).value ++ value_up_to n (drop (escape_of cs).len cs) else c ∷ value_up_to n cs
+-- what the bytes between the quotes stand for: each byte for itself, but for a backslash, which begins an escape
+pub data StandsFor : List ℕ → List ℕ → Type 0 where
+  nothing : StandsFor [] []
+  itself : (c : ℕ) (rest value : List ℕ) → c ≢ 92 → StandsFor rest value → StandsFor (c ∷ rest) (c ∷ value)
+  escape : (rest value : List ℕ) → StandsFor (escape_of rest).behind value
+      → StandsFor (92 ∷ rest) ((escape_of rest).value ++ value)
+
+-- the same as a function, where the first n bytes still belong to an escape
+unfoldable pub value_behind : ℕ → List ℕ → List ℕ
+value_behind n [] = []
+value_behind (suc n) (c ∷ cs) = value_behind n cs
+value_behind zero (c ∷ cs) =
+    if c == 92 then (escape_of cs).value ++ value_behind (length cs - length (escape_of cs).behind) cs
+    else c ∷ value_behind zero cs
+
+abbrev pub body_value : List ℕ → List ℕ
+body_value body = value_behind zero body
 
 -- the bytes between the quotes
 abbrev pub body_of : List ℕ → List ℕ
 body_of literal = take (length literal - 2) (drop 1 literal)
 
 abbrev pub string_value : List ℕ → List ℕ
-string_value literal = value_up_to (length (body_of literal)) (body_of literal)
+string_value literal = body_value (body_of literal)

@@ -60,9 +60,9 @@ fn comment_end(text: &[u8], at: usize) -> Option<usize>
     }
 }
 
-/// The place behind the blanks and comments from a place on.
+// The place behind the blanks and comments from a place on.
 #[tactic(auto, using(crate::proofs::Walks::between_lemmas))]
-pub fn gap_end(text: &[u8], at: usize) -> usize
+pub(crate) fn gap_end(text: &[u8], at: usize) -> usize
     requires { at ≤ length text.now }
     ensures bound { (at ≤ result) × (result ≤ length text.now) }
     ensures gap { walk between (drop at text.now) ≡ drop result text.now }

@@ -1,6 +1,7 @@
-//! Laws of tokens. These functions do nothing; their clauses hold.
+//! Laws of tokens and of what strings stand for. These functions do nothing; their clauses hold.
 
 ghost use Rattle.std.specs.Prelude.{◌≡◌, ◌≤◌, ℕ, List, length};
+ghost use Rattle.proto_tokens.specs.Strings.{StandsFor, body_value};
 ghost use Rattle.proto_tokens.specs.Tokens.{IsNext, AreTokens};
 ghost use Rattle.proto_tokens.specs.declared.token.Token.{Token};
 
@@ -15,4 +16,10 @@ pub fn one_list()
     ensures some { (text : List ℕ) → (ts : List Token) × AreTokens text 0 ts }
     ensures one { (text : List ℕ) (place : ℕ) (ts us : List Token) → AreTokens text place ts → AreTokens text place us
         → ts ≡ us }
+{}
+
+/// The bytes between the quotes of a string stand for one value, which a function of them gives.
+pub fn one_value()
+    ensures some { (body : List ℕ) → StandsFor body (body_value body) }
+    ensures one { (body value : List ℕ) → StandsFor body value → value ≡ body_value body }
 {}

@@ -13,7 +13,7 @@ mod string;
 mod token;
 mod word;
 
-pub use laws::{one_list, one_token};
+pub use laws::{one_list, one_token, one_value};
 pub use next::next_token;
 pub use string::string_value;
 pub use token::{Kind, Token};

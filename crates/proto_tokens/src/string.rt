@@ -5,7 +5,7 @@ ghost use Rattle.std.specs.List.{prefix_len};
 ghost use Rattle.std.specs.Char.{is_digit, digit_char};
 ghost use Rattle.proto_tokens.specs.Strings.{few, spelled, utf8, low_six, hexadecimal_char, is_high, is_low};
 ghost use Rattle.proto_tokens.specs.Strings.{is_low_escape, is_pair, joined, code_point, unicode_escape, simple_value};
-ghost use Rattle.proto_tokens.specs.Strings.{escape_of, string_value};
+ghost use Rattle.proto_tokens.specs.Strings.{escape_of, StandsFor, body_of, string_value};
 
 use crate::word::{digits_len, is_digit};
 use mrpc_table::{Bytes, Memory, number_capped};
@@ -132,32 +132,34 @@ fn low_half(behind: &[u8]) -> u32
     }
 }
 
-// Appends the bytes of the code point that `\u` or `\U` and `len - 1` digits spell, with the second half of a pair
-// where the bytes behind begin with one. Gives the number of bytes of the escape.
-fn push_code_point(out: &mut Bytes, number: u32, len: usize, behind: &[u8]) -> Result<usize, Memory>
-    requires { len + length behind.now < 2 ^ 63 }
-    ensures value { OnOk result (out.new ≡ out.old ++ (code_point number len behind.now).value) }
-    ensures len { IfOk result (λ n. n ≡ (code_point number len behind.now).len) }
+// Appends the bytes of a code point, joined with the second half of a pair where the bytes behind begin with one.
+// Gives how many of these belong to it.
+fn push_code_point(out: &mut Bytes, number: u32, behind: &[u8]) -> Result<usize, Memory>
+    ensures value { OnOk result (out.new ≡ out.old ++ (code_point number behind.now).value) }
+    ensures rest { IfOk result (λ n. drop n behind.now ≡ (code_point number behind.now).behind) }
+    ensures bound { IfOk result (λ n. n ≤ length behind.now) }
 {
     if is_pair(number, behind) {
         let low = low_half(behind);
         push_utf8(out, 65536 + ((number - 55296) * 1024 + (low - 56320)))?;
-        Ok(len + 6)
+        Ok(6)
     } else {
         push_utf8(out, number)?;
-        Ok(len)
+        Ok(0)
     }
 }
 
-// Appends what `\u` or `\U` stands for, given the number of its digits.
+// Appends what `\u` or `\U` stands for, given the number of its digits. Gives how many bytes belong to it.
 fn push_unicode(out: &mut Bytes, digits: &[u8], most: usize) -> Result<usize, Memory>
     requires small { length digits.now < 2 ^ 62 }
     requires most { most ≤ 8 }
     ensures value { OnOk result (out.new ≡ out.old ++ (unicode_escape most digits.now).value) }
-    ensures len { IfOk result (λ n. n ≡ (unicode_escape most digits.now).len) }
+    ensures rest { IfOk result (λ n. drop n digits.now ≡ (unicode_escape most digits.now).behind) }
+    ensures bound { IfOk result (λ n. n ≤ length digits.now) }
 {
     let len = few(digits, 16, most);
-    push_code_point(out, spelled(digits, 16, most), len + 1, &digits[len..])
+    let more = push_code_point(out, spelled(digits, 16, most), &digits[len..])?;
+    Ok(len + more)
 }
 
 fn simple_value(byte: u8) -> u8
@@ -180,7 +182,8 @@ fn simple_value(byte: u8) -> u8
 fn push_escape(out: &mut Bytes, behind: &[u8]) -> Result<usize, Memory>
     requires { length behind.now < 2 ^ 62 }
     ensures value { OnOk result (out.new ≡ out.old ++ (escape_of behind.now).value) }
-    ensures len { IfOk result (λ n. n ≡ (escape_of behind.now).len) }
+    ensures rest { IfOk result (λ n. drop n behind.now ≡ (escape_of behind.now).behind) }
+    ensures bound { IfOk result (λ n. n ≤ length behind.now) }
 {
     let [first, digits @ ..] = behind else {
         return Ok(0);
@@ -192,9 +195,9 @@ fn push_escape(out: &mut Bytes, behind: &[u8]) -> Result<usize, Memory>
         out.push((spelled(digits, 16, 2) % 256) as u8)?;
         Ok(few(digits, 16, 2) + 1)
     } else if *first == b'u' {
-        push_unicode(out, digits, 4)
+        Ok(1 + push_unicode(out, digits, 4)?)
     } else if *first == b'U' {
-        push_unicode(out, digits, 8)
+        Ok(1 + push_unicode(out, digits, 8)?)
     } else {
         out.push(simple_value(*first))?;
         Ok(1)
@@ -205,7 +208,8 @@ fn push_escape(out: &mut Bytes, behind: &[u8]) -> Result<usize, Memory>
 pub fn string_value(alloc: Global, literal: &[u8]) -> Result<Bytes, Memory>
     requires two { 2 ≤ length literal.now }
     requires small { length literal.now < 2 ^ 62 }
-    ensures { IfOk result (λ value. value ≡ string_value literal.now) }
+    ensures stands_for { IfOk result (λ value. StandsFor (body_of literal.now) value) }
+    ensures value { IfOk result (λ value. value ≡ string_value literal.now) }
 {
     let body = &literal[1..literal.len() - 1];
     let mut out = Bytes::with_room(alloc, body.len())?;

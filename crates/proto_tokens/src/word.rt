@@ -15,9 +15,9 @@ ghost use Rattle.proto_tokens.specs.Scanning.{begins_number, mark_at, number_at,
 use crate::token::Kind;
 use mrpc_table::{decimal_of, digit_value, is_name_byte, is_name_start};
 
-/// A token that was scanned at the front of bytes: its sort and how many bytes it has.
+// A token that was scanned at the front of bytes: its sort and how many bytes it has.
 #[derive(Clone, Copy)]
-pub struct Scanned {
+pub(crate) struct Scanned {
     pub kind: Kind,
     pub len: usize,
 }
@@ -33,15 +33,15 @@ fn name_len(bytes: &[u8]) -> usize
     i
 }
 
-/// Whether a byte is a digit of a base.
-pub fn is_digit(byte: u8, base: u8) -> bool
+// Whether a byte is a digit of a base.
+pub(crate) fn is_digit(byte: u8, base: u8) -> bool
     ensures { result ≡ is_digit byte base }
 {
     digit_value(byte) < base
 }
 
-/// How many digits of a base stand at the front.
-pub fn digits_len(bytes: &[u8], base: u8) -> usize
+// How many digits of a base stand at the front.
+pub(crate) fn digits_len(bytes: &[u8], base: u8) -> usize
     ensures value { result ≡ prefix_len (λ c. is_digit c base) bytes.now }
     ensures bound { result ≤ length bytes.now }
 {
@@ -313,9 +313,9 @@ fn is_quote(byte: u8) -> bool
     byte == b'"' || byte == b'\''
 }
 
-/// The token at the front of bytes, if one stands there. It takes time in proportion to the token.
+// The token at the front of bytes, if one stands there. It takes time in proportion to the token.
 #[tactic(auto, unfolding(crate::specs::Scanning::word_at))]
-pub fn word_at(bytes: &[u8]) -> Option<Scanned>
+pub(crate) fn word_at(bytes: &[u8]) -> Option<Scanned>
     requires { length bytes.now < 2 ^ 63 }
     ensures value { result ≡ word_at bytes.now }
     ensures bound { IfSome result (λ w. w.len ≤ length bytes.now) }
