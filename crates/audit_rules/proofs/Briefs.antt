@@ -16,7 +16,7 @@ use Rattle.call_history.specs.declared.happening.Taken.{Taken}
 use Rattle.call_history.specs.declared.happening.TookCopy.{TookCopy}
 use Rattle.call_history.specs.declared.happening.TookCopy.TheVariants.{Copy, Malformed}
 use Rattle.audit_rules.specs.First.{BreaksFirst}
-use Rattle.audit_rules.specs.Knowing.{IsFree, Knows, LeavesOpen, Owns, under}
+use Rattle.audit_rules.specs.Knowing.{Knows, LeavesOpen, Owns, under}
 use Rattle.audit_rules.specs.Sorts.{IsOfCall, first_of, is_nothing, is_waiting, own_rule}
 use Rattle.audit_rules.specs.declared.checker.Checker.{Checker}
 use Rattle.audit_rules.specs.declared.left.Left.{Left}
@@ -76,11 +76,6 @@ behind-drawn [] what none = tt
 behind-drawn (Drawn seq name window ticket ∷ past) what none = λ policy cap is_policy is_cap more.
     absurd (none (record { policy = policy; cap = cap; is_policy = is_policy; is_cap = is_cap; over = λ less. omega (arith, more, less) }))
 behind-drawn (_ ∷ past) what none = tt
-
-pub free-left : (left : Left) → is_waiting left ≡ false → IsFree left
-free-left lefts.Nothing is = tt
-free-left (lefts.Waits seq) is = absurd cc
-free-left (lefts.Over seq at ticket cap) is = tt
 
 malformed : (past : Behind) (what : Happening) (left : Left) → IsOfCall what → LeavesOpen past left → is_waiting left ≡ false → RefusesMalformed past what
 malformed past what lefts.Nothing of opened free = behind-malformed past what of opened.0

@@ -1,11 +1,11 @@
--- What a moment makes of engines.
+-- Items of a list that are changed one after another, and engines that were lent.
 use Rattle.std.proofs.Common.{◌≡◌, ℕ, ◌+◌, ◌-◌, ◌<◌, max, List, [], ◌∷◌, ◌++◌, length, take, drop, set, get_or, map, ap, sym, ◌∙◌, arith, get_or-drop}
 use Rattle.std.proofs.lemmas.List.{drop-drop, drop-set-lt, map_more, take_at, take_more_set}
 use Rattle.engine_core.specs.Chains.{Entry}
 use Rattle.engine_core.specs.Engines.{EngineParts, clocked}
 use Rattle.engine_core.specs.Policies.{level_at}
 
--- ---- one engine more
+-- ---- one item more
 
 same-item : {X : Type 0} (xs ys : List X) (i : ℕ) (d : X) → drop i xs ≡ drop i ys → get_or xs i d ≡ get_or ys i d
 same-item {X = X} xs ys i d e =
@@ -24,13 +24,6 @@ pub others-one-more : {X : Type 0} (items init : List X) (i : ℕ) (y : X) → d
     → drop (i + 1) (set items i y) ≡ drop (i + 1) init
 others-one-more {X = X} items init i y others =
     drop-set-lt (i + 1) items i y (omega arith) ∙ (sym (drop-drop 1 i items) ∙ (ap (λ (zs : List X). drop 1 zs) others ∙ drop-drop 1 i init))
-
-pub shown-is : (now : ℕ) (e e' : EngineParts) → e'.entry ≡ e.entry → e'.level ≡ level_at e.entry.policy e.level (now - e.last)
-    → e'.last ≡ max e.last now → e' ≡ clocked now e
-shown-is now e e' entry level last =
-    ap {B = EngineParts} (λ (x : Entry). record { entry = x; level = e'.level; last = e'.last }) entry
-    ∙ (ap {B = EngineParts} (λ (l : ℕ). record { entry = e.entry; level = l; last = e'.last }) level
-    ∙ ap {B = EngineParts} (λ (m : ℕ). record { entry = e.entry; level = level_at e.entry.policy e.level (now - e.last); last = m }) last)
 
 -- engines that were lent, as they are written back
 pub written-back : {X : Type 0} (es new : List X) (n : ℕ) → length new ≡ length es → length es ≡ n → take n (new ++ drop (length new) es) ≡ new

@@ -83,11 +83,6 @@ refusal-same (Over ticket cap) (Denied s) is = absurd cc
 refusal-same (Over ticket cap) (Short l c) is = absurd cc
 refusal-same (Over ticket cap) (Over t k) is = cc
 
-refusal-alone : (why : Why) (a : Answer) → a ≡ refusal why → ((n : Noted) → a ≢ note n) × (ticket_in a ≡ None)
-refusal-alone (Denied rule) a is = (λ n other. cc, ap ticket_in is)
-refusal-alone (Short level cost) a is = (λ n other. cc, ap ticket_in is)
-refusal-alone (Over ticket cap) a is = (λ n other. cc, ap ticket_in is)
-
 pub refusal-ticket : (why : Why) → ticket_in (refusal why) ≡ None
 refusal-ticket (Denied rule) = refl
 refusal-ticket (Short level cost) = refl

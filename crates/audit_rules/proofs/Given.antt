@@ -1,7 +1,6 @@
 -- A ticket that was drawn elsewhere is given in each draw.
-use Rattle.std.proofs.Common.{◌≡◌, ◌≢◌, ℕ, ◌==◌, Bool, true, false, List, [], ◌∷◌, ◌++◌, ◌⊎◌, All, Contains, inl, inr, refl, ap, sym, ◌∙◌, subst}
+use Rattle.std.proofs.Common.{◌≡◌, ℕ, ◌==◌, Bool, true, false, List, [], ◌∷◌, ◌++◌, All, Contains, refl, ap, sym, ◌∙◌, subst}
 use Rattle.std.specs.Prelude.{Some}
-use Rattle.std.proofs.lemmas.Bool.{eq-eqb, ne_eqb}
 use Rattle.std.proofs.lemmas.List.Elements.{All-contains, All-nil, All-push, Contains-push}
 use Rattle.engine_core.specs.Answers.{Answers, Past, note, allows, denies, was_charged, charges, holds, refuses, is_within, is_over, draws, was_counted, counts, is_clear, redacts}
 use Rattle.mrpc_table.specs.declared.call.Call.{Call}
@@ -19,26 +18,6 @@ use Rattle.engine_core.specs.declared.policy.Policy.{Policy}
 use Rattle.engine_core.specs.declared.policy.Policy.TheVariants.{Access, Rate, Quota, Count, Redact}
 use Rattle.audit_rules.specs.Given.{tickets_in, with_own}
 use Rattle.audit_rules.specs.declared.prepared.Prepared.{Prepared}
-
--- a draw adds the ticket in its own window
-pub own-draw : (ticket tenant window : ℕ) (list : List (ℕ × ℕ))
-    → tickets_in ticket ((tenant, window) ∷ list) tenant window ≡ tickets_in ticket list tenant window ++ ticket ∷ []
-own-draw ticket tenant window list =
-    ap (λ (b : Bool). with_own b (window == window) ticket (tickets_in ticket list tenant window)) (eq-eqb tenant tenant refl)
-    ∙ ap (λ (b : Bool). with_own true b ticket (tickets_in ticket list tenant window)) (eq-eqb window window refl)
-
-no-other : (b : Bool) (ticket : ℕ) (tickets : List ℕ) → with_own b false ticket tickets ≡ tickets
-no-other true ticket tickets = refl
-no-other false ticket tickets = refl
-
--- and none in another
-pub other-draw : (ticket tenant window t w : ℕ) (list : List (ℕ × ℕ)) → (t ≢ tenant) ⊎ (w ≢ window)
-    → tickets_in ticket ((tenant, window) ∷ list) t w ≡ tickets_in ticket list t w
-other-draw ticket tenant window t w list (inl other) =
-    ap (λ (b : Bool). with_own b (window == w) ticket (tickets_in ticket list t w)) (ne_eqb tenant t (λ same. other (sym same)))
-other-draw ticket tenant window t w list (inr other) =
-    ap (λ (b : Bool). with_own (tenant == t) b ticket (tickets_in ticket list t w)) (ne_eqb window w (λ same. other (sym same)))
-    ∙ no-other (tenant == t) ticket (tickets_in ticket list t w)
 
 all-with : (b c : Bool) (ticket : ℕ) (tickets : List ℕ) → All (λ t. t ≡ ticket) tickets → All (λ t. t ≡ ticket) (with_own b c ticket tickets)
 all-with true true ticket tickets all = All-push (λ t. t ≡ ticket) tickets ticket all refl

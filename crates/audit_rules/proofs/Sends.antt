@@ -62,12 +62,3 @@ module _ (u : Under) (past : Behind) (n seq bytes at : ℕ) (es : List EnginePar
 
 pub passes-all : (u : Under) (past : Behind) (seq bytes at : ℕ) → IsSentNext u past seq bytes → LetsAll u past seq at
 passes-all u past seq bytes at sent = All-take (Lets u past seq) at (chain past).entries sent.let_pass
-
--- a call that isn't the first isn't sent
-pub sent-first : (u : Under) (past : Behind) (seq bytes : ℕ) (calls : List StandingCall) → seqs_of calls ≡ map (λ call. call.seq) (standing past)
-    → IsSentNext u past seq bytes → slice_get (seqs_of calls) 0 ≡ Some seq
-sent-first u past seq bytes calls stands sent =
-    stands-first
-  where
-    stands-first : slice_get (seqs_of calls) 0 ≡ Some seq
-    stands-first = ap (λ (ns : List ℕ). slice_get ns 0) (stands ∙ ap (map (λ (call : Taken). call.seq)) sent.first) ∙ ap (λ (k : ℕ). Some k) sent.number

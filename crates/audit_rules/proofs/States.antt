@@ -110,14 +110,6 @@ not-left past what (Over seq at ticket cap) opened malformed drawn other =
     let refuses : RefusesDrawn (Drawn seq opened.0.name opened.1 ticket ∷ opened.2) what = subst (λ (p : Behind). RefusesDrawn p what) opened.3 drawn in
     absurd (other seq (cause.Quota opened.0.name ticket cap) (refuses opened.6.0 cap opened.6.1 opened.6.2 opened.4))
 
-pub is-free : (past : Behind) (what : Happening) (left : Left) → LeavesOpen past left → RefusesMalformed past what
-    → ((seq : ℕ) → what ≡ Refused seq cause.Malformed → ⊥) → IsFree left
-is-free past what Nothing opened malformed other = tt
-is-free past what (Waits seq) opened malformed other =
-    let at : RefusesMalformed (Took opened.0 ∷ opened.1) what = subst (λ (p : Behind). RefusesMalformed p what) opened.2 malformed in
-    other opened.0.seq (at-once opened.0.copy opened.0.seq what opened.3 at)
-is-free past what (Over seq at ticket cap) opened malformed other = tt
-
 -- ---- a moment
 
 shown-entries : (now : ℕ) (es : List EngineParts) → map (λ e. e.entry) (map (λ e. clocked now e) es) ≡ map (λ e. e.entry) es

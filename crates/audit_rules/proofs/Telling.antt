@@ -27,10 +27,6 @@ use Rattle.audit_rules.proofs.Known.{known-standing, unmap-at}
 
 -- ---- the lowest position
 
-pub lowest-end : (ps : List ℕ) → lowest ps ≤ MAX_ENGINES
-lowest-end [] = omega arith
-lowest-end (p ∷ ps) = omega (arith, lowest-end ps)
-
 pub all-lowest : (ps : List ℕ) (q : ℕ) → q ≤ lowest ps → All (λ p. q ≤ p) ps
 all-lowest [] q le = All-nil (λ p. q ≤ p)
 all-lowest (p ∷ ps) q le = All-cons (λ p. q ≤ p) p ps (omega arith) (all-lowest ps q (omega arith))
@@ -56,10 +52,6 @@ below-lowest (p ∷ ps) q few all =
 pub lowest-push : (ps : List ℕ) (q : ℕ) → q ≤ lowest ps → lowest (ps ++ q ∷ []) ≡ q
 lowest-push [] q le = omega arith
 lowest-push (p ∷ ps) q le = omega (arith, lowest-push ps q (omega arith))
-
-no-positions : (ps : List ℕ) (q : ℕ) → length ps ≡ 0 → All (λ p. q < p) ps
-no-positions [] q none = All-nil (λ p. q < p)
-no-positions (p ∷ ps) q none = absurd (omega arith)
 
 pub first-there : (ps : List ℕ) (q : ℕ) → q ≤ lowest ps → (0 < length ps → q ≢ lowest ps) → All (λ p. q < p) ps
 first-there [] q le other = All-nil (λ p. q < p)

@@ -16,16 +16,15 @@ ghost use Rattle.call_history.specs.Ties.{AreNumbersApart, AreTied};
 ghost use Rattle.audit_rules.specs.Asking.{IsAsked, IsRising, IsRowBehind, LetsAll, answer_of};
 
 use crate::drawn::Draws;
-use crate::engines::place_named;
 use crate::prepared::Prepared;
 use call_history::{chain_goes_on, ties_go_on};
-use engine_core::{CallRow, Engine, Noted, Outcome, one_answer};
+use engine_core::{CallRow, Engine, Noted, Outcome, one_answer, place_named};
 use mrpc_table::Table;
 use std::collections::VecDeque;
 
 // A call that stands, the entry of a name at which it is, and how a turn of that entry comes out for it.
 #[derive(Clone, Copy)]
-pub struct Asked {
+pub(crate) struct Asked {
     pub place: usize,
     pub at: usize,
     pub outcome: Outcome,
@@ -97,7 +96,7 @@ pub(crate) fn work(
 {
     let draws = Draws::new();
     let mut prepared = Prepared { ticket, draws };
-    calls.work(place, engines, at, table, now, &mut prepared)
+    calls.work(place, engines, at, table, now, &mut prepared, false)
 }
 
 // Whether every engine before a position lets the call at a place pass. Those before `from` are known to.

@@ -14,9 +14,9 @@ ghost use Rattle.audit_rules.specs.Knowing.{IsKnowing};
 ghost use Rattle.audit_rules.specs.Knowing.{IsStep, Knows, under};
 
 use crate::checker::Checker;
-use crate::engines::{lower, place_of, put};
+use crate::reached::lower;
 use call_history::{chain_goes_on, ties_go_on};
-use engine_core::{Engine, MAX_ENGINES, Op, Policy, change_is_changed};
+use engine_core::{Engine, MAX_ENGINES, Op, Policy, change_is_changed, place_of, put};
 use mrpc_table::Name;
 
 impl Checker {

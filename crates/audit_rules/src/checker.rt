@@ -21,12 +21,11 @@ ghost use Rattle.audit_rules.specs.Sorts.{first_of, own_rule};
 ghost use Rattle.audit_rules.specs.declared.left.Left.TheVariants.{Nothing};
 
 use crate::ask::seq_at;
-use crate::engines::clock_all;
 use crate::left::Left;
 use crate::rule::Rule;
 use crate::sorts::{is_copy_by, is_over, is_quiet, malformed_in, transport_in};
 use call_history::{Happening, Taken, TookCopy, forms_go_on, standing_goes_on, ties_go_on};
-use engine_core::{CallRow, Engine, MAX_CALLS, MAX_ENGINES, Noted, Op, Standing};
+use engine_core::{CallRow, Engine, MAX_CALLS, MAX_ENGINES, Noted, Op, Standing, clock_all};
 use mrpc_table::{Call, Memory, Table};
 use std::alloc::Global;
 use std::collections::VecDeque;

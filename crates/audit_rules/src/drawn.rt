@@ -7,14 +7,14 @@ use std::marker::Model;
 
 // A draw in a window of a tenant.
 #[derive(Clone, Copy)]
-pub struct Draw {
+pub(crate) struct Draw {
     pub tenant: u32,
     pub window: u64,
 }
 
 // The tenant and the window of each draw, the last one first.
 #[derive(Drop)]
-pub struct Draws {
+pub(crate) struct Draws {
     pub ghost list: { List (ℕ × ℕ) },
 }
 

@@ -7,7 +7,7 @@ use mrpc_base::Tickets;
 
 // Gives a ticket that an audit tells, in each draw the same one.
 #[derive(Drop)]
-pub struct Prepared {
+pub(crate) struct Prepared {
     pub ticket: u64,
     pub draws: Draws,
 }

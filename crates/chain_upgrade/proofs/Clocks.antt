@@ -1,19 +1,18 @@
 -- What a moment makes of engines.
-use Rattle.std.proofs.Common.{◌≡◌, ℕ, ◌+◌, ◌-◌, ◌<◌, max, zero, suc, List, [], ◌∷◌, ◌++◌, length, take, drop, set}
+use Rattle.std.proofs.Common.{◌≡◌, ℕ, ◌+◌, ◌<◌, max, zero, suc, List, [], ◌∷◌, ◌++◌, length, take, drop, set}
 use Rattle.std.proofs.Common.{get_or, map, slice_get, All, Some, refl, ap, sym, ◌∙◌, subst, arith, get_or-drop}
 use Rattle.std.proofs.lemmas.List.{drop-drop, drop-set-lt, length-map, map_more, take_at, take_more_set}
 use Rattle.std.proofs.lemmas.List.Elements.{All-map}
 use Rattle.policy_rate.specs.Level.{BucketHappening, moment}
 use Rattle.policy_rate.specs.declared.rate.Rate.{Rate as RatePolicy}
-use Rattle.engine_core.specs.Chains.{Entry}
 use Rattle.engine_core.specs.Engines.{EngineParts, HasPast, clocked}
 use Rattle.engine_core.specs.Marks.{IsTrueFor, StandingCall}
-use Rattle.engine_core.specs.Policies.{IsPolicy, level_at}
+use Rattle.engine_core.specs.Policies.{IsPolicy}
 use Rattle.chain_upgrade.specs.Chains.{StandsOn}
 use Rattle.chain_upgrade.specs.Kept.{IsKept}
 use Rattle.chain_upgrade.proofs.KeepLaws.{short-more}
 
--- ---- one engine more
+-- ---- one item more
 
 same-item : {X : Type 0} (xs ys : List X) (i : ℕ) (d : X) → drop i xs ≡ drop i ys → get_or xs i d ≡ get_or ys i d
 same-item {X = X} xs ys i d e =
@@ -32,13 +31,6 @@ pub others-one-more : {X : Type 0} (items init : List X) (i : ℕ) (y : X) → d
     → drop (i + 1) (set items i y) ≡ drop (i + 1) init
 others-one-more {X = X} items init i y others =
     drop-set-lt (i + 1) items i y (omega arith) ∙ (sym (drop-drop 1 i items) ∙ (ap (λ (zs : List X). drop 1 zs) others ∙ drop-drop 1 i init))
-
-pub clocked-is : (now : ℕ) (e e' : EngineParts) → e'.entry ≡ e.entry → e'.level ≡ level_at e.entry.policy e.level (now - e.last)
-    → e'.last ≡ max e.last now → e' ≡ clocked now e
-clocked-is now e e' entry level last =
-    ap {B = EngineParts} (λ (x : Entry). record { entry = x; level = e'.level; last = e'.last }) entry
-    ∙ (ap {B = EngineParts} (λ (l : ℕ). record { entry = e.entry; level = l; last = e'.last }) level
-    ∙ ap {B = EngineParts} (λ (m : ℕ). record { entry = e.entry; level = level_at e.entry.policy e.level (now - e.last); last = m }) last)
 
 -- the engines behind the loop, as they are written back
 pub written-back : (now : ℕ) (es lent new : List EngineParts) (n : ℕ) → new ≡ map (λ e. clocked now e) lent → lent ≡ es → length es ≡ n

@@ -3,6 +3,7 @@ mod Clocks
 mod CutLaws
 mod KeepLaws
 mod Keeping
+mod MarksLeft
 mod Named
 mod Reading
 mod RowLaws

@@ -103,7 +103,7 @@ pub record HasTurn (before : ChainParts) (position moment seq : ℕ) (outcome : 
   -- the turn is that of an entry of which the marks say what was noted
   pub comes : ComesOut engine.entry.policy engine.level moment call.call
       (past_of call.marks engine.entry.attach) outcome
-  -- the call as the engine meets it, with its marks of the chain's engines
+  -- the call as the engine meets it, with its marks of the chain's engines alone
   pub met : StandingCall
   pub keeps : KeepsMarksOf before.engines call met
   pub turn : IsTurn engine moment met outcome

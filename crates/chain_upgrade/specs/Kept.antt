@@ -1,7 +1,8 @@
 -- What holds of a chain's own fields: the code's own. No public clause cites this module.
-use Rattle.std.specs.Prelude.{ℕ, ◌≤◌, List, length, remove}
+use Rattle.std.specs.Prelude.{ℕ, zero, suc, ◌≤◌, List, [], ◌∷◌, length, remove}
 use Rattle.engine_core.specs.Engines.{EngineParts}
 use Rattle.engine_core.specs.Marks.{StandingCall}
+use Rattle.engine_core.specs.Working.{HasMarksOf}
 use Rattle.engine_core.specs.declared.outcome.Outcome.{Outcome}
 use Rattle.engine_core.specs.declared.outcome.Outcome.TheVariants as outcomes
 use Rattle.chain_upgrade.specs.declared.turned.Turned.{Turned}
@@ -16,6 +17,12 @@ pub record IsKept (engines : List EngineParts) (room attached : ℕ) (calls : Li
   pub short : IsShort (length engines) cuts
   -- the engines have room for eight
   pub room_for : 8 ≤ room
+
+-- of the calls of a row all but so many, the first ones, have marks of these engines alone
+abbrev pub RestHasMarksOf : List EngineParts → ℕ → List StandingCall → Type 0
+RestHasMarksOf engines first [] = Unit {0}
+RestHasMarksOf engines zero (s ∷ calls) = HasMarksOf engines s × RestHasMarksOf engines zero calls
+RestHasMarksOf engines (suc first) (s ∷ calls) = RestHasMarksOf engines first calls
 
 -- the calls after a turn of the one at a place: a refused one is gone
 abbrev pub calls_left : Outcome → ℕ → List StandingCall → List StandingCall

@@ -5,13 +5,13 @@ ghost use Rattle.std.specs.Bool.{OnFalse, OnTrue};
 ghost use Rattle.mrpc_table.specs.Calls.{IsCallOf};
 ghost use Rattle.engine_core.specs.declared.op.Op.{Op};
 
-use crate::cuts::Cuts;
-use crate::engines::{clock_all, may_attach, place_of, put};
+use crate::attaching::may_attach;
+use crate::cuts::{Cuts, without};
 use crate::fault::{ChainFault, PushFault};
 use crate::turned::Turned;
 use engine_core::{
     CallRow, Engine, MAX_CALLS, MAX_ENGINES, Noted, Outcome, Policy, Standing, change_is_changed,
-    stays_chain, unmarked_is_true,
+    clock_all, place_of, put, stays_chain, unmarked_is_true,
 };
 use mrpc_base::Tickets;
 use mrpc_table::{Memory, Name, Table};
@@ -25,6 +25,8 @@ pub struct Chain {
     attached: u32,
     row: CallRow,
     cuts: Cuts,
+    // How many calls, the first of the row, may have marks of engines that left: those that stood when one left last.
+    stale: u32,
 }
 
 impl Model for Chain {
@@ -32,7 +34,7 @@ impl Model for Chain {
     ghost use Rattle.engine_core.specs.Marks.{seqs_of};
     ghost use Rattle.chain_upgrade.specs.Chains.{ChainParts};
     ghost use Rattle.chain_upgrade.specs.Cuts.{row_from};
-    ghost use Rattle.chain_upgrade.specs.Kept.{IsKept};
+    ghost use Rattle.chain_upgrade.specs.Kept.{RestHasMarksOf, IsKept};
 
     ghost Value = { ChainParts };
 
@@ -48,7 +50,8 @@ impl Model for Chain {
       row = row_from 0 c.cuts.behind (seqs_of c.row);
     } };
 
-    ghost invariant = { λ c. IsKept c.engines.items (vec_capacity c.engines) c.attached c.row c.cuts.behind };
+    ghost invariant = { λ c. IsKept c.engines.items (vec_capacity c.engines) c.attached c.row c.cuts.behind
+        × RestHasMarksOf c.engines.items c.stale c.row };
 }
 
 impl Chain {
@@ -78,6 +81,7 @@ impl Chain {
             attached: 0,
             row: CallRow::open(alloc)?,
             cuts: Cuts::new(),
+            stale: 0,
         })
     }
 
@@ -166,6 +170,7 @@ impl Chain {
             return None;
         }
         self.cuts.take_out(0);
+        self.stale = without(self.stale, 0);
         Some(self.row.take(0))
     }
 
@@ -174,6 +179,7 @@ impl Chain {
         ensures { self.new ≡ record self.old { calls = []; row = [] } }
     {
         self.cuts.lower_to(0);
+        self.stale = 0;
         self.row.clear();
     }
 
@@ -289,6 +295,7 @@ impl Chain {
         };
         let _ = self.engines.remove(place);
         self.cuts.close_up(place);
+        self.stale = self.row.len() as u32;
         Ok(())
     }
 
@@ -336,8 +343,8 @@ impl Chain {
     // ---- turns
 
     /// Has the first call at a position go on where it passes the engine there and nothing is to be noted of it, which is a
-    /// turn. Where it answers false all is as before, and a turn decides: so it is with a call whose mark would find no
-    /// room, and at each quota and redact, which look at a call anew each time.
+    /// turn. Where it answers false all is as before, and a turn decides: so it is with a call that stood when an engine
+    /// left, and at each quota and redact, which look at a call anew each time.
     pub fn pass_unnoted(&mut self, at: u32, table: &Table) -> bool
         requires at { at < length self.old.engines }
         requires calls { All (λ s. IsCallOf table.now s.call) self.old.calls }
@@ -355,8 +362,8 @@ impl Chain {
         true
     }
 
-    /// The engine at a position has a turn with the first call there. Where the call has no room for a mark of the engine,
-    /// those of engines that have left are taken away first. It takes no memory.
+    /// The engine at a position has a turn with the first call there, whose marks of engines that have left are taken away
+    /// first. It takes no memory.
     pub fn turn<Q: Tickets>(&mut self, at: u32, table: &Table, now: u64, tickets: &mut Q) -> Turned
         requires at { at < length self.old.engines }
         requires calls { All (λ s. IsCallOf table.now s.call) self.old.calls }
@@ -409,12 +416,15 @@ impl Chain {
         ensures attached { self.new.attached ≡ self.old.attached }
         ensures row { self.new.row ≡ self.old.row }
     {
+        if place < self.stale {
+            return false;
+        }
         let engines = self.engines.as_slice();
         self.row
             .pass_unnoted(place as usize, engines, at as usize, table)
     }
 
-    // The engine at a position works on the call at a place.
+    // The engine at a position works on the call at a place, whose marks of engines that have left are taken away first.
     fn work<Q: Tickets>(
         &mut self,
         place: u32,
@@ -433,6 +443,7 @@ impl Chain {
         ensures tickets { (e : EngineParts) → slice_get self.old.engines at ≡ Some e
             → LeavesTickets Q.knows Q.drawn Q.since e.entry.policy (noted_in result) tickets.old tickets.new }
     {
+        let alone = place >= self.stale;
         self.row.work(
             place as usize,
             self.engines.as_mut_slice(),
@@ -440,6 +451,7 @@ impl Chain {
             table,
             now,
             tickets,
+            alone,
         )
     }
 
@@ -459,6 +471,7 @@ impl Chain {
             Outcome::Held { .. } => {}
             Outcome::Refused(..) => {
                 self.cuts.take_out(place);
+                self.stale = without(self.stale, place);
                 self.row.drop_at(place as usize);
             }
             Outcome::Redacted => self.cuts.lower_to(place),

@@ -5,9 +5,9 @@ ghost use Rattle.chain_upgrade.specs.Cuts.{position_at, zeroed, closed_up, raise
 
 use engine_core::MAX_ENGINES;
 
-/// The cuts of positions 1 to 8: how many calls of the row stand at a position or later. They never rise.
+// The cuts of positions 1 to 8: how many calls of the row stand at a position or later. They never rise.
 #[derive(Clone, Copy)]
-pub struct Cuts {
+pub(crate) struct Cuts {
     pub behind: [u32; MAX_ENGINES],
 }
 
@@ -79,8 +79,8 @@ impl Cuts {
     }
 }
 
-// A cut without the call at a place.
-fn without(cut: u32, place: u32) -> u32
+// How many of the first calls of a row are left of so many, without the call at a place.
+pub(crate) fn without(cut: u32, place: u32) -> u32
     ensures { result ≡ max (min cut place) (cut - 1) }
 {
     if cut > place { cut - 1 } else { cut }

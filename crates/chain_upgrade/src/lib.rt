@@ -8,9 +8,9 @@
 //! (`IsStandingChain`).
 #![tactic(auto)]
 
+mod attaching;
 mod chain;
 mod cuts;
-mod engines;
 mod fault;
 mod turned;
 

@@ -1,10 +1,10 @@
 -- The marks that are left of a call where those of some engines are kept.
-use Rattle.std.proofs.Common.{◌≡◌, ◌≢◌, ℕ, ◌+◌, ◌≤◌, ◌<◌, ◌==◌, Bool, true, false, not, ◌||◌, List, [], ◌∷◌, ◌++◌, filter, length}
-use Rattle.std.proofs.Common.{All, None, refl, arith, length-append}
+use Rattle.std.proofs.Common.{◌≡◌, ◌≢◌, ℕ, zero, suc, ◌+◌, ◌≤◌, ◌<◌, ◌==◌, Bool, true, false, not, ◌||◌, List, [], ◌∷◌, ◌++◌, filter, length}
+use Rattle.std.proofs.Common.{All, None, Some, slice_get, refl, arith, length-append}
 use Rattle.std.proofs.lemmas.Grind.{common_steps}
 use Rattle.std.proofs.lemmas.Bool.Decides.{nat_tests}
 use Rattle.std.proofs.lemmas.List.Folds.{list_any_none, list_any-append}
-use Rattle.std.proofs.lemmas.List.Elements.{All-weaker}
+use Rattle.std.proofs.lemmas.List.Elements.{All-cons, All-weaker}
 use Rattle.std.specs.List.{list_any}
 use Rattle.engine_core.specs.Engines.{EngineParts}
 use Rattle.engine_core.specs.Marks.{IsOneEach, note_of, other_marks}
@@ -19,6 +19,10 @@ has_engine es b = list_any (λ e. e.entry.attach == b) es
 
 abbrev has_mark : List Mark → ℕ → Bool
 has_mark ms b = list_any (λ m. m.attach == b) ms
+
+-- there is no mark but of these engines
+abbrev pub HasMarks : List EngineParts → List Mark → Type 0
+HasMarks es ms = (b : ℕ) → All (λ e. e.entry.attach ≢ b) es → note_of ms b ≡ None
 
 abbrev pub kept : List EngineParts → List Mark → List Mark
 kept es ms = filter (λ m. has_engine es m.attach) ms
@@ -55,10 +59,6 @@ length-other_marks : (a : ℕ) (ms : List Mark) → IsOneEach ms → length ms �
 length-other_marks a [] one = omega arith
 length-other_marks a (m ∷ ms) one = length-first a m ms (m.attach == a) refl one.0 (length-other_marks a ms one.1)
 
-known-kept : (es : List EngineParts) (b : ℕ) (ms : List Mark) → has_mark (kept es ms) b ≡ true → has_engine es b ≡ true
-known-kept es b [] has = cc
-known-kept es b (m ∷ ms) has = grind (arith, nat_tests, common_steps, known-kept es b ms)
-
 has-first : (m : Mark) (ms : List Mark) → has_mark (m ∷ ms) m.attach ≡ true
 has-first m ms = grind (arith, nat_tests, common_steps)
 
@@ -77,16 +77,6 @@ behind-first e es b ms false at has known = grind (arith, nat_tests, common_step
 -- a mark behind those of the others
 abbrev joined : ℕ → Note → List Mark → List Mark
 joined a n ms = other_marks a ms ++ record { attach = a; note = n } ∷ []
-
-known-joined : (es : List EngineParts) (a b : ℕ) (ms : List Mark) (n : Note) → has_engine es a ≡ true → has_mark (joined a n (kept es ms)) b ≡ true → has_engine es b ≡ true
-known-joined es a b ms n known has = grind (
-  arith,
-  nat_tests,
-  common_steps,
-  list_any-append (λ (m : Mark). m.attach == b) (other_marks a (kept es ms)) (record { attach = a; note = n } ∷ []),
-  has-others a b (kept es ms),
-  known-kept es b ms,
-)
 
 any-push : {X : Type 0} (t : X → Bool) (xs : List X) (y : X) → list_any t xs ≡ false → t y ≡ false → list_any t (xs ++ y ∷ []) ≡ false
 any-push t [] y none other = grind (arith, common_steps)
@@ -116,9 +106,57 @@ length-marks (e ∷ es) ms one known =
     (λ b has. behind-first e es b ms (e.entry.attach == b) refl has (known b (has-others e.entry.attach b ms has))) in
     omega (arith, few, length-other_marks e.entry.attach ms one)
 
+-- ---- a call that has marks of some engines alone
+
+has-some : (b : ℕ) (m : Mark) (ms : List Mark) (mine : Bool) → (m.attach == b) ≡ mine → (has_mark ms b ≡ true → note_of ms b ≡ None → ⊥)
+    → has_mark (m ∷ ms) b ≡ true → note_of (m ∷ ms) b ≡ None → ⊥
+has-some b m ms true at behind has none = let some : Some m.note ≡ None = rw at at none in absurd cc
+has-some b m ms false at behind has none = behind (rw at at has) (rw at at none)
+
+has-note : (b : ℕ) (ms : List Mark) → has_mark ms b ≡ true → note_of ms b ≡ None → ⊥
+has-note b [] has none = absurd cc
+has-note b (m ∷ ms) has none = has-some b m ms (m.attach == b) refl (has-note b ms) has none
+
+differs : (a b : ℕ) → (a == b) ≡ false → a ≢ b
+differs a b other same = grind (arith, nat_tests, common_steps)
+
+apart-of : (es : List EngineParts) (b : ℕ) → has_engine es b ≡ false → All (λ e. e.entry.attach ≢ b) es
+apart-of [] b unknown = λ k d within. absurd (omega arith)
+apart-of (e ∷ es) b unknown =
+    All-cons (λ (e : EngineParts). e.entry.attach ≢ b) e es (differs e.entry.attach b (first-false (e.entry.attach == b) (has_engine es b) unknown))
+    (apart-of es b (second-false (e.entry.attach == b) (has_engine es b) unknown))
+
+known-by : (es : List EngineParts) (ms : List Mark) (b : ℕ) → HasMarks es ms → has_mark ms b ≡ true → (known : Bool) → has_engine es b ≡ known
+    → has_engine es b ≡ true
+known-by es ms b alone has true at = at
+known-by es ms b alone has false at = absurd (has-note b ms has (alone b (apart-of es b at)))
+
+known-of : (es : List EngineParts) (ms : List Mark) → HasMarks es ms → (b : ℕ) → has_mark ms b ≡ true → has_engine es b ≡ true
+known-of es ms alone b has = known-by es ms b alone has (has_engine es b) refl
+
+known-joined : (es : List EngineParts) (a b : ℕ) (ms : List Mark) (n : Note) → HasMarks es ms → has_engine es a ≡ true
+    → has_mark (joined a n ms) b ≡ true → has_engine es b ≡ true
+known-joined es a b ms n alone known has = grind (
+  arith,
+  nat_tests,
+  common_steps,
+  list_any-append (λ (m : Mark). m.attach == b) (other_marks a ms) (record { attach = a; note = n } ∷ []),
+  has-others a b ms,
+  known-of es ms alone b,
+)
+
+pub has-at : (es : List EngineParts) (p : ℕ) (e : EngineParts) → slice_get es p ≡ Some e → has_engine es e.entry.attach ≡ true
+has-at [] p e is = absurd cc
+has-at (x ∷ xs) zero e is = let there : x ≡ e = cc in rw there (grind (arith, nat_tests, common_steps))
+has-at (x ∷ xs) (suc p) e is = let rest = has-at xs p e is in grind (arith, nat_tests, common_steps)
+
+-- such a call has, besides the mark of one of the engines, fewer marks than there are engines
+pub length-others : (es : List EngineParts) (a : ℕ) (ms : List Mark) → IsOneEach ms → HasMarks es ms → has_engine es a ≡ true
+    → length (other_marks a ms) < length es
+length-others es a ms one alone known =
+    let few = length-marks es (joined a Counted ms) (IsOneEach-joined a Counted ms one) (λ b has. known-joined es a b ms Counted alone known has) in
+    omega (arith, few, length-append (other_marks a ms) (record { attach = a; note = Counted } ∷ []))
+
 pub length-kept : (es : List EngineParts) (a : ℕ) (ms : List Mark) → IsOneEach ms → has_engine es a ≡ true → length (other_marks a (kept es ms)) < length es
 length-kept es a ms one known =
-    let few = length-marks es (joined a Counted (kept es ms))
-    (IsOneEach-joined a Counted (kept es ms) (IsOneEach-filter (λ m. has_engine es m.attach) ms one))
-    (λ b has. known-joined es a b ms Counted known has) in
-    omega (arith, few, length-append (other_marks a (kept es ms)) (record { attach = a; note = Counted } ∷ []))
+    length-others es a (kept es ms) (IsOneEach-filter (λ m. has_engine es m.attach) ms one) (λ b apart. note_of-gone es b ms apart) known

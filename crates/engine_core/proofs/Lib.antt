@@ -1,6 +1,7 @@
 mod Rows
 mod AnswerLaws
 mod ChainLaws
+mod Clocks
 mod MarkLaws
 mod MarkLemmas
 mod Keeping

@@ -1,5 +1,5 @@
 -- What marks tell after one was set, and after some were taken away.
-use Rattle.std.proofs.Common.{◌≡◌, ◌≢◌, ℕ, zero, suc, ◌+◌, ◌<◌, ◌≤◌, ◌==◌, Bool, true, false, not, cond, if◌then◌else◌, List, []}
+use Rattle.std.proofs.Common.{◌≡◌, ◌≢◌, ℕ, zero, suc, ◌<◌, ◌≤◌, ◌==◌, Bool, true, false, not, cond, if◌then◌else◌, List, []}
 use Rattle.std.proofs.Common.{◌∷◌, ◌++◌, filter, find, get_or, length, set, slice_get, Option, Some, None, option_map, refl, ap, subst, arith}
 use Rattle.std.specs.Prelude.{position}
 use Rattle.std.proofs.lemmas.Grind.{common_steps}
@@ -135,23 +135,6 @@ marked-behind a n ms none =
 
 pub few-others : (a : ℕ) (ms : List Mark) (d : Mark) → position (λ m. m.attach == a) ms ≡ None → length ms ≤ length (other_marks a ms)
 few-others a ms d none = all-others a d ms (λ k lt. no-place a ms none d k lt)
-
--- the marks of the others are no more than all
-pub others-within : (a : ℕ) (ms : List Mark) → length (other_marks a ms) ≤ length ms
-others-within a [] = omega arith
-others-within a (m ∷ ms) = grind (arith, common_steps, others-within a ms)
-
-others-first : (a : ℕ) (m : Mark) (ms : List Mark) (n : Note) (b : Bool) → (m.attach == a) ≡ b → note_of (m ∷ ms) a ≡ Some n
-    → (note_of ms a ≡ Some n → length (other_marks a ms) + 1 ≤ length ms) → length (other_marks a (m ∷ ms)) + 1 ≤ length (m ∷ ms)
-others-first a m ms n true at is behind = grind (arith, nat_tests, common_steps, others-within a ms)
-others-first a m ms n false at is behind =
-    let there : note_of ms a ≡ Some n = rw at at is in
-    grind (arith, nat_tests, common_steps, behind there)
-
--- where there is a mark of an attachment, those of the others are fewer
-pub others-fewer : (a : ℕ) (ms : List Mark) (n : Note) → note_of ms a ≡ Some n → length (other_marks a ms) + 1 ≤ length ms
-others-fewer a [] n is = absurd cc
-others-fewer a (m ∷ ms) n is = others-first a m ms n (m.attach == a) refl is (others-fewer a ms n)
 
 -- ---- marks that are taken away
 

@@ -1,10 +1,11 @@
 -- A call that passes where nothing is to be noted of it.
-use Rattle.std.proofs.Common.{◌≡◌, ℕ, zero, suc, Bool, true, false, List, [], ◌∷◌, Some, refl, ap, set, slice_get}
+use Rattle.std.proofs.Common.{◌≡◌, ◌<◌, ℕ, zero, suc, Bool, true, false, List, [], ◌∷◌, Some, length, refl, ap, set, slice_get, slice_index_or, subst}
+use Rattle.std.proofs.lemmas.Option.{slice_get_read}
 use Rattle.std.specs.Bool.{OnTrue}
 use Rattle.engine_core.specs.Engines.{EngineParts}
 use Rattle.engine_core.specs.Marks.{StandingCall}
 use Rattle.engine_core.specs.Steps.{Steps}
-use Rattle.engine_core.specs.Working.{Works}
+use Rattle.engine_core.specs.Working.{HasMarksOf, Works}
 use Rattle.engine_core.specs.declared.outcome.Noted.TheVariants.{Nothing}
 use Rattle.engine_core.specs.declared.outcome.Outcome.TheVariants.{Passed}
 use Rattle.engine_core.proofs.Turning.{turn-step, engine-step, call-step, marks-step}
@@ -22,12 +23,18 @@ same-set [] i x at = absurd cc
 same-set (y ∷ ys) zero x at = cc
 same-set (y ∷ ys) (suc i) x at = ap (λ zs. y ∷ zs) (same-set ys i x at)
 
+-- the call that is read at a place is the one that callers see there
+pub seen-at : (items calls : List StandingCall) (j : ℕ) (s : StandingCall) → items ≡ calls → j < length calls → s ≡ slice_index_or items j s
+    → slice_get calls j ≡ Some s
+seen-at items calls j s same within read = subst (λ (calls : List StandingCall). slice_get calls j ≡ Some s) same
+    (slice_get_read items (length items) j s refl (rw same within) read)
+
 -- the engine stays, and the call may have a further mark
 pub works-unnoted : (es : List EngineParts) (calls calls' : List StandingCall) (p j moment : ℕ) (e : EngineParts) (s s' : StandingCall)
-    → slice_get es p ≡ Some e → slice_get calls j ≡ Some s → calls' ≡ set calls j s'
+    → slice_get es p ≡ Some e → slice_get calls j ≡ Some s → HasMarksOf es s → calls' ≡ set calls j s'
     → Steps e.entry.policy e.entry.attach e.entry.version e.level moment s s' e.level (Passed Nothing)
     → Works es calls p j moment (Passed Nothing) es calls'
-works-unnoted es calls calls' p j moment e s s' is_engine is_call same step = record {
+works-unnoted es calls calls' p j moment e s s' is_engine is_call marks same step = record {
   engine = e;
   engine' = e;
   is_engine = is_engine;
@@ -37,7 +44,7 @@ works-unnoted es calls calls' p j moment e s s' is_engine is_call same step = re
   is_call = is_call;
   other_calls = same;
   met = s;
-  keeps = record { call = refl; kept = λ k d within. refl; none = λ attach none. none };
+  keeps = record { call = refl; kept = λ k d within. refl; gone = marks; none = λ attach none. none };
   turn = turn-step e moment s s' e.level (Passed Nothing) step;
   leaves_engine = engine-step e e moment s s' (Passed Nothing) step refl refl;
   leaves_call = call-step _ _ _ _ _ s s' _ (Passed Nothing) step;

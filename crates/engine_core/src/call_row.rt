@@ -45,7 +45,7 @@ impl CallRow {
     ghost use Rattle.engine_core.specs.declared.call_row.TheConstants.{MAX_CALLS};
     ghost use Rattle.engine_core.specs.Policies.{KnowsTenantOf};
     ghost use Rattle.engine_core.specs.Turns.{noted_in};
-    ghost use Rattle.engine_core.specs.Working.{LeavesTickets, Works};
+    ghost use Rattle.engine_core.specs.Working.{HasMarksOf, LeavesTickets, Works};
     ghost use Rattle.engine_core.specs.Engines.{EngineParts};
     ghost use Rattle.engine_core.specs.Marks.{StandingCall};
     ghost use Rattle.engine_core.specs.declared.outcome.Noted.TheVariants.{Nothing};
@@ -131,16 +131,20 @@ impl CallRow {
     ) -> bool
         requires place { place < length self.old }
         requires engine { at < length engines.now }
+        requires few { length engines.now ≤ 8 }
         requires call { (s : StandingCall) → slice_get self.old place ≡ Some s → IsCallOf table.now s.call }
+        requires marks { (s : StandingCall) → slice_get self.old place ≡ Some s → HasMarksOf engines.now s }
         ensures passed { OnTrue result ((moment : ℕ)
             → Works engines.now self.old at place moment (Passed Nothing) engines.now self.new) }
         ensures as_before { OnFalse result (self.new ≡ self.old) }
     {
-        engines[at].pass_unnoted(&mut self.calls[place], at, table)
+        let call = &mut self.calls[place];
+        call.few_others(engines, at);
+        engines[at].pass_unnoted(call, at, table)
     }
 
-    /// The engine at a place works on the call at a place. Where that has no room for a mark of the engine, the marks of all
-    /// but these engines are taken away first. It takes no memory.
+    /// The engine at a place works on the call at a place. `alone` says that it is known that the call has marks of these
+    /// engines alone; else those of others are taken away first. It takes no memory.
     pub fn work<Q: Tickets>(
         &mut self,
         place: usize,
@@ -149,11 +153,14 @@ impl CallRow {
         table: &Table,
         now: u64,
         tickets: &mut Q,
+        alone: bool,
     ) -> Outcome
         requires place { place < length self.old }
         requires engine { at < length engines.old }
         requires few { length engines.old ≤ 8 }
         requires call { (s : StandingCall) → slice_get self.old place ≡ Some s → IsCallOf table.now s.call }
+        requires alone { OnTrue alone ((s : StandingCall) → slice_get self.old place ≡ Some s
+            → HasMarksOf engines.old s) }
         requires known { (e : EngineParts) → slice_get engines.old at ≡ Some e
             → KnowsTenantOf (Q.knows tickets.old) e.entry.policy }
         ensures works { Works engines.old self.old at place now result engines.new self.new }
@@ -161,7 +168,8 @@ impl CallRow {
             → LeavesTickets Q.knows Q.drawn Q.since e.entry.policy (noted_in result) tickets.old tickets.new }
     {
         let call = &mut self.calls[place];
-        call.make_room(engines, at);
+        call.meet(engines, alone);
+        call.few_others(engines, at);
         let engine = &mut engines[at];
         engine.work(call, table, now, tickets)
     }

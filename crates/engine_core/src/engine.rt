@@ -167,7 +167,8 @@ impl Engine {
     // version, or the rate or the count has noted it. Where it answers false all is as before, and a turn decides. The
     // mark that it has of the engine is looked for at a place first.
     pub(crate) fn pass_unnoted(&self, call: &mut Standing, likely: usize, table: &Table) -> bool
-        requires { IsCallOf table.now call.old.call }
+        requires call { IsCallOf table.now call.old.call }
+        requires room { length (other_marks self.now.entry.attach call.old.marks) ≤ 7 }
         ensures passed { OnTrue result ((moment : ℕ) → Steps self.now.entry.policy self.now.entry.attach
             self.now.entry.version self.now.level moment call.old call.new self.now.level (Passed Nothing)) }
         ensures as_before { OnFalse result (call.new ≡ call.old) }

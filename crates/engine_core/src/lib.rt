@@ -12,6 +12,7 @@
 
 mod call_row;
 mod engine;
+mod engines;
 mod laws;
 mod mark;
 mod op;
@@ -22,6 +23,7 @@ mod work;
 
 pub use call_row::{CallRow, MAX_CALLS};
 pub use engine::{Engine, State};
+pub use engines::{clock_all, place_named, place_of, put};
 pub use laws::{
     allows_at_any_time, bounded_charges_of_engines, change_is_changed, denied_by_a_rule,
     one_answer, one_change, one_outcome, passed_is_allowed, stays_chain, unmarked_is_true,

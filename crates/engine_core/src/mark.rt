@@ -9,27 +9,27 @@ use crate::MAX_ENGINES;
 use crate::engine::Engine;
 use arrayvec::ArrayVec;
 
-/// The marks of a call.
-pub type Marks = ArrayVec<Mark, MAX_ENGINES>;
+// The marks of a call.
+pub(crate) type Marks = ArrayVec<Mark, MAX_ENGINES>;
 
-/// A mark, for the engine of an attachment.
+// A mark, for the engine of an attachment.
 #[derive(Clone, Copy)]
-pub struct Mark {
-    /// The number of the attachment.
+pub(crate) struct Mark {
+    // The number of the attachment.
     pub attach: u32,
     pub note: Note,
 }
 
-/// What a mark says.
+// What a mark says.
 #[derive(Clone, Copy)]
-pub enum Note {
-    /// The access policy of this version allowed the call.
+pub(crate) enum Note {
+    // The access policy of this version allowed the call.
     Allowed { version: u32 },
-    /// The call was charged.
+    // The call was charged.
     Charged,
-    /// This ticket was drawn for the call.
+    // This ticket was drawn for the call.
     Drawn { ticket: u64 },
-    /// The call was counted.
+    // The call was counted.
     Counted,
 }
 

@@ -1,6 +1,6 @@
 //! Calls that stand: they were accepted, and have neither been sent nor refused.
 
-ghost use Rattle.std.specs.Prelude.{◌≡◌, ◌≢◌, ◌≤◌, ◌<◌, ◌↔◌, ℕ, [], All, IsTrue, length, Some, slice_get};
+ghost use Rattle.std.specs.Prelude.{◌≡◌, ◌≢◌, ◌≤◌, ◌<◌, ◌↔◌, ℕ, [], All, IsTrue, None, length, Some, slice_get};
 ghost use Rattle.std.specs.Bool.{OnTrue, OnFalse};
 ghost use Rattle.mrpc_table.specs.Weight.{weight};
 ghost use Rattle.mrpc_table.specs.declared.table.Table.{Table as TheTable};
@@ -9,9 +9,8 @@ ghost use Rattle.policy_redact.specs.Redacting.{FitsSomeTable, cleared_call};
 ghost use Rattle.engine_core.specs.Engines.{EngineParts};
 ghost use Rattle.engine_core.specs.Marks.{IsOneEach, StandingCall, note_of, other_marks};
 ghost use Rattle.engine_core.specs.Steps.{IsUnallowed, with_mark};
-ghost use Rattle.engine_core.specs.Working.{KeepsMarksOf};
+ghost use Rattle.engine_core.specs.Working.{HasMarksOf, KeepsMarksOf};
 
-use crate::MAX_ENGINES;
 use crate::engine::Engine;
 use crate::mark::{Marks, Note, forget_allowing, keep_of, set};
 use mrpc_table::Call;
@@ -107,13 +106,12 @@ impl Standing {
         changed
     }
 
-    /// Takes away the marks of all engines but these. It takes no memory.
-    pub fn keep_marks_of(&mut self, engines: &[Engine])
+    // Takes away the marks of all engines but these.
+    pub(crate) fn keep_marks_of(&mut self, engines: &[Engine])
         ensures call { self.new.call ≡ self.old.call }
         ensures kept { All (λ e. note_of self.new.marks e.entry.attach
             ≡ note_of self.old.marks e.entry.attach) engines.now }
-        ensures gone { (attach : ℕ) → All (λ e. e.entry.attach ≢ attach) engines.now
-            → note_of self.new.marks attach ≡ None }
+        ensures gone { HasMarksOf engines.now self.new }
         ensures none { (attach : ℕ) → note_of self.old.marks attach ≡ None → note_of self.new.marks attach ≡ None }
 
         // There are no more marks than these engines.
@@ -122,36 +120,30 @@ impl Standing {
         keep_of(&mut self.marks, engines);
     }
 
-    // Makes room for a mark of the engine at a place: where there is none, the marks of all but these engines are taken
-    // away.
-    pub(crate) fn make_room(&mut self, engines: &[Engine], at: usize)
-        requires engine { at < length engines.now }
-        requires few { length engines.now ≤ 8 }
-        ensures keeps { KeepsMarksOf engines.now self.old self.new }
-        ensures room { (e : EngineParts) → slice_get engines.now at ≡ Some e
-            → length (other_marks e.entry.attach self.new.marks) ≤ 7 }
+    // Takes away the marks of all engines but these, unless it is known (`alone`) that it has no others.
+    pub(crate) fn meet(&mut self, engines: &[Engine], alone: bool)
+        requires { OnTrue alone (HasMarksOf engines.now self.old) }
+        ensures { KeepsMarksOf engines.now self.old self.new }
     {
-        let attach = engines[at].attach();
-        if self.has_room(attach, self.note_at(at, attach)) {
-            return;
+        if !alone {
+            self.keep_marks_of(engines);
         }
-        self.keep_marks_of(engines);
     }
 
-    // Whether there is room for a mark of an attachment, whose mark says this so far, if there is one.
-    pub(crate) fn has_room(&self, attach: u32, note: Option<Note>) -> bool
-        requires { note ≡ note_of self.now.marks attach }
-        ensures { OnTrue result (length (other_marks attach self.now.marks) ≤ 7) }
+    // A law; it does nothing. Besides its mark of the engine at a place, a call that has marks of some engines alone has
+    // fewer marks than there are engines.
+    pub(crate) fn few_others(&self, engines: &[Engine], at: usize)
+        requires engine { at < length engines.now }
+        requires marks { HasMarksOf engines.now self.now }
+        ensures { (e : EngineParts) → slice_get engines.now at ≡ Some e
+            → length (other_marks e.entry.attach self.now.marks) < length engines.now }
     {
         self.few_marks();
-        match note {
-            Some(_) => true,
-            None => self.marks.len() < MAX_ENGINES,
-        }
+        let _ = (engines.len(), at);
     }
 
-    /// A law; it does nothing. No two marks are of one engine, and there are at most eight.
-    pub fn few_marks(&self)
+    // A law; it does nothing. No two marks are of one engine, and there are at most eight.
+    pub(crate) fn few_marks(&self)
         ensures one_each { IsOneEach self.now.marks }
         ensures few { length self.now.marks ≤ 8 }
     {

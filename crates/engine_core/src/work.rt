@@ -46,8 +46,8 @@ pub(crate) fn judge(
     Outcome::Passed(Noted::Nothing)
 }
 
-// Marks a call where the policy allows it and there is room for the mark, and answers whether it did. `note` is what the
-// mark of the engine says so far, and not that this version has allowed the call.
+// Marks a call where the policy allows it, and answers whether it did. `note` is what the mark of the engine says so far,
+// and not that this version has allowed the call.
 pub(crate) fn allow(
     access: &Access,
     attach: u32,
@@ -57,13 +57,14 @@ pub(crate) fn allow(
     table: &Table,
 ) -> bool
     requires call { IsCallOf table.now call.old.call }
+    requires room { length (other_marks attach call.old.marks) ≤ 7 }
     requires note { note ≡ note_of call.old.marks attach }
     requires unmarked { is_allowed_by version note ≡ false }
     ensures allows { OnTrue result ((level moment : ℕ)
         → Steps (Policy.Access access.now) attach version level moment call.old call.new level (Passed Nothing)) }
     ensures as_before { OnFalse result (call.new ≡ call.old) }
 {
-    if !call.has_room(attach, note) || !access.judge(call.call(), table).allow {
+    if !access.judge(call.call(), table).allow {
         return false;
     }
     call.mark(attach, Note::Allowed { version });

@@ -11,13 +11,14 @@ use Rattle.chain_upgrade.proofs.Keeping.{kept-as, kept-attach}
 use Rattle.chain_upgrade.proofs.RowLaws.{row-back}
 use Rattle.chain_upgrade.proofs.Stands.{one-some, stands-attach}
 use Rattle.chain_upgrade.proofs.Steps.{attach-changes, inserted-at}
+use Rattle.chain_upgrade.proofs.MarksLeft.{have-insert}
 use Rattle.chain_upgrade.proofs.chain.Chain.attach.Goals as goal
 
 made : (c : goal.After-zero_behind) (label : List ℕ)
     → Changes (record { entries = map (λ e. e.entry) c.self.inside.engines.items; attached = c.self.inside.attached }) (Attach c.args.at c.args.name label c.args.policy)
     (record { entries = map (λ e. e.entry) (insert c.self.inside.engines.items c.args.at c.new.result); attached = c.self.inside.attached + 1 })
 made c label = attach-changes c.self.inside.engines.items c.self.inside.attached c.args.at c.args.name label c.args.policy c.new.result
-    c.change_is_changed.ensures.unless_refused c.self.invariant.stands.chain
+    c.change_is_changed.ensures.unless_refused c.self.invariant.0.stands.chain
     (λ r against. c.in_ok-name.ensures.free label c.args.policy r
     (subst (λ (entries : List _). IsAgainst entries (Attach c.args.at c.args.name label c.args.policy) r)
     (ap (λ (es : List EngineParts). map (λ e. e.entry) es) (sym c.deref.ensures.value)) against))
@@ -33,19 +34,21 @@ invariant_of-self c =
     let chain : IsChain (record { entries = map (λ e. e.entry) (insert c.self.inside.engines.items c.args.at c.new.result); attached = c.self.inside.attached + 1 }) =
     c.stays_chain.ensures (record { entries = map (λ e. e.entry) c.self.inside.engines.items; attached = c.self.inside.attached })
     (record { entries = map (λ e. e.entry) (insert c.self.inside.engines.items c.args.at c.new.result); attached = c.self.inside.attached + 1 })
-    (Attach c.args.at c.args.name [] c.args.policy) c.self.invariant.stands.chain (made c []) in
+    (Attach c.args.at c.args.name [] c.args.policy) c.self.invariant.0.stands.chain (made c []) in
     let room = c.in_ok-name.ensures.room in
     let at : c.args.at ≤ length c.self.inside.engines.items = omega (arith, room.0, ap (λ (es : List EngineParts). length es) c.deref.ensures.value) in
     let stands = stands-attach c.self.inside.engines.items c.self.inside.attached c.args.at c.self.inside.row c.new.result c.unmarked_is_true.ensures
-    c.self.invariant.stands chain (subst (λ (e : Entry). IsPolicy e.policy) (sym c.new.ensures.entry) c.requires.ranges) (ap (λ (e : Entry). e.attach) c.new.ensures.entry) in
-    kept-as _ _ _ _ _ _ _ _ _ c.put.ensures.items c.put.ensures.capacity refl c.zero_behind.ensures
-    (kept-attach c.self.inside.engines.items (vec_capacity c.self.inside.engines) c.self.inside.attached c.args.at c.self.inside.row c.self.inside.cuts.behind c.new.result
-    c.self.invariant at stands)
+    c.self.invariant.0.stands chain (subst (λ (e : Entry). IsPolicy e.policy) (sym c.new.ensures.entry) c.requires.ranges) (ap (λ (e : Entry). e.attach) c.new.ensures.entry) in (
+      kept-as _ _ _ _ _ _ _ _ _ c.put.ensures.items c.put.ensures.capacity refl c.zero_behind.ensures
+          (kept-attach c.self.inside.engines.items (vec_capacity c.self.inside.engines) c.self.inside.attached c.args.at c.self.inside.row c.self.inside.cuts.behind c.new.result
+          c.self.invariant.0 at stands),
+      rw c.put.ensures.items (have-insert c.self.inside.engines.items c.args.at c.new.result c.self.inside.stale c.self.inside.row c.self.invariant.1),
+    )
 
 pub returns-clause-changes : goal.returns-clause-changes
 returns-clause-changes c label =
     subst (λ (v : ChainParts). Changes (chain_of v) (Attach c.args.at c.args.name label c.args.policy)
-    (record { entries = map (λ e. e.entry) c.put.new.engines.items; attached = c.self.inside.attached + 1 }))
+    (record { entries = map (λ e. e.entry) c.put.new.items.items; attached = c.self.inside.attached + 1 }))
     c.self.view_is
     (subst (λ (es : List EngineParts). Changes (record {
       entries = map (λ e. e.entry) c.self.inside.engines.items;
@@ -58,9 +61,9 @@ pub returns-clause-past : goal.returns-clause-past
 returns-clause-past c e rate is rated =
     let room = c.in_ok-name.ensures.room in
     let at : c.args.at ≤ length c.self.inside.engines.items = omega (arith, room.0, ap (λ (es : List EngineParts). length es) c.deref.ensures.value) in
-    let there : slice_get c.put.new.engines.items c.args.at ≡ Some c.new.result =
+    let there : slice_get c.put.new.items.items c.args.at ≡ Some c.new.result =
     ap (λ (es : List EngineParts). slice_get es c.args.at) c.put.ensures.items ∙ inserted-at c.self.inside.engines.items c.args.at c.new.result at in
-    let same : c.new.result ≡ e = one-some (slice_get c.put.new.engines.items c.args.at) c.new.result e there is in
+    let same : c.new.result ≡ e = one-some (slice_get c.put.new.items.items c.args.at) c.new.result e there is in
     subst (λ (e : EngineParts). HasPast e rate c.args.now []) same (c.new.ensures.past rate rated)
 
 pub returns-clause-row : goal.returns-clause-row

@@ -9,4 +9,4 @@ returns-then-i-eq0 c = c.len.ensures.count
 pub returns-else-i-eq0 : goal.returns-else-i-eq0
 returns-else-i-eq0 c =
     sym (cut-some c.self.inside.engines.items c.self.inside.attached c.args.i c.self.inside.row
-    c.self.inside.cuts.behind c.args.self.now c.self.view_is c.if-i-eq0.false c.self.invariant.falls)
+    c.self.inside.cuts.behind c.args.self.now c.self.view_is c.if-i-eq0.false c.self.invariant.0.falls)

@@ -1,3 +1,4 @@
+use Rattle.std.proofs.Common.{arith}
 use Rattle.std.proofs.Common.{ℕ, List, map, remove, Contains, refl, ap, sym, ◌∙◌, subst, vec_capacity}
 use Rattle.engine_core.specs.Chains.{Changes, IsChain, names_of}
 use Rattle.engine_core.specs.Engines.{EngineParts}
@@ -11,6 +12,7 @@ use Rattle.chain_upgrade.proofs.Named.{IsFound, detach-changes, found, none-foun
 use Rattle.chain_upgrade.proofs.RowLaws.{row-up}
 use Rattle.chain_upgrade.proofs.Stands.{stands-detach}
 use Rattle.chain_upgrade.proofs.Steps.{refuses-detach}
+use Rattle.chain_upgrade.proofs.MarksLeft.{have-all}
 use Rattle.chain_upgrade.proofs.chain.Chain.detach.Goals as goal
 
 pub returns-in_default-clause-refused : goal.returns-in_default-clause-refused
@@ -27,7 +29,7 @@ made : (c : goal.After-drop-name)
     → Changes (record { entries = map (λ e. e.entry) c.self.inside.engines.items; attached = c.self.inside.attached }) (Detach c.args.name)
     (record { entries = map (λ e. e.entry) (remove c.self.inside.engines.items c.in-Some.place); attached = c.self.inside.attached })
 made c = detach-changes c.self.inside.engines.items c.self.inside.attached c.in-Some.place c.args.name c.change_is_changed.ensures.unless_refused
-    c.self.invariant.stands.chain (its-place c)
+    c.self.invariant.0.stands.chain (its-place c)
 
 pub invariant_of-self : goal.invariant_of-self
 invariant_of-self c =
@@ -35,11 +37,13 @@ invariant_of-self c =
     let chain : IsChain (record { entries = map (λ e. e.entry) (remove c.self.inside.engines.items c.in-Some.place); attached = c.self.inside.attached }) =
     c.stays_chain.ensures (record { entries = map (λ e. e.entry) c.self.inside.engines.items; attached = c.self.inside.attached })
     (record { entries = map (λ e. e.entry) (remove c.self.inside.engines.items c.in-Some.place); attached = c.self.inside.attached })
-    (Detach c.args.name) c.self.invariant.stands.chain (made c) in
-    kept-as _ _ _ _ _ _ _ _ _ c.remove.ensures.items c.remove.ensures.capacity refl c.close_up.ensures
-    (kept-detach c.self.inside.engines.items (vec_capacity c.self.inside.engines) c.self.inside.attached c.in-Some.place c.self.inside.row c.self.inside.cuts.behind
-    c.self.invariant it.within
-    (stands-detach c.self.inside.engines.items c.self.inside.attached c.in-Some.place c.self.inside.row c.self.invariant.stands chain))
+    (Detach c.args.name) c.self.invariant.0.stands.chain (made c) in (
+      kept-as _ _ _ _ _ _ _ _ _ c.remove.ensures.items c.remove.ensures.capacity refl c.close_up.ensures
+          (kept-detach c.self.inside.engines.items (vec_capacity c.self.inside.engines) c.self.inside.attached c.in-Some.place c.self.inside.row c.self.inside.cuts.behind
+          c.self.invariant.0 it.within
+          (stands-detach c.self.inside.engines.items c.self.inside.attached c.in-Some.place c.self.inside.row c.self.invariant.0.stands chain)),
+      have-all c.remove.new.self.items _ c.self.inside.row (omega (arith, c.len.ensures.count)),
+    )
 
 pub returns-clause-changes : goal.returns-clause-changes
 returns-clause-changes c =
@@ -60,6 +64,6 @@ pub returns-clause-row : goal.returns-clause-row
 returns-clause-row c =
     let it = its-place c in
     ap (λ (cuts : List ℕ). row_from 0 cuts (seqs_of c.self.inside.row)) c.close_up.ensures
-    ∙ (row-up _ c.in-Some.place c.self.inside.cuts.behind (seqs_of c.self.inside.row) c.self.invariant.falls
+    ∙ (row-up _ c.in-Some.place c.self.inside.cuts.behind (seqs_of c.self.inside.row) c.self.invariant.0.falls
     ∙ (ap (λ (p : ℕ). moved_up p (row_from 0 c.self.inside.cuts.behind (seqs_of c.self.inside.row))) (sym it.place_is)
     ∙ ap (λ (v : ChainParts). moved_up (place_of c.args.name (map (λ e. e.entry) v.engines)) v.row) c.self.view_is))

@@ -8,6 +8,6 @@ returns-then-cut-eq0-clause-none c = none-counted (length c.args.self.now.engine
 
 pub returns-clause-ready : goal.returns-clause-ready
 returns-clause-ready c = head-there c.self.inside.engines.items c.self.inside.attached c.self.inside.row c.self.inside.cuts.behind c.args.self.now
-    c.self.view_is c.self.invariant.falls c.at.result.now c.self.invariant.short
+    c.self.view_is c.self.invariant.0.falls c.at.result.now c.self.invariant.0.short
     (subst (λ (n : ℕ). 0 < length (filter (λ call. nat_le n call.1) c.args.self.now.row)) c.engines.ensures.count
     (omega (arith, c.cut.ensures, c.if-cut-eq0.false))) c.at.ensures

@@ -27,7 +27,7 @@ its-call : (c : goal.After-held) (s : StandingCall) → first_at c.args.at c.arg
 its-call c s first has =
     let own : first_at c.args.at c.args.self.now.row ≡ Some (c.at.result.now.call.seq, c.args.at) = c.in_ok-place.ensures.first c.at.result.now (call-there c) in
     let number : s.call.seq ≡ c.at.result.now.call.seq = one-number (first_at c.args.at c.args.self.now.row) s.call.seq c.at.result.now.call.seq c.args.at c.args.at first own in
-    one-call c.self.inside.row c.in_ok-place.place s c.at.result.now c.self.invariant.stands.ascend c.at.ensures
+    one-call c.self.inside.row c.in_ok-place.place s c.at.result.now c.self.invariant.0.stands.ascend c.at.ensures
     (subst (λ (calls : List StandingCall). Contains calls s) (ap (λ (v : ChainParts). v.calls) (sym c.self.view_is)) has) number
 
 pub returns-clause-holds : goal.returns-clause-holds

@@ -13,9 +13,10 @@ use Rattle.chain_upgrade.specs.Cuts.{row_from}
 use Rattle.chain_upgrade.proofs.Keeping.{kept-as, kept-upgrade}
 use Rattle.chain_upgrade.proofs.Named.{IsFound, found, map-at, none-found, upgrade-changes, upgraded-is}
 use Rattle.chain_upgrade.proofs.RowLaws.{row-back}
-use Rattle.chain_upgrade.proofs.Stands.{one-some, set-there, stands-upgrade, there-at}
+use Rattle.chain_upgrade.proofs.Stands.{one-some, same-map, set-there, stands-upgrade, there-at}
 use Rattle.chain_upgrade.proofs.Steps.{has-entry, put-back, refuses-kind, refuses-upgrade}
 use Rattle.chain_upgrade.proofs.Turning.{All-at}
+use Rattle.chain_upgrade.proofs.MarksLeft.{have-same}
 use Rattle.chain_upgrade.proofs.chain.Chain.upgrade.Goals as goal
 
 pub returns-in_default-clause-refused : goal.returns-in_default-clause-refused
@@ -69,7 +70,7 @@ its-kind c =
     ∙ (ap (λ (policy : Policy). is_same_kind policy c.args.policy) (sym c.policy.ensures.policy) ∙ (sym c.is_same_kind.ensures ∙ c.if-not-is_same_kind.false))
 
 -- the other one stands in its place
-replaced : (c : goal.After-drop-name) → c.put.new.engines.items ≡ set c.self.inside.engines.items c.in-Some.place c.restore.result
+replaced : (c : goal.After-drop-name) → c.put.new.items.items ≡ set c.self.inside.engines.items c.in-Some.place c.restore.result
 replaced c = c.put.ensures.items
     ∙ (ap (λ (es : List EngineParts). insert es c.in-Some.place c.restore.result) c.remove.ensures.items
     ∙ put-back c.self.inside.engines.items c.in-Some.place c.restore.result (its-place c).within)
@@ -78,26 +79,30 @@ made : (c : goal.After-drop-name) (label : List ℕ)
     → Changes (record { entries = map (λ e. e.entry) c.self.inside.engines.items; attached = c.self.inside.attached }) (Upgrade c.args.name label c.args.policy)
     (record { entries = map (λ e. e.entry) (set c.self.inside.engines.items c.in-Some.place c.restore.result); attached = c.self.inside.attached })
 made c label = upgrade-changes c.self.inside.engines.items c.self.inside.attached c.in-Some.place c.args.name label c.args.policy c.decompose-state.result c.restore.result
-    c.change_is_changed.ensures.unless_refused c.self.invariant.stands.chain (its-engine c) (its-name c) (its-kind c) c.restore.ensures.entry
+    c.change_is_changed.ensures.unless_refused c.self.invariant.0.stands.chain (its-engine c) (its-name c) (its-kind c) c.restore.ensures.entry
 
 pub invariant_of-self : goal.invariant_of-self
 invariant_of-self c =
     let chain : IsChain (record { entries = map (λ e. e.entry) (set c.self.inside.engines.items c.in-Some.place c.restore.result); attached = c.self.inside.attached }) =
     c.stays_chain.ensures (record { entries = map (λ e. e.entry) c.self.inside.engines.items; attached = c.self.inside.attached })
     (record { entries = map (λ e. e.entry) (set c.self.inside.engines.items c.in-Some.place c.restore.result); attached = c.self.inside.attached })
-    (Upgrade c.args.name c.args.name c.args.policy) c.self.invariant.stands.chain (made c c.args.name) in
+    (Upgrade c.args.name c.args.name c.args.policy) c.self.invariant.0.stands.chain (made c c.args.name) in
     let stands = stands-upgrade c.self.inside.engines.items c.self.inside.attached c.in-Some.place c.self.inside.row c.decompose-state.result c.restore.result
-    c.self.invariant.stands (its-engine c) chain (subst (λ (e : Entry). IsPolicy e.policy) (sym c.restore.ensures.entry) c.requires.ranges) c.restore.ensures.stays_true
-    (All-at (λ e. All (λ s. IsTrueFor e.entry s) c.self.inside.row) c.self.inside.engines.items c.in-Some.place c.decompose-state.result c.self.invariant.stands.true_for (its-engine c)) in
-    kept-as _ _ _ _ _ _ _ _ _ (replaced c) (c.put.ensures.capacity ∙ c.remove.ensures.capacity) refl c.zero_behind.ensures
-    (kept-upgrade c.self.inside.engines.items (set c.self.inside.engines.items c.in-Some.place c.restore.result) (vec_capacity c.self.inside.engines)
-    c.self.inside.attached c.in-Some.place c.self.inside.row c.self.inside.cuts.behind c.self.invariant (its-place c).within
-    (length-set c.self.inside.engines.items c.in-Some.place c.restore.result) stands)
+    c.self.invariant.0.stands (its-engine c) chain (subst (λ (e : Entry). IsPolicy e.policy) (sym c.restore.ensures.entry) c.requires.ranges) c.restore.ensures.stays_true
+    (All-at (λ e. All (λ s. IsTrueFor e.entry s) c.self.inside.row) c.self.inside.engines.items c.in-Some.place c.decompose-state.result c.self.invariant.0.stands.true_for (its-engine c)) in (
+      kept-as _ _ _ _ _ _ _ _ _ (replaced c) (c.put.ensures.capacity ∙ c.remove.ensures.capacity) refl c.zero_behind.ensures
+          (kept-upgrade c.self.inside.engines.items (set c.self.inside.engines.items c.in-Some.place c.restore.result) (vec_capacity c.self.inside.engines)
+          c.self.inside.attached c.in-Some.place c.self.inside.row c.self.inside.cuts.behind c.self.invariant.0 (its-place c).within
+          (length-set c.self.inside.engines.items c.in-Some.place c.restore.result) stands),
+      rw (replaced c) (have-same c.self.inside.engines.items (set c.self.inside.engines.items c.in-Some.place c.restore.result) c.self.inside.stale c.self.inside.row
+          (same-map (λ (e : EngineParts). e.entry.attach) c.self.inside.engines.items c.in-Some.place c.decompose-state.result c.restore.result (its-engine c)
+          (ap (λ (e : Entry). e.attach) c.restore.ensures.entry)) c.self.invariant.1),
+    )
 
 pub returns-clause-changes : goal.returns-clause-changes
 returns-clause-changes c = λ label.
     subst (λ (v : ChainParts). Changes (chain_of v) (Upgrade c.args.name label c.args.policy)
-    (record { entries = map (λ e. e.entry) c.put.new.engines.items; attached = c.self.inside.attached }))
+    (record { entries = map (λ e. e.entry) c.put.new.items.items; attached = c.self.inside.attached }))
     c.self.view_is
     (subst (λ (es : List EngineParts). Changes (record {
       entries = map (λ e. e.entry) c.self.inside.engines.items;
@@ -132,12 +137,12 @@ returns-clause-engines c = λ e is.
 
 pub returns-clause-past : goal.returns-clause-past
 returns-clause-past c = λ before after first rate start past is is' rated has.
-    let here : slice_get c.put.new.engines.items (place_of c.args.name (map (λ e. e.entry) c.args.self.now.engines)) ≡ Some c.restore.result =
-    ap (λ (p : ℕ). slice_get c.put.new.engines.items p) (seen-place c)
+    let here : slice_get c.put.new.items.items (place_of c.args.name (map (λ e. e.entry) c.args.self.now.engines)) ≡ Some c.restore.result =
+    ap (λ (p : ℕ). slice_get c.put.new.items.items p) (seen-place c)
     ∙ (ap (λ (es : List EngineParts). slice_get es c.in-Some.place) (replaced c)
     ∙ set-there c.self.inside.engines.items c.in-Some.place c.decompose-state.result c.restore.result (its-engine c)) in
     let new : c.restore.result ≡ after =
-    one-some (slice_get c.put.new.engines.items
+    one-some (slice_get c.put.new.items.items
     (place_of c.args.name (map (λ e. e.entry) c.args.self.now.engines))) c.restore.result after here is' in
     subst (λ (e : EngineParts). HasPast e first start (upgrade rate ∷ past)) new
     (c.restore.ensures.past first rate start past rated (subst (λ (e : EngineParts). HasPast e first start past) (sym (seen-engine c before is)) has))

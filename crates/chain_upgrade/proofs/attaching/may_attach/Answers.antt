@@ -5,7 +5,7 @@ use Rattle.engine_core.specs.Engines.{EngineParts}
 use Rattle.engine_core.specs.declared.op.Op.TheVariants.{Attach}
 use Rattle.chain_upgrade.proofs.Named.{has-found, none-has}
 use Rattle.chain_upgrade.proofs.Steps.{free-attach, refuses-full, refuses-place, refuses-taken}
-use Rattle.chain_upgrade.proofs.engines.may_attach.Goals as goal
+use Rattle.chain_upgrade.proofs.attaching.may_attach.Goals as goal
 
 pub returns-then-is_some-clause-refused : goal.returns-then-is_some-clause-refused
 returns-then-is_some-clause-refused c = λ attached label policy.

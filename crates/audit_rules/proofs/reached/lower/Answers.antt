@@ -2,7 +2,7 @@ use Rattle.std.proofs.Common.{◌≡◌, get_or, min, arith}
 use Rattle.std.proofs.Math.ListN.{length-set}
 use Rattle.std.proofs.lemmas.Grind.{common_steps}
 use Rattle.audit_rules.proofs.Clocks.{changed-one-more, others-one-more}
-use Rattle.audit_rules.proofs.engines.lower.Goals as goal
+use Rattle.audit_rules.proofs.reached.lower.Goals as goal
 
 pub loop-place-preserved : goal.loop-place-preserved
 loop-place-preserved c =

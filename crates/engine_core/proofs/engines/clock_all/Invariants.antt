@@ -1,7 +1,7 @@
--- the engines so far were clocked the moment, and the others are as they were
+-- the engines so far were shown the moment, and the others are as they were
 use Rattle.std.proofs.Common.{◌≡◌, take, drop, map}
 use Rattle.engine_core.specs.Engines.{clocked}
-use Rattle.audit_rules.proofs.engines.clock_all.Given as goal
+use Rattle.engine_core.proofs.engines.clock_all.Given as goal
 
 abbrev pub invariant-loop-engine : goal.invariant-loop-engine
 invariant-loop-engine l = record {

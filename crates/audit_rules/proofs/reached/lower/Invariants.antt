@@ -1,7 +1,7 @@
 -- the numbers so far are lowered, and the others as they were
 use Rattle.std.proofs.Common.{◌≡◌, length, map, take, drop, min}
 use Rattle.std.specs.VecDeque.{deque_capacity}
-use Rattle.audit_rules.proofs.engines.lower.Given as goal
+use Rattle.audit_rules.proofs.reached.lower.Given as goal
 
 abbrev pub invariant-loop-place : goal.invariant-loop-place
 invariant-loop-place l = record {

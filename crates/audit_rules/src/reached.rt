@@ -1,0 +1,18 @@
+//! Lowers what is known of how many entries let each call pass.
+
+ghost use Rattle.std.specs.Prelude.{◌≡◌, map, min};
+ghost use Rattle.std.specs.VecDeque.{deque_capacity};
+
+use std::collections::VecDeque;
+
+// Lowers each number to at most this one.
+pub(crate) fn lower(numbers: &mut VecDeque<usize>, at: usize)
+    ensures items { numbers.new.items ≡ map (λ n. min n at) numbers.old.items }
+    ensures capacity { deque_capacity numbers.new ≡ deque_capacity numbers.old }
+{
+    let many = numbers.len();
+    for place in 0..many {
+        let number = numbers[place];
+        numbers[place] = number.min(at);
+    }
+}
