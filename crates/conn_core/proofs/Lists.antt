@@ -45,11 +45,6 @@ within-at [] i x is = absurd cc
 within-at (y ∷ xs) zero x is = omega arith
 within-at (y ∷ xs) (suc i) x is = omega (arith, within-at xs i x is)
 
-pub get-at : {X : Type 0} (xs : List X) (i : ℕ) (x d : X) → slice_get xs i ≡ Some x → get_or xs i d ≡ x
-get-at [] i x d is = absurd cc
-get-at (y ∷ xs) zero x d is = cc
-get-at (y ∷ xs) (suc i) x d is = get-at xs i x d is
-
 pub at-get : {X : Type 0} (xs : List X) (i : ℕ) (d : X) → i < length xs → slice_get xs i ≡ Some (get_or xs i d)
 at-get [] i d within = absurd (omega arith)
 at-get (y ∷ xs) zero d within = refl

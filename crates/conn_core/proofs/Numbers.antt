@@ -8,9 +8,7 @@ use Rattle.std.proofs.lemmas.List.Elements.{All-nil, All-push, All-weaker, All-f
 use Rattle.engine_core.specs.Answers.{nothing, charged, drawn, counted}
 use Rattle.engine_core.specs.declared.op.Op.TheVariants.{Attach}
 use Rattle.engine_core.specs.Marks.{StandingCall, seqs_of}
-use Rattle.chain_upgrade.specs.Chains.{ChainParts, IsStandingChain}
 use Rattle.call_history.specs.Behind.{Behind, noted, standing, stands, taken}
-use Rattle.call_history.specs.Events.{Course, IsCourse}
 use Rattle.call_history.specs.Legal.{IsPrefix}
 use Rattle.call_history.specs.Rules.{Under}
 use Rattle.call_history.specs.declared.happening.Happening.TheVariants.{Took, Op, Charged, Drawn, Counted}
@@ -72,12 +70,6 @@ untold u (Counted call other ∷ past) name seq prefix above =
 untold u (x ∷ past) name seq prefix above = untold u past name seq prefix.0 above
 
 -- ---- the calls of a chain are those that stand
-
-pub same-numbers : (u : Under) (c : Course) (chain : ChainParts) → IsCourse u c → c.row ≡ chain.row
-    → IsStandingChain chain
-    → seqs_of chain.calls ≡ map (λ call. call.seq) (standing c.past)
-same-numbers u c chain held row stands =
-    sym stands.row ∙ sym (ap (λ (r : List (ℕ × ℕ)). map (λ call. call.0) r) row) ∙ held.calls
 
 pub numbers : (c : Connection) → IsConnection c
     → seqs_of c.chain.calls ≡ map (λ call. call.seq) (standing (behind c))

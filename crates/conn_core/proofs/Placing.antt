@@ -1,12 +1,12 @@
 -- The position of the engine of a name, and what the answers of a chain say of a step.
 use Rattle.std.proofs.Common.{◌≡◌, ℕ, ◌+◌, ◌<◌, ◌≤◌, zero, suc, true, false, cond, List, [], ◌∷◌, length, map, drop}
-use Rattle.std.proofs.Common.{insert, remove, set, slice_get, refl, ap, ◌∙◌, subst, arith}
+use Rattle.std.proofs.Common.{insert, set, slice_get, refl, ap, ◌∙◌, subst, arith}
 use Rattle.std.specs.Prelude.{Err, Ok, OnOk, Result, Some}
 use Rattle.std.specs.Str.{bytes_eq}
-use Rattle.std.proofs.lemmas.List.{drop_all, length-map}
+use Rattle.std.proofs.lemmas.List.{length-map}
 use Rattle.engine_core.specs.Chains.{Chain, Changes, is_past, new_entry, no_place, upgraded}
 use Rattle.engine_core.specs.Engines.{EngineParts}
-use Rattle.engine_core.specs.Moves.{back_to, moved_up, place_of}
+use Rattle.engine_core.specs.Moves.{back_to, place_of}
 use Rattle.engine_core.specs.Policies.{first_level, level_under}
 use Rattle.engine_core.specs.declared.op.Op.TheVariants.{Attach, Detach, Upgrade}
 use Rattle.engine_core.specs.declared.policy.Policy.{Policy}
@@ -57,14 +57,6 @@ behind-more name engines at e is other behind =
     ap (λ n. place_of name (drop n (map (λ (e : EngineParts). e.entry) engines))) one) in
     omega (arith, behind, rest, next)
 
-pub none-placed : (name : List ℕ) (engines : List EngineParts) (at : ℕ) → length engines ≤ at → IsBehind name engines at
-    → at ≡ place_of name (map (λ e. e.entry) engines)
-none-placed name engines at past behind =
-    let none : place_of name (drop at (map (λ (e : EngineParts). e.entry) engines)) ≡ 0 =
-    ap (place_of name) (drop_all at (map (λ (e : EngineParts). e.entry) engines)
-    (omega (arith, past, length-map engines (λ (e : EngineParts). e.entry)))) in
-    omega (arith, behind, none)
-
 -- ---- an attachment
 
 pub attach-within : (c : ChainParts) (at : ℕ) (name label : List ℕ) (policy : Policy) (after : Chain)
@@ -94,19 +86,6 @@ pub detach-within : (c : ChainParts) (name : List ℕ) (after : Chain) → Chang
     → place_of name (chain_of c).entries < length c.engines
 detach-within c name after h = let n = has-named name c.engines (detach-has name c after h.makes) in
     within-at c.engines (place_of name (chain_of c).entries) n.engine n.at
-
-pub detach-changed : (c c' : ChainParts) (now : ℕ) (name name' : List ℕ) → name' ≡ name
-    → Changes (chain_of c) (Detach name') (chain_of c')
-    → c'.engines ≡ remove c.engines (place_of name' (chain_of c).entries) → c'.calls ≡ c.calls
-    → c'.row ≡ moved_up (place_of name' (chain_of c).entries) c.row
-    → IsChanged (Detach name) now c c'
-detach-changed c c' now name name' same changes engines calls row =
-    subst (λ (n : List ℕ). IsChanged (Detach n) now c c') same (record {
-      changes = changes;
-      engines = engines;
-      calls = calls;
-      row = row;
-    })
 
 -- ---- an upgrade
 

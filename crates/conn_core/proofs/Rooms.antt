@@ -48,10 +48,6 @@ has-room calls entries room few enough = record {
   enough = omega (arith, full-enough entries calls few, enough);
 }
 
-pub more-room : (calls : List StandingCall) (entries : List Entry) (room more : ℕ) → HasRoom calls entries room
-    → room ≤ more → HasRoom calls entries more
-more-room calls entries room more h le = record { dues = h.dues; each = h.each; enough = omega (arith, h.enough, le) }
-
 room-first-by : (s : StandingCall) (calls : List StandingCall) (entries : List Entry) (room left : ℕ)
     (dues : List (List ℕ))
     → AllZip (AreDue entries) (s ∷ calls) dues → sum_by due_of dues ≤ room → room ≤ left + 1

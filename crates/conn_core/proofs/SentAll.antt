@@ -160,7 +160,7 @@ pub fails-behind : {L : Type 0} (Refuses : L → List ℕ → L → Type 0) (han
 fails-behind Refuses handed_of faults_of Since a m f x y z same same' sent step fault hands faults since = record {
   between = course m;
   link = y;
-  sent = sent;
+  front = sent;
   seq = fault.seq;
   bytes = fault.bytes;
   ready = ready-as a m (course m) fault.seq fault.bytes same fault.ready;

@@ -1,5 +1,5 @@
 -- What is taken of a call by the answer of a copy.
-use Rattle.std.proofs.Common.{◌≡◌, ◌≢◌, ℕ, ◌<◌, ◌≤◌, ◌*◌, List, [], length, refl, sym, ap, ◌∙◌, subst, arith}
+use Rattle.std.proofs.Common.{◌≡◌, ◌≢◌, ℕ, ◌<◌, ◌≤◌, ◌*◌, List, length, refl, sym, ap, ◌∙◌, subst, arith}
 use Rattle.std.specs.Prelude.{IfOk, IfSome, Ok, Err, Option, Some, None, Result}
 use Rattle.mrpc_table.specs.Node.{Node}
 use Rattle.mrpc_table.specs.Normal.{IsNormal}
@@ -19,7 +19,7 @@ use Rattle.graph_copy.specs.declared.copying.CopyResult.TheVariants.{Copied, Mal
 use Rattle.graph_copy.specs.Copies.{IsCopied}
 use Rattle.graph_copy.specs.Answers.{IfCopied, IfMalformed, loads_of}
 use Rattle.call_history.specs.Behind.{copied, with_tree}
-use Rattle.call_history.specs.Loads.{is_copied, is_malformed, no_method}
+use Rattle.call_history.specs.Loads.{is_copied, is_malformed}
 use Rattle.call_history.specs.Rules.{IsTakenBy, payload}
 use Rattle.call_history.specs.declared.happening.Taken.{Taken}
 use Rattle.call_history.specs.declared.happening.TookCopy.TheVariants as took
@@ -101,21 +101,6 @@ taken-well laws T H limit conn seq own method number addr after answer call form
     (three (λ m n a. IfMalformed (IsMalformed T H (message_at T m n) a limit own) answer) method number addr call.method
     call.number call.addr is.asked.method is.asked.request is.asked.address malformed)
     is.copy (is.count ∙ counted) is.form_is
-
--- the table lacks the method, and nothing is loaded
-pub taken-lacking : (T : Table) (H limit : ℕ) (own : List (ℕ × ℕ)) (method : ℕ) (call : Taken)
-    → length T.methods ≤ method → own ≡ [] → call.method ≡ method
-    → call.copy ≡ took.Malformed NoMethod 0 method → call.count ≡ 0 → IsTakenWell T H limit own call None
-taken-lacking T H limit own method call past none method-is copy-is counted = record {
-  loaded = record {
-    taken = no_method (omega (arith, past, method-is)) none
-        (copy-is ∙ ap (λ (n : ℕ). took.Malformed NoMethod 0 n) (sym method-is));
-    counted = counted ∙ sym (ap length none);
-  };
-  few = omega (arith, counted);
-  sound = subst (IsTakenBy T call) (sym copy-is) ((λ is. omega (arith, past, method-is)), (λ is. refl));
-  short = tt;
-}
 
 pub ok-weaker : {X E : Type 0} (P Q : X → Type 0) → ((x : X) → P x → Q x) → (r : Result X E) → IfOk r P → IfOk r Q
 ok-weaker P Q weak (Ok x) h = weak x h

@@ -26,7 +26,7 @@ use Rattle.call_history.specs.Tickets.{tickets_behind}
 use Rattle.conn_core.specs.Connections.{Connection, IsConnection, IsSame, behind, course, frames, under}
 use Rattle.conn_core.specs.Kept.{PassesBy, Went}
 use Rattle.conn_core.specs.Steps.{Draws, DrawsTickets, Steps, parts, redactions}
-use Rattle.conn_core.proofs.Drawing.{draws-none, draws-unnoted}
+use Rattle.conn_core.proofs.Drawing.{draws-unnoted}
 use Rattle.conn_core.proofs.Lists.{all-of-map}
 use Rattle.conn_core.proofs.Passing.{Turning, turn-in}
 use Rattle.conn_core.proofs.TurnTold.{at-turn, on-both}
@@ -89,16 +89,6 @@ went-both Knows drawn_of Since a b c x y z ab bc = record {
     since = λ first h. bc.draws.since first (ab.draws.since first h);
   };
   fewer = omega (arith, ab.fewer, bc.fewer);
-}
-
-pub went-none : {Q : Type 0} (Knows : Q → ℕ → Type 0) (drawn_of : Q → ℕ → ℕ → Option (List ℕ)) (Since : Q → Q
-    → Type 0) (a : Connection) (x : Q) → Went Knows drawn_of Since a a x x
-went-none Knows drawn_of Since a x = record {
-  same = record { conn = refl; table = refl; limit = refl };
-  same_chain = refl;
-  same_frames = refl;
-  draws = draws-none Knows drawn_of Since a a x x refl refl;
-  fewer = omega arith;
 }
 
 -- ---- one turn

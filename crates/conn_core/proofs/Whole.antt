@@ -46,7 +46,7 @@ pub fails-in-drain : {L : Type 0} (Refused : L → List ℕ → L → Type 0) (h
 fails-in-drain Refused handed_of faults_of Since a m f x y same passes fault = record {
   between = fault.between;
   link = fault.link;
-  begins = begins a m fault.between same passes fault.sent;
+  front = begins a m fault.between same passes fault.front;
   seq = fault.seq;
   bytes = fault.bytes;
   ready = ready-as a m fault.between fault.seq fault.bytes same fault.ready;

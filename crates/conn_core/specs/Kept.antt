@@ -29,8 +29,7 @@ use Rattle.graph_copy.specs.declared.copying.CopyResult.TheVariants as results
 use Rattle.chain_upgrade.specs.Chains.{ChainParts, chain_of}
 use Rattle.call_history.specs.Behind.{chain, copied, moment, taken}
 use Rattle.call_history.specs.Draining.{SendsSome}
-use Rattle.call_history.specs.Events.{Comes, Course, IsReady, cause_of, fails, turns}
-use Rattle.call_history.specs.Frames.{frame_of}
+use Rattle.call_history.specs.Events.{cause_of, turns}
 use Rattle.call_history.specs.Records.{HasRule, Kept, step_at}
 use Rattle.call_history.specs.Loads.{IsLoaded, Loads}
 use Rattle.call_history.specs.Rules.{IsTakenBy, payload}
@@ -41,8 +40,8 @@ use Rattle.call_history.specs.declared.happening.Taken.{Taken}
 use Rattle.call_history.specs.declared.happening.TookCopy.{TookCopy}
 use Rattle.call_history.specs.declared.happening.TookCopy.TheVariants.{Copy, Malformed}
 use Rattle.conn_core.specs.declared.answers.Ask.{Ask}
-use Rattle.conn_core.specs.Connections.{Connection, IsConnection, IsSame, behind, course, frames, under}
-use Rattle.conn_core.specs.Steps.{DrawsTickets, Steps, parts}
+use Rattle.conn_core.specs.Connections.{Connection, IsConnection, IsSame, behind, frames}
+use Rattle.conn_core.specs.Steps.{DrawsTickets, FailsAfter, Steps, parts}
 
 -- ---- which step put its policy into an entry
 
@@ -259,18 +258,7 @@ pub record PassesBy (position : ℕ) (before after : Connection) : Type 0 where
   pub fewer : parts after ≤ parts before
   pub same : IsSame before after
 
--- Some calls were sent, and then the link failed at the frame of the first call that was ready. The words are those of
--- `FailsInDrain`.
-pub record FailsBehind {L : Type 0} (Refused : L → List ℕ → L → Type 0) (handed_of : L → List (List ℕ))
-    (faults_of : L → ℕ) (Since : L → L → Type 0) (before after : Connection) (old new : L) : Type 0 where
-  pub between : Course
-  pub link : L
-  pub sent : SendsSome (under before) (course before) between
-  pub seq : ℕ
-  pub bytes : ℕ
-  pub ready : IsReady (under before) between seq bytes
-  pub failed : Comes (under before) between fails (course after)
-  pub refused : Refused link (frame_of before.table ready.sent) new
-  pub same_handed : handed_of link ≡ handed_of new
-  pub same_faults : faults_of link ≡ faults_of old
-  pub since : (first : L) → Since first old → Since first link
+-- some calls were sent, and then the link failed
+abbrev pub FailsBehind : {L : Type 0} → (L → List ℕ → L → Type 0) → (L → List (List ℕ)) → (L → ℕ) → (L → L → Type 0)
+    → Connection → Connection → L → L → Type 0
+FailsBehind Refuses handed_of faults_of Since = FailsAfter SendsSome Refuses handed_of faults_of Since

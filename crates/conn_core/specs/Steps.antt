@@ -14,6 +14,7 @@ use Rattle.call_history.specs.Draining.{BeginsToDrain}
 use Rattle.call_history.specs.Events.{Comes, Course, Event, IsReady, accepts, fails, sends}
 use Rattle.call_history.specs.Frames.{frame_of}
 use Rattle.call_history.specs.Loads.{IsLoaded, Loads}
+use Rattle.call_history.specs.Rules.{Under}
 use Rattle.call_history.specs.Tickets.{tickets_behind}
 use Rattle.call_history.specs.declared.happening.Taken.{Taken}
 use Rattle.conn_core.specs.Connections.{Connection, behind, course, frames, under}
@@ -71,15 +72,16 @@ pub record FailsToSend {L : Type 0} (Refused : L → List ℕ → L → Type 0) 
   pub ready : IsReady (under before) (course before) seq bytes
   pub refused : Refused old (frame_of before.table ready.sent) new
 
--- A drain as far as it came, until the link failed at the frame of the first call that was ready: the calls that stood
--- then are refused. `link` is the link before that send. `Refused` says what a failed send of a frame tells,
+-- A link failed at the frame of the first call that was ready, when the history had come so far (`Front`): the calls
+-- that stood then are refused. `link` is the link before that send. `Refused` says what a failed send of a frame tells,
 -- `handed_of` what was handed over, `faults_of` how often the link had failed, and `Since` that the second is the
 -- first, later on.
-pub record FailsInDrain {L : Type 0} (Refused : L → List ℕ → L → Type 0) (handed_of : L → List (List ℕ))
-    (faults_of : L → ℕ) (Since : L → L → Type 0) (before after : Connection) (old new : L) : Type 0 where
+pub record FailsAfter {L : Type 0} (Front : Under → Course → Course → Type 0) (Refused : L → List ℕ → L → Type 0)
+    (handed_of : L → List (List ℕ)) (faults_of : L → ℕ) (Since : L → L → Type 0) (before after : Connection)
+    (old new : L) : Type 0 where
   pub between : Course
   pub link : L
-  pub begins : BeginsToDrain (under before) (course before) between
+  pub front : Front (under before) (course before) between
   pub seq : ℕ
   pub bytes : ℕ
   pub ready : IsReady (under before) between seq bytes
@@ -88,6 +90,11 @@ pub record FailsInDrain {L : Type 0} (Refused : L → List ℕ → L → Type 0)
   pub same_handed : handed_of link ≡ handed_of new
   pub same_faults : faults_of link ≡ faults_of old
   pub since : (first : L) → Since first old → Since first link
+
+-- a drain as far as it came until the link failed
+abbrev pub FailsInDrain : {L : Type 0} → (L → List ℕ → L → Type 0) → (L → List (List ℕ)) → (L → ℕ) → (L → L → Type 0)
+    → Connection → Connection → L → L → Type 0
+FailsInDrain Refuses handed_of faults_of Since = FailsAfter BeginsToDrain Refuses handed_of faults_of Since
 
 -- of the tickets of a tenant's window, where they are told, those were drawn that the history tells, and no others
 abbrev pub Draws : ℕ → ℕ → Connection → Connection → Option (List ℕ) → Option (List ℕ) → Type 0

@@ -15,7 +15,7 @@ use engine_core::{Op, Policy};
 use mrpc_table::{Memory, Name};
 use std::alloc::Global;
 
-/// Makes room for a step of an operator, for so many records, and for one more place of a step.
+// Makes room for a step of an operator, for so many records, and for one more place of a step.
 pub(crate) fn reserve(
     history: &mut History,
     steps: &mut Vec<usize>,
@@ -34,8 +34,8 @@ pub(crate) fn reserve(
     Ok(steps.reserve(1)?)
 }
 
-/// Takes a step of an operator, of this place among the steps, at a moment. `steps` has the places of the steps that
-/// put their policies into the engines, by position, and room for one more. After any fault both are as before.
+// Takes a step of an operator, of this place among the steps, at a moment. `steps` has the places of the steps that
+// put their policies into the engines, by position, and room for one more. After any fault both are as before.
 pub(crate) fn change(
     alloc: Global,
     chain: &mut Chain,

@@ -16,8 +16,8 @@ use crate::conn::Conn;
 use chain_upgrade::Turned;
 use mrpc_base::{Link, Tickets};
 
-/// Has the engines take turns, from the first on, until no call can go on. Behind a turn that cleared fields from a
-/// call it begins again at the first engine.
+// Has the engines take turns, from the first on, until no call can go on. Behind a turn that cleared fields from a
+// call it begins again at the first engine.
 pub(crate) fn pass_all<Q: Tickets>(conn: &mut Conn, tickets: &mut Q)
     requires { All (λ e. KnowsTenantOf (Q.knows tickets.old) e.entry.policy) conn.old.chain.engines }
     ensures passes { Passes (under conn.old) 0 (course conn.old) (course conn.new) }
@@ -61,7 +61,7 @@ fn turns_at<Q: Tickets>(conn: &mut Conn, at: u32, tickets: &mut Q) -> bool
     }
 }
 
-/// Sends the calls that are ready, in order.
+// Sends the calls that are ready, in order.
 pub(crate) fn send_all<L: Link>(conn: &mut Conn, link: &mut L) -> Drained
     ensures done { result ≡ Drained.Done → SendsSome (under conn.old) (course conn.old) (course conn.new) }
     ensures none_ready { result ≡ Drained.Done

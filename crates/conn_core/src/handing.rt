@@ -17,7 +17,7 @@ use mrpc_base::{Handed, Link};
 use mrpc_table::{Bytes, Call, Memory, Sort, Table};
 use wire_encode::{Output, encode_into};
 
-/// Encodes a call into `payload`, and hands its frame, which is put into `bytes`, to a link.
+// Encodes a call into `payload`, and hands its frame, which is put into `bytes`, to a link.
 pub(crate) fn hand<L: Link>(
     payload: &mut Output,
     bytes: &mut Bytes,
@@ -81,8 +81,8 @@ fn number_for(call: &Call) -> u32
     }
 }
 
-/// Takes the first call that is ready from a chain, and records that it was sent, in a frame of so many bytes. It
-/// answers the number of the call, and takes no memory.
+// Takes the first call that is ready from a chain, and records that it was sent, in a frame of so many bytes. It
+// answers the number of the call, and takes no memory.
 pub(crate) fn leave(chain: &mut Chain, history: &mut History, bytes: u64) -> u32
     requires ready { first_at (length chain.old.engines) chain.old.row ≢ None }
     requires room { 0 < history.old.room }

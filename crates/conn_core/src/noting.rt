@@ -5,7 +5,7 @@ ghost use Rattle.engine_core.specs.Chains.{Entry};
 ghost use Rattle.engine_core.specs.declared.op.Op.{Op};
 ghost use Rattle.chain_upgrade.specs.Chains.{OnTurn};
 ghost use Rattle.call_history.specs.Events.{cause_of};
-ghost use Rattle.call_history.specs.Records.{IsNamed, cause_of as cause_by, name_in, step_at};
+ghost use Rattle.call_history.specs.Records.{IsNamed, cause_told_by, name_in, step_at};
 ghost use Rattle.call_history.specs.declared.record.Record.TheVariants.{Refused};
 ghost use Rattle.conn_core.specs.Kept.{GivesRule, PutsIn, RefusesBy, records_in, records_of, told_failure, told_note, told_turn};
 
@@ -13,7 +13,7 @@ use call_history::{History, Record, Refusal};
 use chain_upgrade::Turned;
 use engine_core::{CallRow, Noted, Why};
 
-/// Records what came of a turn of an engine of this version, whose policy the step at a place put there.
+// Records what came of a turn of an engine of this version, whose policy the step at a place put there.
 pub(crate) fn record_turn(history: &mut History, step: usize, version: u32, turned: Turned)
     requires step { step < length history.old.steps }
     requires room { OnTurn turned (λ seq outcome. records_in outcome ≤ history.old.room) }
@@ -61,7 +61,7 @@ fn record_note(history: &mut History, step: usize, seq: u32, noted: Noted)
 // A refusal by an engine, as it is kept.
 fn refusal(step: usize, version: u32, why: Why) -> Refusal
     ensures cause { (steps : List Op) (e : Entry) → PutsIn (step_at steps step) e → e.version ≡ version
-        → cause_by steps result ≡ cause_of e why }
+        → cause_told_by steps result ≡ cause_of e why }
     ensures named { (steps : List Op) (seq : ℕ) → step < length steps → GivesRule (step_at steps step) why
         → IsNamed steps (Refused seq result) }
 {
@@ -76,7 +76,7 @@ fn refusal(step: usize, version: u32, why: Why) -> Refusal
     }
 }
 
-/// Records that calls are refused since a link failed.
+// Records that calls are refused since a link failed.
 pub(crate) fn refuse_all(history: &mut History, calls: &CallRow)
     requires room { length calls.now ≤ history.old.room }
     ensures steps { history.new.steps ≡ history.old.steps }

@@ -19,15 +19,15 @@ use mrpc_base::Words;
 use mrpc_table::{Call, Memory, Table};
 use std::alloc::Global;
 
-/// What was taken of a submission: the call as it is recorded and, where it has a copy, its form.
+// What was taken of a submission: the call as it is recorded and, where it has a copy, its form.
 #[derive(Drop)]
 pub(crate) struct Submission {
     pub call: Taken,
     pub form: Option<Call>,
 }
 
-/// Takes the message of a submission from a heap, by at most `limit` loads. Where the table lacks the method there is
-/// none.
+// Takes the message of a submission from a heap, by at most `limit` loads. Where the table lacks the method there is
+// none.
 pub(crate) fn take<W: Words>(
     alloc: Global,
     words: &mut W,
@@ -141,7 +141,7 @@ fn call_of(seq: u32, ask: Ask, count: u64, copy: TookCopy) -> Taken
     }
 }
 
-/// Records a call that is accepted, and has it stand, or be refused where it is malformed. It takes no memory.
+// Records a call that is accepted, and has it stand, or be refused where it is malformed. It takes no memory.
 pub(crate) fn stand(chain: &mut Chain, history: &mut History, submission: Submission)
     requires few { length chain.old.calls < MAX_CALLS }
     requires greater { IfSome submission.form (λ form. All (λ s. s.call.seq < form.seq) chain.old.calls) }

@@ -17,7 +17,7 @@ use std::thread::Threads;
 // The table of the messages.
 const TABLE: &[u8] = b"message M\nfield 1 plain uint64 n\nmethod 0 S Get M M\n";
 
-/// Has as many calls echoed as the words ask for, and gives what is printed of it.
+// Has as many calls echoed as the words ask for, and gives what is printed of it.
 pub(crate) fn told<R>(rt: &R, alloc: Global, words: &[String]) -> Option<Bytes>
 where
     R: Threads + Wait + Sync,

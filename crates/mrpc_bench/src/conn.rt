@@ -43,7 +43,7 @@ struct Done {
     frames: usize,
 }
 
-/// Does what the words ask for, and gives what is printed of it.
+// Does what the words ask for, and gives what is printed of it.
 pub(crate) fn told(alloc: Global, words: &[String]) -> Option<Bytes> {
     let Done { happenings, frames } = carry_out(alloc, asked(words)?)?;
     line_of(alloc, &[happenings as u64, frames as u64])

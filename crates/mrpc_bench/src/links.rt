@@ -19,8 +19,8 @@ use std::thread::{Threads, join};
 // How many frames wait at most.
 const CAPACITY: u64 = 64;
 
-/// Passes as many frames on as the words ask for, and gives what is printed of it. Those for which no memory is found are
-/// left out.
+// Passes as many frames on as the words ask for, and gives what is printed of it. Those for which no memory is found are
+// left out.
 pub(crate) fn told<R>(rt: &R, alloc: Global, words: &[String]) -> Option<Bytes>
 where
     R: Threads + Wait + Sync,

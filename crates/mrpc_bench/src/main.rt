@@ -51,11 +51,13 @@ fn words_of<R: Env + AllocGlobal>(rt: &R) -> io::Result<Vec<String>> {
 }
 
 // Writes what a part told, if it did, and gives the status.
-fn print<W: Write>(out: &mut W, told: Option<Bytes>) -> io::Result<ExitCode> {
-    let Some(told) = told else {
+fn print<W: Write>(out: &mut W, told: Option<Vec<Bytes>>) -> io::Result<ExitCode> {
+    let Some(texts) = told else {
         return Ok(ExitCode::FAILURE);
     };
-    out.write_all(told.as_slice())?;
+    for text in &texts {
+        out.write_all(text.as_slice())?;
+    }
     Ok(ExitCode::SUCCESS)
 }
 
@@ -81,8 +83,8 @@ const PARTS: [(&str, Part); 7] = [
     ("upgrade", Part::Upgrade),
 ];
 
-// What the part prints that the words name; none where they name none.
-fn told_by<R, I: Read>(rt: &R, alloc: Global, words: &[String], input: &mut I) -> Option<Bytes>
+// What the part prints that the words name, as texts that follow one another; none where they name none.
+fn told_by<R, I: Read>(rt: &R, alloc: Global, words: &[String], input: &mut I) -> Option<Vec<Bytes>>
 where
     R: Threads + Wait + Sync + Clock,
 {
@@ -90,16 +92,23 @@ where
         return None;
     };
     match named(&PARTS, part.as_str())? {
-        Part::Apps => apps::told(rt, alloc, behind),
-        Part::Conn => conn::told(alloc, behind),
-        Part::Links => links::told(rt, alloc, behind),
-        Part::Ring => ring::told(rt, alloc, behind),
-        Part::Scenario => scenarios::told(alloc, behind, input),
+        Part::Apps => alone(alloc, apps::told(rt, alloc, behind)),
+        Part::Conn => alone(alloc, conn::told(alloc, behind)),
+        Part::Links => alone(alloc, links::told(rt, alloc, behind)),
+        Part::Ring => alone(alloc, ring::told(rt, alloc, behind)),
+        Part::Scenario => alone(alloc, scenarios::told(alloc, behind, input)),
         Part::Serve => serve::told(rt, alloc, behind, input),
-        Part::Upgrade => upgrade::told(rt, alloc, behind),
+        Part::Upgrade => alone(alloc, upgrade::told(rt, alloc, behind)),
     }
 }
 
-/// Values are handed over to be dropped here: what a drop comes to is proved in each function that has one. In this one it
-/// is one call.
+// The text alone, if there is one.
+fn alone(alloc: Global, text: Option<Bytes>) -> Option<Vec<Bytes>> {
+    let mut texts = Vec::new(alloc);
+    texts.push(text?).ok()?;
+    Some(texts)
+}
+
+// Values are handed over to be dropped here: what a drop comes to is proved in each function that has one. In this one it
+// is one call.
 pub(crate) fn discard<T: Drop>(_value: T) {}

@@ -24,7 +24,7 @@ enum Form {
     Toml,
 }
 
-/// Counts the lines of the programs of an input, and gives what is printed of it.
+// Counts the lines of the programs of an input, and gives what is printed of it.
 pub(crate) fn told<I: Read>(alloc: Global, words: &[String], input: &mut I) -> Option<Bytes> {
     let form = named(&FORMS, words.first()?.as_str())?;
     let text = text_of(alloc, input)?;

@@ -24,13 +24,13 @@ use std::thread::Threads;
 use std::time::Clock;
 use system_io::SystemClock;
 
-/// Runs the scenario of an input, and gives what the run tells.
+// Runs the scenario of an input, and gives what the run tells, as it has it in parts.
 pub(crate) fn told<R, I: Read>(
     rt: &R,
     alloc: Global,
     words: &[String],
     input: &mut I,
-) -> Option<Bytes>
+) -> Option<Vec<Bytes>>
 where
     R: Threads + Wait + Sync + Clock,
 {
@@ -55,7 +55,7 @@ fn plan_of(alloc: Global, text: &[u8]) -> Option<Plan>
     }
 }
 
-fn run_in_memory<R>(rt: &R, alloc: Global, plan: &Plan) -> Option<Bytes>
+fn run_in_memory<R>(rt: &R, alloc: Global, plan: &Plan) -> Option<Vec<Bytes>>
 where
     R: Threads + Wait + Sync + Clock,
     requires { IsPlan plan.now }
@@ -64,7 +64,7 @@ where
 }
 
 // What the run of a plan over links of a fabric tells; none where no memory was found or a link failed.
-fn served<R, F>(rt: &R, alloc: Global, plan: &Plan, mut fabric: F) -> Option<Bytes>
+fn served<R, F>(rt: &R, alloc: Global, plan: &Plan, mut fabric: F) -> Option<Vec<Bytes>>
 where
     R: Threads + Wait + Sync + Clock,
     F: Fabric + Drop,
@@ -75,13 +75,13 @@ where
     told_of(run)
 }
 
-fn told_of(run: Run) -> Option<Bytes> {
+fn told_of(run: Run) -> Option<Vec<Bytes>> {
     let Run {
-        text,
+        parts,
         totals: _totals,
         failed,
     } = run;
-    if failed { None } else { Some(text) }
+    if failed { None } else { Some(parts) }
 }
 
 // No call of the fabric and of its links is to fail.

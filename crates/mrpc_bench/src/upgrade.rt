@@ -24,7 +24,7 @@ use std::time::{Clock, Instant};
 // How many calls are taken from one upgrade to the next.
 const CALLS: u64 = 64;
 
-/// Upgrades a policy as often as the words ask for, and gives the line of the times.
+// Upgrades a policy as often as the words ask for, and gives the line of the times.
 pub(crate) fn told<R: Clock>(rt: &R, alloc: Global, words: &[String]) -> Option<Bytes> {
     let upgrades = count_of(words)?;
     let table = table_of(alloc, TABLE)?;

@@ -1,6 +1,7 @@
 mod Commands
 mod Complete
 mod KnownBytes
+mod Parts
 mod Replays
 mod RunAnswers
 mod Runs

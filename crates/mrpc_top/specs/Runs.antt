@@ -2,7 +2,7 @@
 use Rattle.std.specs.Prelude.{◌≡◌, ◌⊎◌, ℕ, ◌<◌, ◌≤◌, Bool, List, [], ◌∷◌, codes, length, map, Option, Some, String, string_bytes}
 use Rattle.std.specs.declared.alloc.Global.{Global}
 use Rattle.std.specs.Fmt.{decimal}
-use Rattle.std.specs.List.{flat_map}
+use Rattle.std.specs.List.{concat, flat_map}
 use Rattle.std.specs.Io.KnownBytes.{Appends}
 use Rattle.mrpc_base.specs.declared.clock.Clock.{Ghosts as ClockMembers}
 use Rattle.mrpc_base.specs.declared.link.Link.{Ghosts as LinkMembers}
@@ -64,7 +64,7 @@ module _ {C L : Type 0} (of_clock : ClockMembers C) (of_link : LinkMembers L) (p
     pub run : Run
     pub ran : HasRun of_clock of_link pair plan clock back back' run
     pub its_failed : run.failed ≡ failed
-    pub its_text : told ≡ run.text
+    pub its_text : told ≡ concat run.parts.items
 
   -- the drill was run, and this line has the counts of all lines of the run
   pub record TellsDrill (failed : Bool) (calls : ℕ) (told : List ℕ) : Type 0 where

@@ -1,5 +1,6 @@
 -- Which plan is run, and what is told of its run: the code's own. No public definition takes a word from here.
 use Rattle.std.specs.Prelude.{◌≡◌, ℕ, List, Option}
+use Rattle.std.specs.List.{concat}
 use Rattle.std.specs.Io.KnownBytes.{Appends}
 use Rattle.drill_plan.specs.Drill.{drill}
 use Rattle.run_plan.specs.declared.plan.Plan.{Plan}
@@ -19,7 +20,7 @@ IsPlanOf (Drill calls) left plan = plan ≡ drill calls
 
 -- what is told of a run: its text, or the line of a drill
 abbrev pub IsToldOf : Running → Run → List ℕ → Type 0
-IsToldOf Scenario run told = told ≡ run.text
+IsToldOf Scenario run told = told ≡ concat run.parts.items
 IsToldOf (Drill calls) run told = IsTotals run.totals × (told ≡ drill_line calls (sums_of run.totals))
 
 -- it was written

@@ -1,6 +1,7 @@
 //! `run` and `drill`: plans that are run over the links of a fabric.
 
-ghost use Rattle.std.specs.Prelude.{◌≡◌, ◌≢◌, ◌⊎◌, ◌≤◌, ◌++◌, ◌∷◌, List, ℕ, Option, Some, true, false, codes, decimal, IfOk, IfSome, IfNone, OnOk};
+ghost use Rattle.std.specs.Prelude.{◌≡◌, ◌≢◌, ◌⊎◌, ◌≤◌, ◌++◌, ◌∷◌, List, ℕ, Option, Some, true, false, codes, decimal, IfOk, IfSome, IfNone, IsTrue, OnOk};
+ghost use Rattle.std.specs.List.{concat};
 ghost use Rattle.std.specs.Io.KnownBytes.{Appends};
 ghost use Rattle.mrpc_base.specs.Faults.{HasCause};
 ghost use Rattle.run_plan.specs.Plans.{IsPlan};
@@ -39,16 +40,16 @@ pub const LINK_FAILED: u8 = WIRE_FAILED;
 /// The fabric failed to open a link.
 pub const FABRIC_FAILED: u8 = 7;
 
-/// What is run.
+// What is run.
 #[derive(Clone, Copy)]
 pub(crate) enum Running {
-    /// The scenario that the input says.
+    // The scenario that the input says.
     Scenario,
-    /// The drill of so many calls.
+    // The drill of so many calls.
     Drill(u64),
 }
 
-/// What the words have run; none where they are no command that runs something.
+// What the words have run; none where they are no command that runs something.
 pub(crate) fn running_of(words: &[String]) -> Option<Running>
     ensures some { IfSome result (λ running. NamesRun words.now running) }
     ensures none { IfNone result ((running : Running) → NamesRun words.now running → ⊥) }
@@ -100,7 +101,7 @@ fn calls_of(number: &str) -> Option<u64>
     }
 }
 
-/// Runs what is named, and answers the status.
+// Runs what is named, and answers the status.
 pub(crate) fn run_named<R: Threads + Wait + Sync, S: Source, K: Sink, F: Fabric, C: Clock, G: Gate>(
     rt: &R,
     alloc: Global,
@@ -333,9 +334,9 @@ fn tell_run<K: Sink>(alloc: Global, running: Running, run: &Run, out: &mut K) ->
     ensures cause { HasCause (result ≡ OUTPUT_FAILED) (K.faults out.old) (K.faults out.new) }
 {
     match running {
-        Running::Scenario => tell(run.text.as_slice(), run.failed, out),
+        Running::Scenario => told(write_parts(out, run.parts.as_slice()), run.failed),
         Running::Drill(calls) => match drill_line(alloc, calls, &run.totals) {
-            Ok(line) => tell(line.as_slice(), run.failed, out),
+            Ok(line) => told(write_all(out, line.as_slice()), run.failed),
             Err(Memory) => NO_MEMORY,
         },
     }
@@ -373,15 +374,29 @@ fn append_count(line: &mut Bytes, word: &[u8], count: u64) -> Result<(), Memory>
     line.append_word(count)
 }
 
-// Writes what a run tells.
-fn tell<K: Sink>(text: &[u8], failed: bool, out: &mut K) -> u8
-    ensures statuses { (result ≡ DONE) ⊎ ((result ≡ LINK_FAILED) ⊎ (result ≡ OUTPUT_FAILED)) }
-    ensures done { result ≡ DONE → (failed ≡ false) × Appends (K.written out.old) (K.written out.new) text.now }
-    ensures link { result ≡ LINK_FAILED → (failed ≡ true) × Appends (K.written out.old) (K.written out.new) text.now }
-    ensures front { result ≡ OUTPUT_FAILED → WritesFront (K.written out.old) (K.written out.new) text.now }
-    ensures cause { HasCause (result ≡ OUTPUT_FAILED) (K.faults out.old) (K.faults out.new) }
+// Writes the parts of what a run tells, one after another, and answers whether the sink took them.
+fn write_parts<K: Sink>(out: &mut K, parts: &[Bytes]) -> bool
+    ensures done { IsTrue result → Appends (K.written out.old) (K.written out.new) (concat parts.now) }
+    ensures front { result ≡ false → WritesFront (K.written out.old) (K.written out.new) (concat parts.now) }
+    ensures cause { HasCause (result ≡ false) (K.faults out.old) (K.faults out.new) }
 {
-    if !write_all(out, text) {
+    for part in parts {
+        if !write_all(out, part.as_slice()) {
+            return false;
+        }
+    }
+    true
+}
+
+// The status of a run of which all that it tells was written, or not.
+fn told(whole: bool, failed: bool) -> u8
+    ensures statuses { (result ≡ DONE) ⊎ ((result ≡ LINK_FAILED) ⊎ (result ≡ OUTPUT_FAILED)) }
+    ensures done { result ≡ DONE → (whole ≡ true) × (failed ≡ false) }
+    ensures link { result ≡ LINK_FAILED → (whole ≡ true) × (failed ≡ true) }
+    ensures out { result ≡ OUTPUT_FAILED → whole ≡ false }
+    ensures whole { result ≢ OUTPUT_FAILED → whole ≡ true }
+{
+    if !whole {
         return OUTPUT_FAILED;
     }
     if failed { LINK_FAILED } else { DONE }

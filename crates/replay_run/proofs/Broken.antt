@@ -116,7 +116,7 @@ drain-broken written faults s c calls quotas quotas' x y of_script rests same no
       tried = call;
       fails = record {
         at = fault.between;
-        gets = by_drain refl (subst (λ u. BeginsToDrain u (course c.calls) fault.between) (under-of s c of_script) fault.begins);
+        gets = by_drain refl (subst (λ u. BeginsToDrain u (course c.calls) fault.between) (under-of s c of_script) fault.front);
         seq = fault.seq;
         bytes = fault.bytes;
         ready = ready-of s c fault.between fault.seq fault.bytes of_script fault.ready;

@@ -9,7 +9,7 @@ use Rattle.script_text.specs.declared.script.Line.{Line}
 use Rattle.script_text.specs.declared.script.Line.TheVariants as line
 use Rattle.script_text.specs.declared.script.Script.{Script}
 use Rattle.conn_core.specs.Connections.{IsConnection}
-use Rattle.replay_run.specs.Kept.{BrokenOn, BrokenTold, DoneOn, DoneTold, IsTold, OnRan, StoppedOn, StopsAt, TellsSome, behind_failure, behind_line, in_line, untold}
+use Rattle.replay_run.specs.Kept.{BrokenOn, BrokenTold, DoneOn, DoneTold, IsTold, OnRan, StopsAt, TellsSome, behind_failure, behind_line, untold}
 use Rattle.replay_run.specs.declared.connection.Connection.{Connection}
 use Rattle.replay_run.specs.declared.stop.Stop.{Stop}
 use Rattle.replay_run.specs.declared.stop.Stop.TheVariants.{Memory, Out, Wire}
@@ -34,14 +34,6 @@ module _ (s : Script) (l : Line) (c mid d : Connection) (quotas quotas' : Counte
 
   pub broken-told : BrokenOn s l c mid quotas quotas' wire wire' → IsTold mid d → Appends out out' (untold s.table mid) → BrokenTold s l c d quotas quotas' out out' wire wire'
   broken-told broken told lines = record { mid = mid; broken = broken; told = told; lines = lines }
-
--- the line stopped before anything was told
-pub stopped-before : (s : Script) (l : Line) (c : Connection) (out wire wire' : Option (List ℕ)) (stop : Stop) (Done Broken Done' Broken' : Type 0) → stop ≢ Wire
-    → OnRan {T = Unit {0}} (Err stop) Done Broken (StoppedOn s l c wire wire') ⊥
-    → OnRan {T = Unit {0}} (Err stop) Done' Broken' (StopsAt s l c out out wire wire') (StopsAt s l c out out wire wire')
-stopped-before s l c out wire wire' Wire Done Broken Done' Broken' other stopped = absurd (other refl)
-stopped-before s l c out wire wire' Memory Done Broken Done' Broken' other stopped = in_line stopped refl
-stopped-before s l c out wire wire' Out Done Broken Done' Broken' other stopped = absurd stopped
 
 pub cause-none : {Failing : Type 0} (before now : ℕ) → (Failing → ⊥) → now ≡ before → HasCause Failing before now
 cause-none before now none same = record { rose = λ f. absurd (none f); stays = λ _. same; never_falls = omega arith }

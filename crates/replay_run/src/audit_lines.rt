@@ -15,7 +15,7 @@ use mrpc_table::{Bytes, Memory, Table};
 use std::alloc::Global;
 use wire_encode::Output;
 
-/// Room in which one line after another is made, and for the encoding of the copy that it tells.
+// Room in which one line after another is made, and for the encoding of the copy that it tells.
 #[derive(Drop)]
 pub(crate) struct LineRoom {
     line: Bytes,
@@ -23,7 +23,7 @@ pub(crate) struct LineRoom {
 }
 
 impl LineRoom {
-    /// Room that is still to grow.
+    // Room that is still to grow.
     pub(crate) fn new(alloc: Global) -> Result<LineRoom, Memory> {
         Ok(LineRoom {
             line: Bytes::new(alloc),
@@ -32,8 +32,8 @@ impl LineRoom {
     }
 }
 
-/// Writes the lines of what has happened on a connection since its last lines were written, each by a write of its own.
-/// Mostly there is nothing to write, behind a line that stores a word.
+// Writes the lines of what has happened on a connection since its last lines were written, each by a write of its own.
+// Mostly there is nothing to write, behind a line that stores a word.
 #[inline(always)]
 pub(crate) fn tell<K: Sink>(
     room: &mut LineRoom,
@@ -89,7 +89,7 @@ fn tell_some<K: Sink>(
     Ok(())
 }
 
-/// Writes a line.
+// Writes a line.
 pub(crate) fn write_line<K: Sink>(out: &mut K, line: &[u8]) -> Result<(), Stop>
     ensures written { OnOk result (Appends (K.written out.old) (K.written out.new) line.now) }
     ensures front { OnErr result (AppendsFront (K.written out.old) (K.written out.new) line.now) }

@@ -15,16 +15,16 @@ use std::alloc::Global;
 // A heap takes no more stores than this.
 const STORE_LIMIT: u64 = 1 << 63;
 
-/// What a run keeps of a connection between two lines.
+// What a run keeps of a connection between two lines.
 #[derive(Drop)]
 pub(crate) struct Connection<'t> {
     pub calls: Conn<'t>,
     pub heap: PlainWords,
-    /// How many of its happenings were written.
+    // How many of its happenings were written.
     pub told: usize,
 }
 
-/// Opens a connection, with a heap of so many words, whose calls are taken by at most `limit` loads each.
+// Opens a connection, with a heap of so many words, whose calls are taken by at most `limit` loads each.
 pub(crate) fn open(
     alloc: Global,
     table: &Table,
@@ -53,7 +53,7 @@ pub(crate) fn open(
     }
 }
 
-/// The place of the connection of a number, where it is open.
+// The place of the connection of a number, where it is open.
 pub(crate) fn place_of(connections: &[Connection<'_>], conn: u32) -> Option<usize>
     ensures { result ≡ position (λ c. c.calls.conn == conn) connections.now }
 {
@@ -62,7 +62,7 @@ pub(crate) fn place_of(connections: &[Connection<'_>], conn: u32) -> Option<usiz
         .position(|connection| connection.calls.number() == conn)
 }
 
-/// The place of a connection that is open.
+// The place of a connection that is open.
 pub(crate) fn open_place(connections: &[Connection<'_>], conn: u32) -> usize
     requires { position (λ c. c.calls.conn == conn) connections.now ≢ None }
     ensures { position (λ c. c.calls.conn == conn) connections.now ≡ Some result }
@@ -73,7 +73,7 @@ pub(crate) fn open_place(connections: &[Connection<'_>], conn: u32) -> usize
     }
 }
 
-/// Stores a word. The room for it is made first.
+// Stores a word. The room for it is made first.
 pub(crate) fn store(heap: &mut PlainWords, place: u32, value: u64) -> Result<(), Stop>
     requires from_one { 1 ≤ place }
     requires in_heap { place < heap.old.size }
@@ -88,7 +88,7 @@ pub(crate) fn store(heap: &mut PlainWords, place: u32, value: u64) -> Result<(),
     Ok(())
 }
 
-/// Lists a store that is made right before a load of the next submission.
+// Lists a store that is made right before a load of the next submission.
 pub(crate) fn race(heap: &mut PlainWords, load: u64, place: u32, value: u64) -> Result<(), Stop>
     requires load_from_one { 1 ≤ load }
     requires from_one { 1 ≤ place }

@@ -14,7 +14,7 @@ use policy_blocks::NamedPolicy;
 use script_text::{Line, Script};
 use std::alloc::Global;
 
-/// Takes the step of an operator's line, which the chain doesn't refuse.
+// Takes the step of an operator's line, which the chain doesn't refuse.
 pub(crate) fn operate_by(
     alloc: Global,
     script: &Script,
@@ -109,7 +109,7 @@ fn operate(alloc: Global, connection: &mut Connection<'_>, step: Op) -> Result<(
     }
 }
 
-/// Shows a connection a moment.
+// Shows a connection a moment.
 pub(crate) fn show(connection: &mut Connection<'_>, ms: u64) -> Result<(), Stop>
     requires rests { IsResting connection.old.heap }
     ensures does { OnOk result (DoesWhere (λ s l. l ≡ Moment connection.old.calls.conn ms)

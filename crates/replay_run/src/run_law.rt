@@ -16,7 +16,7 @@ ghost use Rattle.replay_run.specs.declared.connection.Connection.{Connection};
 
 use call_history::{connections_are_apart, drains_settle, events_keep, histories_go_on};
 
-/// A law for the run's proofs.
+// A law for the run's proofs.
 pub(crate) fn run_follows()
     // Nothing was run.
     ensures begins { (s : Script) (quotas : Counters) (out wire : Option (List ℕ))

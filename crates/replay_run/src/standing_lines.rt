@@ -18,7 +18,7 @@ use mrpc_table::{Bytes, Memory};
 use script_text::MAX_CONNECTIONS;
 use std::alloc::Global;
 
-/// Writes the lines of all calls that stand, by connection and number.
+// Writes the lines of all calls that stand, by connection and number.
 pub(crate) fn tell_standing<K: Sink>(
     alloc: Global,
     connections: &[Connection<'_>],

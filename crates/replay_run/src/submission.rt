@@ -14,8 +14,8 @@ use engine_core::MAX_CALLS;
 use mrpc_base::{PlainWords, Stores};
 use std::alloc::Global;
 
-/// Submits a call: it is accepted, or turned away where as many calls stand as may. Then the races that are left are
-/// made.
+// Submits a call: it is accepted, or turned away where as many calls stand as may. Then the races that are left are
+// made.
 pub(crate) fn submit(
     alloc: Global,
     connection: &mut Connection<'_>,

@@ -1,10 +1,10 @@
 -- Totals as they are counted.
-use Rattle.std.proofs.Common.{◌≡◌, ℕ, zero, suc, ◌+◌, ◌≤◌, ◌==◌, if◌then◌else◌, Bool, List, [], ◌∷◌, ◌++◌, length}
-use Rattle.std.proofs.Common.{take, Some, sym, ap, ◌∙◌, subst, append_assoc, append-nil, length-append, arith}
+use Rattle.std.proofs.Common.{◌≡◌, ℕ, zero, suc, ◌+◌, ◌<◌, ◌^◌, ◌≤◌, ◌==◌, if◌then◌else◌, Bool, List, [], ◌∷◌, ◌++◌, length}
+use Rattle.std.proofs.Common.{take, Some, refl, sym, ap, ◌∙◌, subst, append_assoc, append-nil, length-append, arith}
 use Rattle.std.specs.Prelude.{slice_get}
 use Rattle.std.specs.List.{flat_map}
-use Rattle.telemetry.specs.Counts.{Happened as Counted, counts_of, number_of, one_more}
-use Rattle.telemetry.specs.Totals.{OneCounts, counts_in, sums_of}
+use Rattle.telemetry.specs.Counts.{Happened as Counted, IsSmall, counts_of, number_of, one_more, plus}
+use Rattle.telemetry.specs.Totals.{JoinedCounts, OneCounts, counts_in, sums_of}
 use Rattle.telemetry.specs.declared.counts.Counts.{Counts}
 use Rattle.telemetry.specs.declared.counts.What.{What}
 use Rattle.telemetry.specs.declared.counts.What.TheVariants.{Took, Sent, Refused, Standing}
@@ -46,6 +46,33 @@ counted-one law happened one totals next so at sums = record {
 
 pub counted-none : (happened : List Counted) (totals : List (ℕ × Counts)) → HaveCounted happened totals → HaveCounted (happened ++ []) totals
 counted-none happened totals so = subst (λ h. HaveCounted h totals) (sym (append-nil happened)) so
+
+pub none-counted : HaveCounted [] []
+none-counted = record { each = λ m. refl; all = refl }
+
+plus-together : (a b : Counts) → counts_together (plus a b) ≡ counts_together a + counts_together b
+plus-together a b = omega arith
+
+-- sums of so few are small
+pub plus-small : (a b : Counts) → counts_together a + counts_together b < 2 ^ 64 → IsSmall (plus a b)
+plus-small a b few = record {
+  took = omega (arith, few);
+  sent = omega (arith, few);
+  refused = omega (arith, few);
+  standing = omega (arith, few);
+}
+
+-- the counts of others are added
+pub counted-more : JoinedCounts → (happened more : List Counted) (all own next : List (ℕ × Counts)) → HaveCounted happened all
+    → HaveCounted more own → ((m : ℕ) → counts_in next m ≡ plus (counts_in all m) (counts_in own m))
+    → sums_of next ≡ plus (sums_of all) (sums_of own) → HaveCounted (happened ++ more) next
+counted-more law happened more all own next so its at sums = record {
+  each = λ m. at m ∙ ap (λ (c : Counts). plus c (counts_in own m)) (so.each m)
+      ∙ ap (λ (c : Counts). plus (counts_of happened m) c) (its.each m) ∙ sym (law happened more m);
+  all = ap counts_together sums ∙ plus-together (sums_of all) (sums_of own)
+      ∙ ap (λ n. n + counts_together (sums_of own)) so.all ∙ ap (λ n. length happened + n) its.all
+      ∙ sym (length-append happened more);
+}
 
 -- what was counted before, and then more
 abbrev pub CountsOn : List Counted → (old new : List (ℕ × Counts)) → Type 0

@@ -61,7 +61,7 @@ row-sync = view_sync CallRowInside.the_row _ _ _ _
 chain-sync : IsSync Chain.the_row
 chain-sync = view_sync ChainInside.the_row _ _ _ _ (declared_sync ChainInside.the_type (
   Vec-sync Engine.the_row engine.the_sync,
-  (word w32, (row-sync, (cuts.the_sync, tt))),
+  (word w32, (row-sync, (cuts.the_sync, (word w32, tt)))),
 ))
 
 -- ---- histories

@@ -1,6 +1,6 @@
 -- Texts of connections, one after another, and how long they are.
-use Rattle.std.proofs.Common.{◌≡◌, ℕ, ◌+◌, ◌≤◌, ◌↔◌, Bool, true, false, List, [], ◌∷◌, ◌++◌, length, map, refl, sym}
-use Rattle.std.proofs.Common.{ap, ◌∙◌, subst, append_assoc, append-nil, length-append, arith}
+use Rattle.std.proofs.Common.{◌≡◌, ℕ, suc, ◌+◌, ◌<◌, ◌≤◌, ◌↔◌, Bool, true, false, List, [], ◌∷◌, ◌++◌, length, map, refl, sym}
+use Rattle.std.proofs.Common.{ap, ◌∙◌, subst, append_assoc, append-nil, length-append, take, get_or, take-suc, arith}
 use Rattle.std.proofs.lemmas.List.{append_cancel_left, length-map}
 use Rattle.std.specs.Prelude.{IsTrue}
 use Rattle.std.specs.List.{AllZip, concat, flat_map}
@@ -34,14 +34,31 @@ zip-more R [] (w ∷ ys) x y all is = absurd all
 zip-more R (v ∷ xs) [] x y all is = absurd all
 zip-more R (v ∷ xs) (w ∷ ys) x y all is = (all.0, zip-more R xs ys x y all.1 is)
 
--- a further text
-pub one-text : (out first text : List ℕ) (each : List (List ℕ)) → out ≡ first ++ concat each
-    → out ++ text ≡ first ++ concat (each ++ text ∷ [])
-one-text out first text each so =
-    let last : concat (text ∷ []) ≡ text = append-nil text in
-    ap (λ o. o ++ text) so ∙ append_assoc first (concat each) text
-    ∙ ap (λ more. first ++ (concat each ++ more)) (sym last)
-    ∙ ap (λ more. first ++ more) (sym (concat-append each (text ∷ [])))
+-- the element at a place joins those before it
+pub zip-next : {X Y : Type 0} (R : X → Y → Type 0) (xs : List X) (i : ℕ) (x : X) (before after : List Y) (y : Y) → i < length xs
+    → x ≡ get_or xs i x → AllZip R (take i xs) before → R x y → after ≡ before ++ y ∷ [] → AllZip R (take (i + 1) xs) after
+zip-next {X} {Y} R xs i x before after y less at all is more =
+    let place : suc i ≡ i + 1 = omega arith in
+    let next : take i xs ++ x ∷ [] ≡ take (i + 1) xs =
+    ap (λ (z : X). take i xs ++ z ∷ []) at ∙ sym (take-suc xs i x less) ∙ ap (λ n. take n xs) place in
+    subst (λ (l : List Y). AllZip R (take (i + 1) xs) l) (sym more)
+    (subst (λ (l : List X). AllZip R l (before ++ y ∷ [])) next (zip-more R (take i xs) before x y all is))
+
+-- the text at a place follows those before it
+pub joined-next : (texts : List (List ℕ)) (i : ℕ) (text : List ℕ) → i < length texts → text ≡ get_or texts i text
+    → concat (take (i + 1) texts) ≡ concat (take i texts) ++ text
+joined-next texts i text less at =
+    let place : i + 1 ≡ suc i = omega arith in
+    ap (λ n. concat (take n texts)) place ∙ ap concat (take-suc texts i text less)
+    ∙ concat-append (take i texts) (get_or texts i text ∷ [])
+    ∙ ap (λ t. concat (take i texts) ++ t) (append-nil (get_or texts i text) ∙ sym at)
+
+-- a last text follows all others
+pub joined-last : (texts all : List (List ℕ)) (last first second : List ℕ) → all ≡ texts ++ last ∷ [] → last ≡ first ++ second
+    → concat all ≡ concat texts ++ first ++ second
+joined-last texts all last first second more is =
+    ap concat more ∙ concat-append texts (last ∷ []) ∙ ap (λ t. concat texts ++ t) (append-nil last ∙ is)
+    ∙ sym (append_assoc (concat texts) first second)
 
 -- ---- how long texts are
 
@@ -68,7 +85,7 @@ counted-few calls (Redacted seq name version) = omega arith
 counted-few calls (Sent seq bytes) = omega arith
 counted-few calls (Refused seq why) = omega arith
 
-few-counted : (calls : List Taken) (hs : List Happening) → length (flat_map (counted calls) hs) ≤ length hs
+pub few-counted : (calls : List Taken) (hs : List Happening) → length (flat_map (counted calls) hs) ≤ length hs
 few-counted calls [] = omega arith
 few-counted calls (h ∷ hs) =
     let rest = few-counted calls hs in
@@ -76,7 +93,7 @@ few-counted calls (h ∷ hs) =
     let both = length-append (counted calls h) (flat_map (counted calls) hs) in
     omega (arith, rest, one, both)
 
-history-long : (c : Connection) → length c.happenings ≤ length (history_lines c)
+pub history-long : (c : Connection) → length c.happenings ≤ length (history_lines c)
 history-long c =
     let same = mapped (audit_line c.table) (on_connection c.conn) c.happenings in
     let each : length c.happenings ≤ length (flat_map (λ (h : Happening). audit_line c.table (on_connection c.conn h)) c.happenings) =
@@ -142,11 +159,3 @@ pub same-flag : (b c : Bool) → IsTrue b ↔ (c ≡ true) → b ≡ c
 same-flag true c is = sym (is.0 refl)
 same-flag false true is = is.1 refl
 same-flag false false is = refl
-
--- four texts, one after another
-pub four-texts : (out a b c d o1 o2 o3 o4 : List ℕ) → o1 ≡ out ++ a → o2 ≡ o1 ++ b → o3 ≡ o2 ++ c → o4 ≡ o3 ++ d
-    → o4 ≡ out ++ (a ++ b ++ c ++ d)
-four-texts out a b c d o1 o2 o3 o4 first second third fourth =
-    let two : o2 ≡ out ++ (a ++ b) = second ∙ ap (λ o. o ++ b) first ∙ append_assoc out a b in
-    let three : o3 ≡ out ++ (a ++ b ++ c) = third ∙ ap (λ o. o ++ c) two ∙ append_assoc out (a ++ b) c in
-    fourth ∙ ap (λ o. o ++ d) three ∙ append_assoc out (a ++ b ++ c) d

@@ -7,6 +7,8 @@ use Rattle.telemetry.specs.Counts.{Happened as Counted}
 use Rattle.telemetry.specs.Totals.{IsCountOf, sums_of}
 use Rattle.telemetry.specs.declared.counts.Counts.{Counts}
 use Rattle.telemetry.specs.declared.counts.What.{What}
+use Rattle.run_text.specs.Counting.{counted_in}
+use Rattle.run_text.specs.declared.shown.Shown.{Shown}
 
 abbrev pub counts_together : Counts → ℕ
 counts_together counts = counts.took + counts.sent + counts.refused + counts.standing
@@ -15,6 +17,10 @@ counts_together counts = counts.took + counts.sent + counts.refused + counts.sta
 pub record HaveCounted (happened : List Counted) (totals : List (ℕ × Counts)) : Type 0 where
   pub each : IsCountOf happened totals
   pub all : counts_together (sums_of totals) ≡ length happened
+
+-- totals are the counts of the lines of a connection
+abbrev pub AreCountsOf : Shown → List (ℕ × Counts) → Type 0
+AreCountsOf shown totals = HaveCounted (counted_in shown) totals
 
 -- these can be counted, too: there are no more than a count can tell
 pub record CanCount (more : List Counted) (totals : List (ℕ × Counts)) : Type 0 where

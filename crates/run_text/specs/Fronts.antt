@@ -1,12 +1,16 @@
--- The code's own: the front of what is told of a connection, which is made beside those of the others: its history, and
--- what arrived.
+-- The code's own: the front of what is told of a connection, its history and what arrived, which is made beside those of
+-- the others with the counts of the connection's lines.
 use Rattle.std.specs.Prelude.{◌≡◌, List, [], ℕ, ◌++◌, All, IfOk, Option, Some, None, Result}
 use Rattle.std.specs.List.{AllZip}
 use Rattle.mrpc_table.specs.Valid.{IsValid}
 use Rattle.mrpc_table.specs.declared.memory.Memory.{Memory}
 use Rattle.arrival_text.specs.Lines.{FitsArrival, judging_of}
 use Rattle.run_text.specs.Telling.{arrivals_text, history_lines}
+use Rattle.telemetry.specs.Counts.{Happened as Counted}
+use Rattle.run_text.specs.Counting.{counted_in, counted_on}
+use Rattle.run_text.specs.Counts.{HaveCounted}
 use Rattle.run_text.specs.declared.fronts.Front.{Front}
+use Rattle.run_text.specs.declared.fronts.Made.{Made}
 use Rattle.run_text.specs.declared.shown.Shown.{Shown}
 use Rattle.run_text.specs.declared.shown.Shown.TheVariants.{Served, Unbound}
 use Rattle.run_text.specs.declared.shown.ShownConn.{ShownConn}
@@ -32,6 +36,26 @@ CanMake None = Unit {0}
 CanMake (Some f) = IsValid f.table.now × (f.calls.now.table ≡ f.table.now)
     × All (FitsArrival f.table.now (judging_of f.judge)) f.lines.now
 
--- these texts were made, each unless there was no memory
-abbrev pub AreMade : List (List ℕ) → List (Result (List ℕ) Memory) → Type 0
-AreMade texts made = AllZip (λ text one. IfOk one (λ (t : List ℕ). t ≡ text)) texts made
+-- what a thread is to make of a connection: the front of its text, and the counts of these
+pub record Making : Type 0 where
+  pub text : List ℕ
+  pub counted : List Counted
+
+abbrev pub making_of : Shown → Making
+making_of shown = record { text = front_of shown; counted = counted_in shown }
+
+abbrev pub front_counted : Option Front → List Counted
+front_counted None = []
+front_counted (Some f) = counted_on f.calls.now
+
+abbrev pub making_by : Option Front → Making
+making_by front = record { text = front_text front; counted = front_counted front }
+
+-- it was made
+pub record IsMade (making : Making) (made : Made) : Type 0 where
+  pub text : made.text ≡ making.text
+  pub counts : HaveCounted making.counted made.counts
+
+-- these were made, each unless there was no memory
+abbrev pub AreMade : List Making → List (Result Made Memory) → Type 0
+AreMade makings made = AllZip (λ making one. IfOk one (IsMade making)) makings made

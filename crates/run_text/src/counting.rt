@@ -1,7 +1,7 @@
 //! How often each happened that the lines of a run tell.
 
 ghost use Rattle.std.specs.Prelude.{◌≡◌, ◌≤◌, ◌<◌, ◌^◌, ◌++◌, ◌∷◌, [], ℕ, List, Some, IfOk, OnOk, length, map, slice_get};
-ghost use Rattle.std.specs.List.{flat_map};
+ghost use Rattle.std.specs.List.{AllZip, flat_map};
 ghost use Rattle.call_history.specs.Behind.{taken};
 ghost use Rattle.call_history.specs.Records.{told_by};
 ghost use Rattle.call_history.specs.declared.happening.Taken.{Taken as TheTaken};
@@ -9,46 +9,48 @@ ghost use Rattle.conn_core.specs.Connections.{behind};
 ghost use Rattle.telemetry.specs.Counts.{Happened as Counted};
 ghost use Rattle.engine_core.specs.declared.op.Op.{Op as TheStep};
 ghost use Rattle.run_text.specs.Counting.{counted, counted_in, counted_on, method_of, standing_counted};
-ghost use Rattle.run_text.specs.Counts.{AreNumbered, CanCount, HaveCounted, methods_by, methods_of, told_count};
+ghost use Rattle.run_text.specs.Counts.{AreCountsOf, AreNumbered, CanCount, HaveCounted, methods_by, methods_of, told_count};
 
 use crate::shown::Shown;
 use call_history::Record;
 use conn_core::Conn;
-use mrpc_table::{Bytes, Memory};
+use mrpc_table::Memory;
 use std::alloc::Global;
 use telemetry::{Totals, What, counts_add_up};
 
-// The counts of the lines of all connections, of which there are no more than bytes of a text.
-pub(crate) fn count_all(
+// The counts of the lines of all connections, which are so many at most, from those of each.
+pub(crate) fn add_up(
     alloc: Global,
     shown: &[Shown<'_, '_>],
-    text: &Bytes,
+    counts: &[Totals],
+    most: usize,
 ) -> Result<Totals, Memory>
-    requires { length (flat_map counted_in shown.now) ≤ length text.now }
+    requires each { AllZip AreCountsOf shown.now counts.now }
+    requires few { length (flat_map counted_in shown.now) ≤ most }
     ensures { IfOk result (HaveCounted (flat_map counted_in shown.now)) }
 {
-    let _most = text.len();
-    let mut totals = Totals::new(alloc);
-    for one in shown {
-        count(alloc, &mut totals, one)?;
+    counts_add_up();
+    let mut all = Totals::new(alloc);
+    for place in 0..shown.len() {
+        all.merge(&counts[place])?;
     }
+    Ok(all)
+}
+
+// The counts of the lines of a connection that was bound.
+pub(crate) fn count_connection(alloc: Global, calls: &Conn<'_>) -> Result<Totals, Memory>
+    requires { length calls.now.happenings < 2 ^ 63 }
+    ensures { IfOk result (HaveCounted (counted_on calls.now)) }
+{
+    calls.is_connection();
+    let _standing = calls.chain().calls().len();
+    let mut totals = Totals::new(alloc);
+    count_lines(alloc, &mut totals, calls)?;
     Ok(totals)
 }
 
-// Counts the lines of a connection.
-fn count(alloc: Global, totals: &mut Totals, shown: &Shown<'_, '_>) -> Result<(), Memory>
-    requires few { CanCount (counted_in shown.now) totals.old }
-    ensures { (happened : List Counted) → HaveCounted happened totals.old
-        → OnOk result (HaveCounted (happened ++ counted_in shown.now) totals.new) }
-{
-    match shown {
-        Shown::Unbound { .. } => Ok(()),
-        Shown::Served(served) => count_connection(alloc, totals, served.calls),
-    }
-}
-
 // Counts the lines of a connection that was bound.
-fn count_connection(alloc: Global, totals: &mut Totals, calls: &Conn<'_>) -> Result<(), Memory>
+fn count_lines(alloc: Global, totals: &mut Totals, calls: &Conn<'_>) -> Result<(), Memory>
     requires few { CanCount (counted_on calls.now) totals.old }
     ensures { (happened : List Counted) → HaveCounted happened totals.old
         → OnOk result (HaveCounted (happened ++ counted_on calls.now) totals.new) }

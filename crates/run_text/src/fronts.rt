@@ -1,12 +1,13 @@
-//! The fronts of what is told of connections, made side by side.
+//! The fronts of what is told of connections, and the counts of their lines, made side by side.
 
-ghost use Rattle.std.specs.Prelude.{◌≡◌, ◌<◌, All, IfOk, List, ℕ, length, map, slice_index_or};
-ghost use Rattle.run_text.specs.Fronts.{AreMade, CanMake, front_of, front_text};
+ghost use Rattle.std.specs.Prelude.{◌≡◌, ◌<◌, All, IfOk, Some, length, map, slice_index_or};
+ghost use Rattle.run_text.specs.Fronts.{AreMade, CanMake, IsMade, Making, making_by, making_of};
 ghost use Rattle.run_text.specs.Told.{IsTellable};
 ghost use Rattle.run_text.specs.declared.fronts.Front.{Front as TheFront};
 
 use crate::arrived::append_arrivals;
 use crate::connection::append_history;
+use crate::counting::count_connection;
 use crate::shown::Shown;
 use arrival_text::{Judge, lines_fit};
 use conn_core::Conn;
@@ -15,8 +16,9 @@ use mrpc_table::{Bytes, Memory, Table};
 use std::alloc::Global;
 use std::thread;
 use std::thread::Threads;
+use telemetry::Totals;
 
-/// What the front of a connection's text is made from. Several threads may look at it.
+// What the front of a connection's text and its counts are made from. Several threads may look at it.
 #[derive(Clone, Copy)]
 pub(crate) struct Front<'a, 't> {
     calls: &'a Conn<'t>,
@@ -25,26 +27,35 @@ pub(crate) struct Front<'a, 't> {
     lines: &'a [ArrivalLine],
 }
 
-// The fronts of connections, each made in a thread of its own where one can be made.
+// What a thread makes of a connection.
+#[derive(Drop)]
+pub(crate) struct Made {
+    // The front of its text.
+    pub text: Bytes,
+    // The counts of all its lines.
+    pub counts: Totals,
+}
+
+// What is made of connections, of each in a thread of its own where one can be made.
 pub(crate) fn all_fronts<R: Threads + Sync>(
     rt: &R,
     alloc: Global,
     shown: &[Shown<'_, '_>],
-) -> Result<Vec<Result<Bytes, Memory>>, Memory>
+) -> Result<Vec<Result<Made, Memory>>, Memory>
     requires { All IsTellable shown.now }
-    ensures { IfOk result (λ made. AreMade (map front_of shown.now) made.items) }
+    ensures { IfOk result (λ made. AreMade (map making_of shown.now) made.items) }
 {
     let sources = sources(alloc, shown)?;
     make_all(rt, alloc, sources.as_slice())
 }
 
-// What the fronts of connections are made from.
+// What a thread is given for each connection.
 fn sources<'a, 't>(
     alloc: Global,
     shown: &[Shown<'a, 't>],
 ) -> Result<Vec<Option<Front<'a, 't>>>, Memory>
     requires { All IsTellable shown.now }
-    ensures texts { IfOk result (λ sources. map front_text sources.items ≡ map front_of shown.now) }
+    ensures same { IfOk result (λ sources. map making_by sources.items ≡ map making_of shown.now) }
     ensures can { IfOk result (λ sources. All CanMake sources.items) }
 {
     let mut sources = Vec::new(alloc);
@@ -54,10 +65,10 @@ fn sources<'a, 't>(
     Ok(sources)
 }
 
-// What the front of a connection is made from, if it has one.
+// What a thread is given for a connection; nothing for one that wasn't bound.
 fn source_of<'a, 't>(shown: &Shown<'a, 't>) -> Option<Front<'a, 't>>
     requires { IsTellable shown.now }
-    ensures text { front_text result ≡ front_of shown.now }
+    ensures same { making_by result ≡ making_of shown.now }
     ensures can { CanMake result }
 {
     lines_fit();
@@ -72,43 +83,58 @@ fn source_of<'a, 't>(shown: &Shown<'a, 't>) -> Option<Front<'a, 't>>
     }
 }
 
-// Makes all fronts, side by side.
+// Makes all, side by side.
 fn make_all<R: Threads + Sync>(
     rt: &R,
     alloc: Global,
     sources: &[Option<Front<'_, '_>>],
-) -> Result<Vec<Result<Bytes, Memory>>, Memory>
+) -> Result<Vec<Result<Made, Memory>>, Memory>
     requires { All CanMake sources.now }
-    ensures { IfOk result (λ made. AreMade (map front_text sources.now) made.items) }
+    ensures { IfOk result (λ made. AreMade (map making_by sources.now) made.items) }
 {
     let made = thread::map_indices(
         rt,
         alloc,
         sources.len(),
-        &move |place: usize| -> Result<Bytes, Memory>
+        &move |place: usize| -> Result<Made, Memory>
             requires there { place < length sources.now }
             requires can { All CanMake sources.now }
-            ensures { (d : List ℕ) → IfOk result (λ text. text ≡ slice_index_or (map front_text sources.entry.now) place d) }
+            ensures { (d : Making) → IfOk result (IsMade (slice_index_or (map making_by sources.entry.now) place d)) }
         { make(alloc, sources[place]) },
     )?;
     Ok(made)
 }
 
-// The front of a connection: its history, and what arrived.
-fn make(alloc: Global, source: Option<Front<'_, '_>>) -> Result<Bytes, Memory>
+// What is made of a connection that was bound, and nothing of another one.
+fn make(alloc: Global, source: Option<Front<'_, '_>>) -> Result<Made, Memory>
     requires { CanMake source }
-    ensures { IfOk result (λ text. text ≡ front_text source.entry) }
+    ensures { IfOk result (IsMade (making_by source.entry)) }
 {
-    let mut text = Bytes::new(alloc);
-    if let Some(front) = source {
-        let Front {
-            calls,
-            table,
-            judge,
-            lines,
-        } = front;
-        append_history(alloc, &mut text, calls, table)?;
-        append_arrivals(alloc, &mut text, calls.number(), table, judge, lines)?;
+    match source {
+        Some(front) => make_served(alloc, front),
+        None => Ok(Made {
+            text: Bytes::new(alloc),
+            counts: Totals::new(alloc),
+        }),
     }
-    Ok(text)
+}
+
+// The front of a connection's text, its history and what arrived, and the counts of its lines.
+fn make_served(alloc: Global, front: Front<'_, '_>) -> Result<Made, Memory>
+    requires { CanMake (Some front) }
+    ensures { IfOk result (IsMade (making_by (Some front.entry))) }
+{
+    let Front {
+        calls,
+        table,
+        judge,
+        lines,
+    } = front;
+    let mut text = Bytes::new(alloc);
+    append_history(alloc, &mut text, calls, table)?;
+    append_arrivals(alloc, &mut text, calls.number(), table, judge, lines)?;
+    // The bytes of a text are fewer than 2^63, and no history has more happenings.
+    let _told = text.as_slice();
+    let counts = count_connection(alloc, calls)?;
+    Ok(Made { text, counts })
 }

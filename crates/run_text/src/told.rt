@@ -1,16 +1,18 @@
 //! The whole text of what a run tells.
 
-ghost use Rattle.std.specs.Prelude.{◌≡◌, ◌++◌, List, ℕ, All, IfOk, OnOk, map};
+ghost use Rattle.std.specs.Prelude.{◌≡◌, ◌++◌, ◌∷◌, [], ℕ, List, All, IfOk, IfSome, OnOk, length, map};
 ghost use Rattle.std.specs.List.{AllZip, concat, flat_map};
-ghost use Rattle.telemetry.specs.Totals.{IsCountOf, IsTotals};
+ghost use Rattle.telemetry.specs.declared.counts.Counts.{Counts};
+ghost use Rattle.telemetry.specs.Totals.{IsCountOf, IsTotals, totals_text};
 ghost use Rattle.run_text.specs.Counting.{counted_in};
-ghost use Rattle.run_text.specs.Fronts.{AreMade, front_of, served_front};
+ghost use Rattle.run_text.specs.Counts.{AreCountsOf};
+ghost use Rattle.run_text.specs.Fronts.{AreMade, IsMade, front_of, making_of, served_front};
 ghost use Rattle.run_text.specs.Told.{IsRunText, IsServedText, IsShownText, IsTellable, IsTellableConn, rounds_line, rounds_of, rounds_words};
 
 use crate::arrived::append_false_reclaims;
 use crate::connection::append_standing_calls;
-use crate::counting::count_all;
-use crate::fronts::all_fronts;
+use crate::counting::add_up;
+use crate::fronts::{Made, all_fronts};
 use crate::left::append_left;
 use crate::shown::{Rounds, Shown, ShownConn};
 use arrival_text::append_unbound;
@@ -22,76 +24,142 @@ use telemetry::{Totals, totals_are_counts};
 /// What a run tells, with the counts of its lines.
 #[derive(Drop)]
 pub struct RunText {
-    pub text: Bytes,
+    /// What is told, in parts that follow one another: one for each connection, and a last one of all of them.
+    pub parts: Vec<Bytes>,
     pub totals: Totals,
 }
 
 /// What a run tells, of connections in this order, and behind them the counts of all lines. What is long of each
-/// connection is made in a thread of its own, where one can be made. The only error is `Memory`.
+/// connection is made, and its lines are counted, in a thread of its own, where one can be made. The only error is
+/// `Memory`.
 pub fn run_text<R: Threads + Sync>(
     rt: &R,
     alloc: Global,
     shown: &[Shown<'_, '_>],
 ) -> Result<RunText, Memory>
     requires { All IsTellable shown.now }
-    ensures text { IfOk result (λ told. IsRunText shown.now told.text) }
+    ensures text { IfOk result (λ told. IsRunText shown.now (concat told.parts.items)) }
     ensures counts { IfOk result (λ told. IsCountOf (flat_map counted_in shown.now) told.totals) }
     ensures totals { IfOk result (λ told. IsTotals told.totals) }
 {
     totals_are_counts();
-    let mut text = Bytes::new(alloc);
-    let fronts = all_fronts(rt, alloc, shown)?;
-    append_each(&mut text, shown, fronts.as_slice())?;
-    let totals = count_all(alloc, shown, &text)?;
-    append_rounds(&mut text, shown)?;
-    text.append(totals.text(alloc)?.as_slice())?;
-    Ok(RunText { text, totals })
+    let made = all_fronts(rt, alloc, shown)?;
+    let mut counts = Vec::new(alloc);
+    let mut parts = texts_of(alloc, shown, made, &mut counts)?;
+    let most = length_of(parts.as_slice())?;
+    let totals = add_up(alloc, shown, counts.as_slice(), most)?;
+    let last = ending(alloc, shown, &totals)?;
+    parts.push(last)?;
+    Ok(RunText { parts, totals })
 }
 
-// Appends what is told of each connection, whose fronts are these.
-fn append_each(
-    out: &mut Bytes,
+// What is told of each connection, behind what was made of it. Its counts are put with those of the others.
+fn texts_of(
+    alloc: Global,
     shown: &[Shown<'_, '_>],
-    fronts: &[Result<Bytes, Memory>],
-) -> Result<(), Memory>
+    made: Vec<Result<Made, Memory>>,
+    counts: &mut Vec<Totals>,
+) -> Result<Vec<Bytes>, Memory>
     requires tellable { All IsTellable shown.now }
-    requires fronts { AreMade (map front_of shown.now) fronts.now }
-    ensures { OnOk result ((each : List (List ℕ)) × AllZip IsShownText shown.now each
-        × (out.new ≡ out.old ++ concat each)) }
+    requires made { AreMade (map making_of shown.now) made.items }
+    requires none { counts.old.items ≡ [] }
+    ensures texts { IfOk result (λ texts. AllZip IsShownText shown.now texts.items) }
+    ensures counts { OnOk result (AllZip AreCountsOf shown.now counts.new.items) }
 {
-    for (place, one) in shown.iter().enumerate() {
-        match &fronts[place] {
-            Ok(front) => append_shown(out, one, front)?,
-            Err(Memory) => return Err(Memory),
-        }
+    let mut texts = Vec::new(alloc);
+    let mut rest = made.into_iter();
+    for one in shown {
+        let Some(made) = rest.next() else {
+            unreachable!()
+        };
+        texts.push(text_of(one, made, counts)?)?;
     }
-    Ok(())
+    Ok(texts)
 }
 
-// Appends what is told of a connection, whose front is this.
-fn append_shown(out: &mut Bytes, shown: &Shown<'_, '_>, front: &Bytes) -> Result<(), Memory>
+// What is told of a connection, behind what was made of it, if memory was found. Its counts are put with those of others.
+fn text_of(
+    shown: &Shown<'_, '_>,
+    made: Result<Made, Memory>,
+    counts: &mut Vec<Totals>,
+) -> Result<Bytes, Memory>
     requires tellable { IsTellable shown.now }
-    requires front { front.now ≡ front_of shown.now }
-    ensures { OnOk result ((text : List ℕ) × IsShownText shown.now text × (out.new ≡ out.old ++ text)) }
+    requires made { IfOk made (IsMade (making_of shown.now)) }
+    ensures text { IfOk result (λ text. IsShownText shown.now text) }
+    ensures counts { OnOk result ((own : List (ℕ × Counts)) × AreCountsOf shown.now own
+        × (counts.new.items ≡ counts.old.items ++ own ∷ [])) }
+{
+    let Made { text, counts: own } = made?;
+    counts.push(own)?;
+    whole_text(shown, text)
+}
+
+// What is told of a connection, behind its front.
+fn whole_text(shown: &Shown<'_, '_>, front: Bytes) -> Result<Bytes, Memory>
+    requires tellable { IsTellable shown.now }
+    requires front { front ≡ front_of shown.now }
+    ensures { IfOk result (λ text. IsShownText shown.now text) }
+{
+    let mut text = front;
+    append_rest(&mut text, shown)?;
+    Ok(text)
+}
+
+// Appends to the front of a connection what else is told of it.
+fn append_rest(out: &mut Bytes, shown: &Shown<'_, '_>) -> Result<(), Memory>
+    requires tellable { IsTellable shown.now }
+    requires front { out.old ≡ front_of shown.now }
+    ensures { OnOk result (IsShownText shown.now out.new) }
 {
     match shown {
         Shown::Unbound { conn, why } => append_unbound(out, *conn, why),
-        Shown::Served(served) => append_served(out, served, front),
+        Shown::Served(served) => append_served(out, served),
     }
 }
 
-// Appends what is told of a connection that was bound: its front, then false reclaims, what is left of its stream, and
-// which calls stand.
-fn append_served(out: &mut Bytes, served: &ShownConn<'_, '_>, front: &Bytes) -> Result<(), Memory>
+// Appends to the front of a connection that was bound: false reclaims, what is left of its stream, and which calls
+// stand.
+fn append_served(out: &mut Bytes, served: &ShownConn<'_, '_>) -> Result<(), Memory>
     requires tellable { IsTellableConn served.now }
-    requires front { front.now ≡ served_front served.now }
-    ensures { OnOk result ((text : List ℕ) × IsServedText served.now text × (out.new ≡ out.old ++ text)) }
+    requires front { out.old ≡ served_front served.now }
+    ensures { OnOk result (IsServedText served.now out.new) }
 {
     let conn = served.calls.number();
-    out.append(front.as_slice())?;
     append_false_reclaims(out, conn, served.not_held)?;
     append_left(out, conn, served.calls.ended(), served.arrivals)?;
     append_standing_calls(out, served.calls)
+}
+
+// How long texts are together. No memory has texts whose lengths have no sum.
+fn length_of(texts: &[Bytes]) -> Result<usize, Memory>
+    ensures { IfOk result (λ long. long ≡ length (concat texts.now)) }
+{
+    match sum_of_lengths(texts) {
+        Some(long) => Ok(long),
+        None => Err(Memory),
+    }
+}
+
+// The sum of the lengths of texts, if it is a number.
+fn sum_of_lengths(texts: &[Bytes]) -> Option<usize>
+    ensures { IfSome result (λ long. long ≡ length (concat texts.now)) }
+{
+    let mut long: usize = 0;
+    for text in texts {
+        long = long.checked_add(text.len())?;
+    }
+    Some(long)
+}
+
+// What is told behind all connections: the accounts of those that have one, and the counts of all lines.
+fn ending(alloc: Global, shown: &[Shown<'_, '_>], totals: &Totals) -> Result<Bytes, Memory>
+    ensures text { IfOk result (λ text. text ≡ flat_map rounds_of shown.now ++ totals_text totals.now) }
+    ensures totals { IfOk result (λ _. IsTotals totals.now) }
+{
+    let mut text = Bytes::new(alloc);
+    append_rounds(&mut text, shown)?;
+    text.append(totals.text(alloc)?.as_slice())?;
+    Ok(text)
 }
 
 // Appends the accounts of the connections that have one.

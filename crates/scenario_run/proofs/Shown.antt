@@ -1,5 +1,5 @@
 -- A connection that was bound can be told, as it is shown.
-use Rattle.std.proofs.Common.{◌≡◌, ℕ, ◌+◌, ◌==◌, List, [], ◌∷◌, ◌++◌, All, Option, Some, None, sym, ap, ◌∙◌, subst, arith}
+use Rattle.std.proofs.Common.{◌≡◌, ℕ, ◌+◌, ◌==◌, List, [], ◌++◌, All, Option, Some, None, sym, ap, ◌∙◌, subst, arith}
 use Rattle.std.specs.Prelude.{option_and_then, option_map, option_to_list}
 use Rattle.std.specs.List.{AllZip, filter_map, range_with_len}
 use Rattle.std.specs.Option.{option_copied}
@@ -59,11 +59,6 @@ shows-more {L} plan conns n o old more is shows next =
     ∙ ap (λ (q : Option (ServedConn L)). first ++ option_to_list q) (ap (conn_in conns) flipped ∙ sym is) in
     subst (λ (xs : List (ServedConn L)). AllZip (Shows plan) xs (old ++ more)) (sym whole)
     (zip-append (Shows plan) first old (option_to_list o) more shows next)
-
-pub one-shown : {L : Type 0} (plan : Plan) (o : Option (ServedConn L)) (s : ServedConn L) (told : TheShown) → o ≡ Some s
-    → Shows plan s told → AllZip (Shows plan) (option_to_list o) (told ∷ [])
-one-shown {L} plan o s told is shows =
-    subst (λ (q : Option (ServedConn L)). AllZip (Shows plan) (option_to_list q) (told ∷ [])) (sym is) (shows, tt)
 
 pub none-shown : {L : Type 0} (plan : Plan) (o : Option (ServedConn L)) → o ≡ None → AllZip (Shows plan) (option_to_list o) []
 none-shown {L} plan o is = subst (λ (q : Option (ServedConn L)). AllZip (Shows plan) (option_to_list q) []) (sym is) tt

@@ -1,6 +1,6 @@
 -- Connections that were served can be told, with what became of their links.
 use Rattle.std.proofs.Common.{◌≡◌, ℕ, true, false, List, [], ◌∷◌, All, Contains, Option, Some, sym, ap, ◌∙◌, subst}
-use Rattle.std.specs.List.{AllZip, flat_map}
+use Rattle.std.specs.List.{AllZip, concat, flat_map}
 use Rattle.std.specs.Option.{option_copied}
 use Rattle.std.proofs.lemmas.Bool.{false_from_ne_true}
 use Rattle.std.proofs.lemmas.List.Elements.{All-cons, All-contains, All-head, All-nil, All-tail}
@@ -103,16 +103,6 @@ all-tellable of_clock of_link plan clock (n ∷ ends) (s ∷ conns) zip =
     All-cons (IsTellableConn of_link plan) s conns (served-tells of_clock of_link plan clock n s zip.0)
     (all-tellable of_clock of_link plan clock ends conns zip.1)
 
--- what follows from each of some facts
-pub all-of : {X : Type 0} (P Q : X → Type 0) → ((x : X) → P x → Q x) → (xs : List X) → All P xs → All Q xs
-all-of P Q so [] all = All-nil Q
-all-of P Q so (x ∷ xs) all = All-cons Q x xs (so x (All-head P x xs all)) (all-of P Q so xs (All-tail P x xs all))
-
-pub tellable-can : {L : Type 0} (of_link : LinkMembers L) (plan : Plan) (conns : List (ServedConn L))
-    → AreTellable of_link plan conns → All (λ (s : ServedConn L). CanTell plan s.conn s.outcome) conns
-tellable-can {L} of_link plan conns all =
-    all-of (IsTellableConn of_link plan) (λ (s : ServedConn L). CanTell plan s.conn s.outcome) (λ s is. is.can) conns all
-
 -- where one tells it, a link failed
 pub one-failed : {L : Type 0} (of_link : LinkMembers L) (plan : Plan) (conns : List (ServedConn L)) (s : ServedConn L)
     → AreTellable of_link plan conns → Contains conns s → TellsFailure s.outcome → HasFailed of_link s
@@ -134,7 +124,7 @@ pub told-run : {L : Type 0} (of_link : LinkMembers L) (plan : Plan) (conns first
     → first ≡ conns → second ≡ conns → AreTellable of_link plan conns
     → (r.failed ≡ true → (s : ServedConn L) × Contains first s × TellsFailure s.outcome)
     → (r.failed ≡ false → All (λ (s : ServedConn L). TellsFailure s.outcome → ⊥) first)
-    → (shown : List Shown) × AllZip (Shows plan) (by_number second) shown × IsRunText shown r.text
+    → (shown : List Shown) × AllZip (Shows plan) (by_number second) shown × IsRunText shown (concat r.parts.items)
     × IsCountOf (flat_map counted_in shown) r.totals
     → IsToldRun of_link plan conns r
 told-run {L} of_link plan conns first second r at-first at-second all if-failed if-works told = record {

@@ -1,6 +1,6 @@
 -- What a run of a plan did, and what it tells (this project's own).
 use Rattle.std.specs.Prelude.{◌≡◌, ◌==◌, ◌<◌, ◌^◌, ℕ, true, false, List, ◌++◌, All, Contains, find, map, length, IsPermutation, Option, option_and_then, option_map}
-use Rattle.std.specs.List.{AllZip, flat_map, filter_map, range_with_len}
+use Rattle.std.specs.List.{AllZip, concat, flat_map, filter_map, range_with_len}
 use Rattle.mrpc_base.specs.Faults.{Rose}
 use Rattle.mrpc_base.specs.declared.clock.Clock.{Ghosts as ClockMembers}
 use Rattle.mrpc_base.specs.declared.link.Link.{Ghosts as LinkMembers}
@@ -103,7 +103,7 @@ pub record HasRun {C L : Type 0} (of_clock : ClockMembers C) (of_link : LinkMemb
       → length (all_tickets tenant window conns) < 2 ^ 64 → EachOnce (all_tickets tenant window conns)
   pub told : List Shown
   pub shows : AllZip (Shows plan) (by_number conns) told
-  pub text : IsRunText told r.text
+  pub text : IsRunText told (concat r.parts.items)
   pub counts : IsCountOf (flat_map counted_in told) r.totals
   pub given_back : IsPermutation back' (map link_of conns ++ back)
   pub one_failed : r.failed ≡ true → (s : ServedConn L) × Contains conns s × HasFailed of_link s

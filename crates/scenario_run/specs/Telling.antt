@@ -1,6 +1,6 @@
 -- The code's own: connections that can be told, and what is told of them.
 use Rattle.std.specs.Prelude.{◌≡◌, ℕ, true, false, List, All, Contains, Some}
-use Rattle.std.specs.List.{AllZip, flat_map}
+use Rattle.std.specs.List.{AllZip, concat, flat_map}
 use Rattle.mrpc_base.specs.declared.link.Link.{Ghosts as LinkMembers}
 use Rattle.deliveries.specs.Arriving.{AreArriving}
 use Rattle.link_greeting.specs.Greeting.{SaysWhy}
@@ -52,7 +52,7 @@ pub record IsToldRun {L : Type 0} (of_link : LinkMembers L) (plan : Plan) (conns
     : Type 0 where
   pub told : List Shown
   pub shows : AllZip (Shows plan) (by_number conns) told
-  pub text : IsRunText told r.text
+  pub text : IsRunText told (concat r.parts.items)
   pub counts : IsCountOf (flat_map counted_in told) r.totals
   pub one_failed : r.failed ≡ true → (s : ServedConn L) × Contains conns s × HasFailed of_link s
   pub none_failed : r.failed ≡ false → All (NeverFailed of_link) conns

@@ -10,8 +10,8 @@ use service::ServedConn;
 use std::thread;
 use std::thread::Threads;
 
-/// The numbers of connections and their links. The rest of them is dropped, side by side: a long run has a million things
-/// to give back.
+// The numbers of connections and their links. The rest of them is dropped, side by side: a long run has a million things
+// to give back.
 pub(crate) fn links_alone<'t, R: Threads + Sync, L: Link + Send + Drop>(
     rt: &R,
     conns: Vec<ServedConn<'t, L>>,
@@ -40,7 +40,7 @@ fn link_alone<L: Link + Drop>(served: ServedConn<'_, L>) -> (u32, L)
     (conn, link)
 }
 
-/// Gives links back, each with its connection. It takes no memory.
+// Gives links back, each with its connection. It takes no memory.
 pub(crate) fn give_back<F: Fabric>(fabric: &mut F, links: Vec<(u32, F::L)>)
     requires { length links.items ≤ F.away fabric.old }
     ensures back { IsPermutation (F.back fabric.new) (links.items ++ F.back fabric.old) }

@@ -12,7 +12,7 @@ use qos_order::{Weight, Weighted, Weights, one_weight_fault};
 use run_plan::Plan;
 use std::alloc::Global;
 
-/// The order by the weights of a plan.
+// The order by the weights of a plan.
 pub(crate) fn weighted(alloc: Global, plan: &Plan) -> Result<Weighted, Memory>
     requires { IsPlan plan.now }
     ensures weighs { IfOk result (WeighsAs plan.now) }

@@ -24,8 +24,8 @@ use telemetry::Totals;
 /// What a run of a plan came to.
 #[derive(Drop)]
 pub struct Run {
-    /// What it tells.
-    pub text: Bytes,
+    /// What it tells, in parts that follow one another.
+    pub parts: Vec<Bytes>,
     /// How many calls of each method were taken, sent, refused and left standing.
     pub totals: Totals,
     /// Whether a link failed.
@@ -94,11 +94,11 @@ fn conclude<R: Threads + Sync, F: Fabric>(
     ensures faults { F.faults fabric.new ≡ F.faults fabric.old }
 {
     let failed = has_failed(served.conns.as_slice());
-    let RunText { text, totals } = tell(rt, alloc, plan, served.conns.as_slice())?;
+    let RunText { parts, totals } = tell(rt, alloc, plan, served.conns.as_slice())?;
     let links = links_alone(rt, served.conns)?;
     give_back(fabric, links);
     Ok(Run {
-        text,
+        parts,
         totals,
         failed,
     })

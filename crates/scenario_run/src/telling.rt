@@ -1,7 +1,7 @@
 //! What a run tells of its connections.
 
 ghost use Rattle.std.specs.Prelude.{◌≡◌, ◌++◌, List, All, Contains, IfOk, OnOk, IsTrue, Some, false, flat_map, option_map, option_to_list, true};
-ghost use Rattle.std.specs.List.{AllZip};
+ghost use Rattle.std.specs.List.{AllZip, concat};
 ghost use Rattle.std.specs.Option.{option_copied};
 ghost use Rattle.arrival_text.specs.Lines.{judging_of};
 ghost use Rattle.run_plan.specs.Plans.{IsPlan};
@@ -26,7 +26,7 @@ use service_run::BoundConn;
 use std::alloc::Global;
 use std::thread::Threads;
 
-/// The whole text, by ascending number of the connection.
+// The whole text, by ascending number of the connection.
 pub(crate) fn tell<R: Threads + Sync, L: Link>(
     rt: &R,
     alloc: Global,
@@ -36,7 +36,7 @@ pub(crate) fn tell<R: Threads + Sync, L: Link>(
     requires plan { IsPlan plan.now }
     requires can { All (λ s. CanTell plan.now s.conn s.outcome) conns.now }
     ensures { IfOk result (λ told. (shown : List TheShown) × AllZip (Shows plan.now) (by_number conns.now) shown
-        × IsRunText shown told.text × IsCountOf (flat_map counted_in shown) told.totals) }
+        × IsRunText shown (concat told.parts.items) × IsCountOf (flat_map counted_in shown) told.totals) }
 {
     let shown = shown_all(alloc, plan, conns)?;
     run_text(rt, alloc, shown.as_slice())
@@ -144,7 +144,7 @@ fn judge_of<'a>(plan: &'a Plan, app: &'a Application) -> Option<Judge<'a>>
     Some(Judge { name, policy })
 }
 
-/// Whether a link of a run failed.
+// Whether a link of a run failed.
 pub(crate) fn has_failed<L: Link>(conns: &[ServedConn<'_, L>]) -> bool
     ensures one { result ≡ true → (s : TheConn L) × Contains conns.now s × TellsFailure s.outcome }
     ensures none { result ≡ false → All (λ s. TellsFailure s.outcome → ⊥) conns.now }

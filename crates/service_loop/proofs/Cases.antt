@@ -13,7 +13,7 @@ use Rattle.engine_core.specs.declared.policy.Policy.TheVariants.{Access, Count, 
 use Rattle.conn_core.specs.Connections.{Connection, IsSame, behind}
 use Rattle.conn_core.specs.Steps.{Draws, DrawsTickets, Hands, IfPolicy}
 use Rattle.call_history.specs.Tickets.{tickets_behind}
-use Rattle.service_loop.specs.Serving.{AreSame}
+use Rattle.service_loop.specs.Serving.{AreSameSubmissions}
 use Rattle.service_loop.specs.Steps.{KnowTenants}
 use Rattle.service_loop.specs.declared.due_step.DueStep.{DueStep}
 use Rattle.service_loop.specs.declared.submissions.Submissions.{Submissions}
@@ -149,7 +149,7 @@ known-later K M later steps known =
 pub same-conn : (a b c : Connection) → IsSame a b → IsSame b c → IsSame a c
 same-conn a b c ab bc = record { conn = bc.conn ∙ ab.conn; table = bc.table ∙ ab.table; limit = bc.limit ∙ ab.limit }
 
-pub same-calls : (s : Submissions) → AreSame s s
+pub same-calls : (s : Submissions) → AreSameSubmissions s s
 same-calls s = record {
   conn = record { conn = refl; table = refl; limit = refl };
   heap = refl;
@@ -158,7 +158,7 @@ same-calls s = record {
   steps = refl;
 }
 
-pub calls-then : (a b c : Submissions) → AreSame a b → AreSame b c → AreSame a c
+pub calls-then : (a b c : Submissions) → AreSameSubmissions a b → AreSameSubmissions b c → AreSameSubmissions a c
 calls-then a b c ab bc = record {
   conn = same-conn a.conn b.conn c.conn ab.conn bc.conn;
   heap = bc.heap ∙ ab.heap;

@@ -1,11 +1,10 @@
 -- The chain that steps make, and that it refuses none of them.
 use Rattle.std.proofs.Common.{◌≡◌, ℕ, ◌+◌, ◌<◌, ◌≤◌, ◌^◌, not, if◌then◌else◌, cond, List, [], ◌∷◌, ◌++◌, length, map}
 use Rattle.std.proofs.Common.{take, drop, refl, ap, sym, ◌∙◌, subst, arith, length-take, true, false, Bool}
-use Rattle.std.specs.Prelude.{All, Some, Option, IsSomeAnd, slice_get}
+use Rattle.std.specs.Prelude.{All, Option, IsSomeAnd}
 use Rattle.std.specs.List.{AllZip}
 use Rattle.std.proofs.lemmas.List.{map-append, length-map, take-append-drop}
-use Rattle.std.proofs.lemmas.List.Elements.{All-append, All-cons, All-drop, All-filter, All-get_or, All-head, All-nil, All-tail, All-take, All-map, All-weaker}
-use Rattle.std.proofs.lemmas.Option.{get_or_from_slice_get, slice_get_within}
+use Rattle.std.proofs.lemmas.List.Elements.{All-append, All-cons, All-drop, All-filter, All-head, All-nil, All-tail, All-take, All-map, All-weaker}
 use Rattle.engine_core.specs.Chains.{Chain, Changes, Entry, Refuses, changed, is_named, new_entry, upgraded}
 use Rattle.engine_core.specs.Engines.{EngineParts}
 use Rattle.engine_core.specs.declared.op.Op.{Op as Step}
@@ -186,12 +185,6 @@ few-versions P c steps applied h few =
     All-weaker (λ (e : EngineParts). e.entry.version ≤ length (take applied steps) + 1)
     (λ (e : EngineParts). e.entry.version + 1 < 2 ^ 32)
     (λ e low. omega (arith, low, few, length-take applied steps)) c.engines h.versions
-
-pub policy-at : (P : Policy → Type 0) (steps : List DueStep) (i : ℕ) (due : DueStep)
-    → All (λ due. IfPolicy due.step P) steps → slice_get steps i ≡ Some due → IfPolicy due.step P
-policy-at P steps i due all is =
-    subst (λ (d : DueStep). IfPolicy d.step P) (get_or_from_slice_get steps i due due is)
-    (All-get_or (λ (d : DueStep). IfPolicy d.step P) steps i due (slice_get_within steps i due is) all)
 
 -- ---- no step is refused
 

@@ -14,11 +14,6 @@ pub ascend-lower : (low high : ℕ) (steps : List DueStep) → low ≤ high → 
 ascend-lower low high [] less h = tt
 ascend-lower low high (due ∷ steps) less h = (omega (arith, less, h.0), h.1)
 
--- the first count is above, and so are all
-pub ascend-above : (low : ℕ) (due : DueStep) (steps : List DueStep) → low < due.count → CountsAscend low (due ∷ steps)
-    → CountsAscend (low + 1) (due ∷ steps)
-ascend-above low due steps above h = (omega (arith, above), h.1)
-
 all-same : (closed : Bool) (past new : Behind) → taken new ≡ taken past → all_taken closed new ≡ all_taken closed past
 all-same false past new same = refl
 all-same true past new same = ap (λ calls. Some (length calls)) same

@@ -1,9 +1,9 @@
 -- What a step, a moment and an acceptance leave behind.
-use Rattle.std.proofs.Common.{◌≡◌, ◌⊎◌, inl, inr, ℕ, ◌≤◌, [], ◌∷◌, ◌++◌, refl, ap, sym, ◌∙◌, subst, append-nil}
+use Rattle.std.proofs.Common.{◌≡◌, ◌⊎◌, ℕ, ◌≤◌, [], ◌∷◌, ◌++◌, refl, ap, sym, ◌∙◌, subst, append-nil}
 use Rattle.mrpc_table.specs.declared.table.Table.{Table}
 use Rattle.engine_core.specs.declared.op.Op.{Op as Step}
 use Rattle.call_history.specs.Behind.{Behind, moment, taken}
-use Rattle.call_history.specs.Events.{Comes, Course, accepts, changes, has_turn, is_away, is_sent, link_failed, operates, rises, shows, stays, takes}
+use Rattle.call_history.specs.Events.{Comes, Course, accepts, changes, has_turn, is_away, is_sent, link_failed, operates, rises, stays, takes}
 use Rattle.call_history.specs.Frames.{frames_behind}
 use Rattle.call_history.specs.Rules.{MayTake, Under}
 use Rattle.call_history.specs.Tickets.{tickets_behind}
@@ -54,43 +54,11 @@ stepped-in u old new step (has_turn p s o e is has new-is) = absurd cc
 stepped-in u old new step (is_sent s bytes is running ready new-is) = absurd cc
 stepped-in u old new step (link_failed is new-is) = absurd cc
 
-pub none-stepped : (past : Behind) (step : Step) → HandsNone past (Op step ∷ past)
-none-stepped past step = record {
-  frames = λ T conn. append-nil (frames_behind T conn past);
-  tickets = λ tenant window. append-nil (tickets_behind tenant window past);
-}
-
 -- ---- a moment
 
 pub record HasShown (old new : Course) (ms : ℕ) : Type 0 where
   pub ended : new.ended ≡ old.ended
   pub which : ((new.past ≡ old.past) × (ms ≤ moment old.past)) ⊎ (new.past ≡ Moment ms ∷ old.past)
-
-pub shown-in : (u : Under) (old new : Course) (ms : ℕ) → Comes u old (shows ms) new → HasShown old new ms
-shown-in u old new ms (takes call is running may new-is) = absurd cc
-shown-in u old new ms (is_away method number addr is full new-is) = absurd cc
-shown-in u old new ms (changes s is may new-is) = absurd cc
-shown-in u old new ms (rises n is above new-is) =
-    let same : n ≡ ms = cc in
-    record {
-      ended = ap (λ (c : Course). c.ended) new-is;
-      which = inr (ap (λ (c : Course). c.past) new-is ∙ ap (λ (x : ℕ). Moment x ∷ old.past) same);
-    }
-shown-in u old new ms (stays n is below new-is) =
-    let same : n ≡ ms = cc in
-    record {
-      ended = ap (λ (c : Course). c.ended) new-is;
-      which = inl (ap (λ (c : Course). c.past) new-is, subst (λ (x : ℕ). x ≤ moment old.past) same below);
-    }
-shown-in u old new ms (has_turn p s o e is has new-is) = absurd cc
-shown-in u old new ms (is_sent s bytes is running ready new-is) = absurd cc
-shown-in u old new ms (link_failed is new-is) = absurd cc
-
-pub none-shown : (past : Behind) (ms : ℕ) → HandsNone past (Moment ms ∷ past)
-none-shown past ms = record {
-  frames = λ T conn. append-nil (frames_behind T conn past);
-  tickets = λ tenant window. append-nil (tickets_behind tenant window past);
-}
 
 -- ---- an acceptance
 

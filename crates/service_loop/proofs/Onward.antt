@@ -4,7 +4,7 @@ use Rattle.mrpc_base.specs.declared.clock.Clock.{Ghosts as ClockMembers}
 use Rattle.mrpc_base.specs.declared.link.Link.{Ghosts as LinkMembers}
 use Rattle.mrpc_base.specs.declared.tickets.Tickets.{Ghosts as TicketMembers}
 use Rattle.receive_core.specs.Life.{Life}
-use Rattle.service_loop.specs.Delivering.{AreSame, DeliversOn, HaveDelivered, HaveGoneOn}
+use Rattle.service_loop.specs.Delivering.{AreSameDeliveries, DeliversOn, HaveDelivered, HaveGoneOn}
 use Rattle.service_loop.specs.Rounds.{GoesOn, IsSame, IsWhole, weight_of_share}
 use Rattle.service_loop.specs.declared.delivering.Deliveries.{Deliveries}
 use Rattle.service_loop.specs.declared.endpoint.Endpoint.{Endpoint}
@@ -14,7 +14,7 @@ use Rattle.service_loop.proofs.Delivered.{gone-nowhere}
 
 -- ---- deliveries
 
-pub same-deliveries : (d : Deliveries) → AreSame d d
+pub same-deliveries : (d : Deliveries) → AreSameDeliveries d d
 same-deliveries d = record {
   arrivals = record { table = refl; policy = refl; conn = refl; words = refl; heap = refl };
   notices = record { notices = refl; numbers = refl };
@@ -22,7 +22,7 @@ same-deliveries d = record {
   programmed = refl;
 }
 
-pub deliveries-then : (a b c : Deliveries) → AreSame a b → AreSame b c → AreSame a c
+pub deliveries-then : (a b c : Deliveries) → AreSameDeliveries a b → AreSameDeliveries b c → AreSameDeliveries a c
 deliveries-then a b c ab bc = record {
   arrivals = record {
     table = bc.arrivals.table ∙ ab.arrivals.table;

@@ -61,7 +61,7 @@ abbrev pub AreDelivering : Deliveries → Type 0
 AreDelivering d = (life : Life) × (numbers : List ℕ) × (back : List ℕ) × HaveDelivered life numbers back d
 
 -- what deliveries keep
-pub record AreSame (old new : Deliveries) : Type 0 where
+pub record AreSameDeliveries (old new : Deliveries) : Type 0 where
   pub arrivals : AreSameArrivals old.arrivals new.arrivals
   pub notices : AreSameRings old.notices new.notices
   pub numbers : new.reclaims.numbers.ring ≡ old.reclaims.numbers.ring

@@ -9,11 +9,11 @@ use Rattle.conn_core.specs.Connections.{behind}
 use Rattle.conn_core.specs.Steps.{DrawsTickets, Hands}
 use Rattle.service_loop.specs.Calls.{moments_at_calls, moments_in}
 use Rattle.service_loop.specs.Serving.{IsServed}
-use Rattle.service_loop.specs.Serving.{AreSame as AreSameSubmissions}
+use Rattle.service_loop.specs.Serving.{AreSameSubmissions}
 use Rattle.service_loop.specs.Steps.{KnowTenants}
 use Rattle.deliveries.specs.declared.arrivals.Stream.TheVariants.{Ended, Failed}
 use Rattle.service_loop.specs.Delivering.{AreDelivering, CountsAsEnded, DeliversOn}
-use Rattle.service_loop.specs.Delivering.{AreSame as AreSameDeliveries}
+use Rattle.service_loop.specs.Delivering.{AreSameDeliveries}
 use Rattle.service_loop.specs.declared.endpoint.Endpoint.{Endpoint}
 use Rattle.service_loop.specs.declared.share.Share.{Share}
 

@@ -39,7 +39,7 @@ pub record IsServed (s : Submissions) : Type 0 where
   pub all_came : s.finished ≡ true → s.applied ≡ length s.steps.now
 
 -- what stays the same of submissions
-pub record AreSame (old new : Submissions) : Type 0 where
+pub record AreSameSubmissions (old new : Submissions) : Type 0 where
   pub conn : IsSame old.conn new.conn
   pub heap : new.reader.heap ≡ old.reader.heap
   pub ring : new.calls.ring ≡ old.calls.ring

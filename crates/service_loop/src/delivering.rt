@@ -5,7 +5,7 @@ ghost use Rattle.mrpc_base.specs.Faults.{HasCause};
 ghost use Rattle.receive_core.specs.Life.{Life as TheLife, Fated, fated};
 ghost use Rattle.deliveries.specs.Arriving.{HaveLived};
 ghost use Rattle.deliveries.specs.Telling.{number_ring_of, ring_of};
-ghost use Rattle.service_loop.specs.Delivering.{AreDelivering, AreSame, CountsAsEnded, DeliversOn, HaveDelivered, HaveGoneOn, IsClosing};
+ghost use Rattle.service_loop.specs.Delivering.{AreDelivering, AreSameDeliveries, CountsAsEnded, DeliversOn, HaveDelivered, HaveGoneOn, IsClosing};
 
 use deliveries::{Arrivals, Notices, Reclaimed, Reclaims, Stream, Turned};
 use descriptor_ring::{NumberReceiver, NumberSender, Sender};
@@ -95,7 +95,7 @@ impl<'t> Deliveries<'t> {
         requires room { 0 < length buffer.old }
         requires most { length buffer.old ≤ 2 ^ 32 }
         ensures on { OnOk result (DeliversOn (L.given link.old) (L.given link.new) self.old self.new) }
-        ensures same { AreSame self.old self.new }
+        ensures same { AreSameDeliveries self.old self.new }
 
         // The link counts as failed where its count of faults rises, and as ended where it told so. Then nothing more is
         // received.
@@ -125,7 +125,7 @@ impl<'t> Deliveries<'t> {
         ensures delivered { (life : TheLife) (numbers back : List ℕ) → HaveDelivered life numbers back self.old
             → OnOk result ((more : List ℕ) × (gained : List ℕ)
             × HaveDelivered life (numbers ++ more) (back ++ gained) self.new) }
-        ensures same { AreSame self.old self.new }
+        ensures same { AreSameDeliveries self.old self.new }
         ensures stream { self.new.arrivals.stream ≡ self.old.arrivals.stream }
         ensures over { CountsAsEnded self.old.arrivals → CountsAsEnded self.new.arrivals }
     {
@@ -142,7 +142,7 @@ impl<'t> Deliveries<'t> {
         requires most { length buffer.old ≤ 2 ^ 32 }
         ensures on { (life : TheLife) (numbers back : List ℕ) → HaveDelivered life numbers back self.old
             → OnOk result (HaveGoneOn life numbers back (L.given link.old) (L.given link.new) self.new) }
-        ensures same { AreSame self.old self.new }
+        ensures same { AreSameDeliveries self.old self.new }
         ensures cause { HasCause ((self.old.arrivals.stream ≢ Stream.Failed) × (self.new.arrivals.stream ≡ Stream.Failed))
             (L.faults link.old) (L.faults link.new) }
         ensures over { CountsAsEnded self.old.arrivals → self.new ≡ self.old }
@@ -163,7 +163,7 @@ impl<'t> Deliveries<'t> {
         requires { AreDelivering self.old }
         ensures delivered { (life : TheLife) (numbers back : List ℕ) → HaveDelivered life numbers back self.old
             → OnOk result ((more : List Fated) × HaveDelivered (fated life more) numbers back self.new) }
-        ensures same { AreSame self.old self.new }
+        ensures same { AreSameDeliveries self.old self.new }
         ensures stream { self.new.arrivals.stream ≡ self.old.arrivals.stream }
     {
         if self.is_closing() {
@@ -192,7 +192,7 @@ impl<'t> Deliveries<'t> {
         requires { AreDelivering self.old }
         ensures delivered { (life : TheLife) (numbers back : List ℕ) → HaveDelivered life numbers back self.old
             → HaveDelivered life numbers back self.new }
-        ensures same { AreSame self.old self.new }
+        ensures same { AreSameDeliveries self.old self.new }
         ensures arrivals { self.new.arrivals ≡ self.old.arrivals }
     {
         let given = self.give_notices(rt);
@@ -205,7 +205,7 @@ impl<'t> Deliveries<'t> {
         requires { AreDelivering self.old }
         ensures delivered { (life : TheLife) (numbers back : List ℕ) → HaveDelivered life numbers back self.old
             → HaveDelivered life numbers back self.new }
-        ensures same { AreSame self.old self.new }
+        ensures same { AreSameDeliveries self.old self.new }
         ensures arrivals { self.new.arrivals ≡ self.old.arrivals }
     {
         if self.is_closing() {
@@ -219,7 +219,7 @@ impl<'t> Deliveries<'t> {
     fn close<R: Wait>(&mut self, rt: &R) -> bool
         ensures delivered { (life : TheLife) (numbers back : List ℕ) → HaveDelivered life numbers back self.old
             → HaveDelivered life numbers back self.new }
-        ensures same { AreSame self.old self.new }
+        ensures same { AreSameDeliveries self.old self.new }
         ensures arrivals { self.new.arrivals ≡ self.old.arrivals }
     {
         if !self.arrivals.has_all() {
@@ -245,7 +245,7 @@ impl<'t> Deliveries<'t> {
         ensures delivered { (life : TheLife) (numbers back : List ℕ) → HaveDelivered life numbers back self.old
             → HaveDelivered life numbers back self.new }
         ensures over { CountsAsEnded self.new.arrivals }
-        ensures same { AreSame self.old self.new }
+        ensures same { AreSameDeliveries self.old self.new }
         ensures ended { self.new.arrivals.stream ≡ Stream.Ended → self.old.arrivals.stream ≡ Stream.Ended }
         ensures only { CountsAsEnded self.old.arrivals → self.new ≡ self.old }
     {

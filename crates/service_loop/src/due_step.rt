@@ -14,7 +14,7 @@ pub struct DueStep {
 }
 
 impl DueStep {
-    /// An equal step, for a chain.
+    // An equal step, for a chain.
     pub(crate) fn copied(&self, alloc: Global) -> Result<Op, Memory>
         ensures { IfOk result (λ op. op ≡ self.now.step) }
     {

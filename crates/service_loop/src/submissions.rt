@@ -9,7 +9,7 @@ ghost use Rattle.call_history.specs.Tickets.{tickets_behind};
 ghost use Rattle.conn_core.specs.Connections.{behind, frames, under};
 ghost use Rattle.conn_core.specs.Steps.{DrawsTickets, Hands};
 ghost use Rattle.service_loop.specs.Calls.{moments_at_calls, moments_in};
-ghost use Rattle.service_loop.specs.Serving.{AreSame, IsServed, IsServing};
+ghost use Rattle.service_loop.specs.Serving.{AreSameSubmissions, IsServed, IsServing};
 ghost use Rattle.service_loop.specs.Steps.{AreSteps, KnowTenants};
 ghost use Rattle.service_loop.specs.Within.{HasDrained, HasTaken, IsDue, NoneIsDue, OnlySteps, Shows, StaysBeside, TakesNow};
 
@@ -127,7 +127,7 @@ impl<'t> Submissions<'t> {
 
         // What holds between two rounds holds behind this one.
         ensures served { result ≢ Activity.Memory → IsServed self.new }
-        ensures same { AreSame self.old self.new }
+        ensures same { AreSameSubmissions self.old self.new }
 
         // Its moment is the clock's, and the call that it takes is taken then.
         ensures moments { result ≢ Activity.Memory → All (C.gives clock.now) (moments_in (behind self.old.conn))
@@ -192,7 +192,7 @@ impl<'t> Submissions<'t> {
         requires known { KnowTenants (Q.knows tickets.old) self.old.steps.now }
         requires unfinished { self.old.finished ≡ false }
         ensures served { OnOk result (IsServed self.new) }
-        ensures same { AreSame self.old self.new }
+        ensures same { AreSameSubmissions self.old self.new }
         ensures moments { OnOk result (All (C.gives clock.now) (moments_in (behind self.old.conn))
             → All (C.gives clock.now) (moments_in (behind self.new.conn))) }
         ensures least { OnOk result (All (λ ms. C.least clock.now ≤ ms) (moments_at_calls (behind self.old.conn))
@@ -227,7 +227,7 @@ impl<'t> Submissions<'t> {
         ensures serving { OnOk result (IsServing self.new) }
         ensures none_due { OnOk result (NoneIsDue closing self.new) }
         ensures only { OnOk result (OnlySteps self.old self.new) }
-        ensures same { AreSame self.old self.new }
+        ensures same { AreSameSubmissions self.old self.new }
     {
         'steps: while self.is_due(closing) {
             self.apply(alloc)?;
@@ -253,7 +253,7 @@ impl<'t> Submissions<'t> {
         ensures serving { OnOk result (IsServing self.new) }
         ensures applied { OnOk result (self.new.applied ≡ self.old.applied + 1) }
         ensures only { OnOk result (OnlySteps self.old self.new) }
-        ensures same { AreSame self.old self.new }
+        ensures same { AreSameSubmissions self.old self.new }
     {
         self.conn.is_connection();
         let step = self.steps[self.applied].copied(alloc)?;
@@ -274,7 +274,7 @@ impl<'t> Submissions<'t> {
         ensures serving { OnOk result (IsServing self.new) }
         ensures none_due { OnOk result (NoneIsDue false self.old → NoneIsDue false self.new) }
         ensures shown { OnOk result (Shows now self.old.conn self.new.conn) }
-        ensures same { AreSame self.old self.new }
+        ensures same { AreSameSubmissions self.old self.new }
         ensures calls { self.new.calls ≡ self.old.calls }
         ensures finished { self.new.finished ≡ self.old.finished }
         ensures accepted { self.new.accepted ≡ self.old.accepted }
@@ -291,7 +291,7 @@ impl<'t> Submissions<'t> {
         ensures closing { IfOk result (λ next. (next ≡ Next.Closing) ↔ (self.new.calls.closed ≡ true)) }
         ensures beside { OnOk result (StaysBeside self.old.conn self.new.conn) }
         ensures now { OnOk result (TakesNow self.old.conn self.new.conn) }
-        ensures same { AreSame self.old self.new }
+        ensures same { AreSameSubmissions self.old self.new }
         ensures finished { self.new.finished ≡ self.old.finished }
         ensures one { OnOk result (self.new.accepted ≤ self.old.accepted + 1) }
     {
@@ -317,7 +317,7 @@ impl<'t> Submissions<'t> {
         ensures serving { OnOk result (IsServing self.new) }
         ensures beside { OnOk result (StaysBeside self.old.conn self.new.conn) }
         ensures now { OnOk result (TakesNow self.old.conn self.new.conn) }
-        ensures same { AreSame self.old self.new }
+        ensures same { AreSameSubmissions self.old self.new }
         ensures calls { self.new.calls ≡ self.old.calls }
         ensures finished { self.new.finished ≡ self.old.finished }
         ensures one { OnOk result (self.new.accepted ≤ self.old.accepted + 1) }
@@ -371,7 +371,7 @@ impl<'t> Submissions<'t> {
             (DrawsTickets Q.knows Q.drawn Q.since self.old.conn self.new.conn tickets.old tickets.new) }
         ensures cause { OnOk result (HasCause ((self.old.conn.ended ≡ false) × (self.new.conn.ended ≡ true))
             (L.faults link.old) (L.faults link.new)) }
-        ensures same { AreSame self.old self.new }
+        ensures same { AreSameSubmissions self.old self.new }
         ensures given { L.given link.new ≡ L.given link.old }
         ensures link_ended { L.ended link.new ≡ L.ended link.old }
         ensures same_link { (first : L) → L.since first link.old → L.since first link.new }
@@ -404,7 +404,7 @@ impl<'t> Submissions<'t> {
             (DrawsTickets Q.knows Q.drawn Q.since self.old.conn self.new.conn tickets.old tickets.new) }
         ensures cause { OnOk result (HasCause ((self.old.conn.ended ≡ false) × (self.new.conn.ended ≡ true))
             (L.faults link.old) (L.faults link.new)) }
-        ensures same { AreSame self.old self.new }
+        ensures same { AreSameSubmissions self.old self.new }
         ensures given { L.given link.new ≡ L.given link.old }
         ensures link_ended { L.ended link.new ≡ L.ended link.old }
         ensures same_link { (first : L) → L.since first link.old → L.since first link.new }
@@ -432,7 +432,7 @@ impl<'t> Submissions<'t> {
             (DrawsTickets Q.knows Q.drawn Q.since self.old.conn self.new.conn tickets.old tickets.new) }
         ensures cause { OnOk result (HasCause ((self.old.conn.ended ≡ false) × (self.new.conn.ended ≡ true))
             (L.faults link.old) (L.faults link.new)) }
-        ensures same { AreSame self.old self.new }
+        ensures same { AreSameSubmissions self.old self.new }
         ensures calls { self.new.calls ≡ self.old.calls }
         ensures applied { self.new.applied ≡ self.old.applied }
         ensures finished { self.new.finished ≡ self.old.finished }
@@ -461,7 +461,7 @@ impl<'t> Submissions<'t> {
         requires served { IsServed self.old }
         ensures served { IsServed self.new }
         ensures ended { self.new.conn.ended ≡ true }
-        ensures same { AreSame self.old self.new }
+        ensures same { AreSameSubmissions self.old self.new }
         ensures calls { self.new.calls ≡ self.old.calls }
         ensures frames { frames self.new.conn ≡ frames self.old.conn }
         ensures tickets { (tenant window : ℕ) → tickets_behind tenant window (behind self.new.conn)

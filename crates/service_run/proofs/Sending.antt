@@ -90,7 +90,7 @@ row-send = view_send CallRowInside.the_row _ _ _ _
 chain-send : IsSend Chain.the_row
 chain-send = view_send ChainInside.the_row _ _ _ _ (declared_send ChainInside.the_type (
   Vec-send Engine.the_row engine.the_send,
-  (word w32, (row-send, (cuts.the_send, tt))),
+  (word w32, (row-send, (cuts.the_send, (word w32, tt)))),
 ))
 
 -- ---- histories

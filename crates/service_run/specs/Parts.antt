@@ -17,7 +17,7 @@ use Rattle.link_queue.specs.Known.{TellsMore}
 use Rattle.link_queue.specs.Queueing.{PassedOn, Queueing}
 use Rattle.service_loop.specs.Calls.{moments_at_calls, moments_in}
 use Rattle.service_loop.specs.Rounds.{IsEndpoint}
-use Rattle.service_loop.specs.Serving.{AreSame, IsServed}
+use Rattle.service_loop.specs.Serving.{AreSameSubmissions, IsServed}
 use Rattle.service_loop.specs.declared.delivering.Deliveries.{Deliveries}
 use Rattle.service_loop.specs.declared.share.Share.{Share}
 use Rattle.service_loop.specs.declared.submissions.Submissions.{Submissions}
@@ -57,7 +57,7 @@ pub record KnowsAll (note : Noting) (sent : AllSent) (old new : Submissions) : T
 -- The calls of a connection whose link failed, or didn't.
 pub record FailsWith (failed : Bool) (old new : Submissions) : Type 0 where
   pub served : IsServed new
-  pub same : AreSame old new
+  pub same : AreSameSubmissions old new
   pub calls : new.calls ≡ old.calls
   pub frames : frames new.conn ≡ frames old.conn
   pub tickets : (tenant window : ℕ) → tickets_behind tenant window (behind new.conn)

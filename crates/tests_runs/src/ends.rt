@@ -4,7 +4,7 @@ ghost use Rattle.std.specs.Prelude.{◌≡◌, ◌<◌, ◌+◌, ◌∷◌, IsPe
 use std::alloc::Global;
 use std::process::Abort;
 
-/// The ends that a fabric has back, each with its connection, and how many it opened that it doesn't have back.
+// The ends that a fabric has back, each with its connection, and how many it opened that it doesn't have back.
 #[derive(Drop)]
 pub(crate) struct Ends<L> {
     pub back: Vec<(u32, L)>,
@@ -19,7 +19,7 @@ impl<L> Ends<L> {
         }
     }
 
-    /// Counts two ends that were opened.
+    // Counts two ends that were opened.
     pub(crate) fn count_pair(&mut self, rt: &impl Abort)
         ensures away { self.new.away ≡ self.old.away + 2 }
         ensures back { self.new.back ≡ self.old.back }
@@ -29,7 +29,7 @@ impl<L> Ends<L> {
 }
 
 impl<L: Drop> Ends<L> {
-    /// Takes an end back.
+    // Takes an end back.
     pub(crate) fn keep(&mut self, rt: &impl Abort, conn: u32, end: L)
         requires opened { 0 < self.old.away }
         ensures back { IsPermutation self.new.back.items ((conn, end) ∷ self.old.back.items) }

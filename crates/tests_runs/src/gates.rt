@@ -16,7 +16,7 @@ const LONG: u64 = 100_000;
 // How many calls in a row there are for one connection at most.
 const MOST_IN_A_ROW: u64 = 10_000_000;
 
-/// Whether a count rises above a value within so many turns, in each of which the processor is given away.
+// Whether a count rises above a value within so many turns, in each of which the processor is given away.
 pub(crate) fn rises_above(count: &AtomicU64, before: u64) -> bool {
     for _ in 0..TURNS {
         if count.load(Ordering::SeqCst) > before {
@@ -27,7 +27,7 @@ pub(crate) fn rises_above(count: &AtomicU64, before: u64) -> bool {
     false
 }
 
-/// A gate whose first calls for connections 1 and 2 each stay inside until the other one has begun.
+// A gate whose first calls for connections 1 and 2 each stay inside until the other one has begun.
 #[derive(Drop)]
 pub(crate) struct MeetingGate {
     first: AtomicU64,
@@ -44,12 +44,12 @@ impl MeetingGate {
         }
     }
 
-    /// How many calls ran out of turns.
+    // How many calls ran out of turns.
     pub(crate) fn missed(&self) -> u64 {
         self.missed.load(Ordering::SeqCst)
     }
 
-    /// Whether both first calls began.
+    // Whether both first calls began.
     pub(crate) fn has_begun(&self) -> bool {
         self.first.load(Ordering::SeqCst) > 0 && self.second.load(Ordering::SeqCst) > 0
     }
@@ -72,7 +72,7 @@ impl Gate for MeetingGate {
     }
 }
 
-/// A gate that is always open, and counts its calls.
+// A gate that is always open, and counts its calls.
 #[derive(Drop)]
 pub(crate) struct CountingGate {
     pub calls: AtomicU64,
@@ -113,7 +113,7 @@ impl Calls {
     }
 }
 
-/// A gate that notes each call, during which no other one may begin. Its first call for connection 1 lasts long.
+// A gate that notes each call, during which no other one may begin. Its first call for connection 1 lasts long.
 #[derive(Drop)]
 pub(crate) struct NotingGate<'r, R> {
     rt: &'r R,
@@ -135,7 +135,7 @@ impl<'r, R: Abort + Wait> NotingGate<'r, R> {
         }
     }
 
-    /// The connections that it was asked for, in order.
+    // The connections that it was asked for, in order.
     pub(crate) fn into_conns(self) -> Vec<u32> {
         let NotingGate {
             rt: _,

@@ -6,7 +6,7 @@ use mrpc_base::{Fabric, MemLink, OpenFault};
 use std::alloc::Global;
 use std::process::Abort;
 
-/// What one end of a link is given, in pieces of which lengths, and which of its sends and receives fail, counted from 1.
+// What one end of a link is given, in pieces of which lengths, and which of its sends and receives fail, counted from 1.
 pub(crate) struct Prepared {
     pub bytes: Vec<u8>,
     pub lengths: Vec<usize>,
@@ -27,7 +27,7 @@ impl Drop for Prepared {
 }
 
 impl Prepared {
-    /// An end that is given these bytes, and then the end.
+    // An end that is given these bytes, and then the end.
     pub(crate) fn giving(alloc: Global, bytes: Vec<u8>) -> Prepared {
         Prepared {
             bytes,
@@ -53,7 +53,7 @@ impl Prepared {
     }
 }
 
-/// A fabric that opens one link, of these two ends.
+// A fabric that opens one link, of these two ends.
 pub(crate) struct PreparedFabric<'r, R> {
     rt: &'r R,
     alloc: Global,

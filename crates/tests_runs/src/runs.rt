@@ -17,12 +17,12 @@ use std::thread::Threads;
 const TOP: &str = "mrpc = 1\nservice = \"S\"\nschema = \"\"\"\nsyntax = \"proto3\";\n\
     message M { uint64 a = 1; }\nservice S { rpc Get (M) returns (M); }\n\"\"\"\n";
 
-/// A client whose one message comes back from an echo.
+// A client whose one message comes back from an echo.
 pub(crate) const ONE_CALL: &str =
     "app = [{conn = 1, role = \"client\", program = [\"store 2 150\", \"submit 0 2\"]},\n\
     {conn = 2, role = \"echo\"}]\nlink = [{a = 1, b = 2}]\n";
 
-/// The plan of a text behind the keys of the whole and a further key.
+// The plan of a text behind the keys of the whole and a further key.
 pub(crate) fn plan_of(rt: &impl Abort, alloc: Global, key: &str, rest: &str) -> Plan
     ensures { IsPlan result }
 {
@@ -35,15 +35,15 @@ pub(crate) fn plan_of(rt: &impl Abort, alloc: Global, key: &str, rest: &str) -> 
         .expect(rt, "a plan")
 }
 
-/// What a run told, and whether a link failed.
+// What a run told, and whether a link failed.
 #[derive(Drop)]
 pub(crate) struct Told {
     pub text: Bytes,
     pub failed: bool,
 }
 
-/// What a run of a plan tells, over links of a fabric, at a clock that stands still at 0. Plan and fabric are owned here:
-/// what a drop comes to is proved in each function that has one.
+// What a run of a plan tells, over links of a fabric, at a clock that stands still at 0. Plan and fabric are owned here:
+// what a drop comes to is proved in each function that has one.
 pub(crate) fn ran<R: Abort + Threads + Wait + Sync, F: Fabric + Drop, G: Gate>(
     rt: &R,
     alloc: Global,
@@ -55,14 +55,21 @@ pub(crate) fn ran<R: Abort + Threads + Wait + Sync, F: Fabric + Drop, G: Gate>(
 {
     let run = serve_plan(rt, alloc, &plan, &mut fabric, &FixedClock(0), gate);
     discard(plan);
-    told_of(run.ok().expect(rt, "a run"))
+    told_of(rt, alloc, run.ok().expect(rt, "a run"))
 }
 
-fn told_of(run: Run) -> Told {
-    let Run {
-        text,
-        totals: _totals,
-        failed,
-    } = run;
+fn told_of(rt: &impl Abort, alloc: Global, run: Run) -> Told {
+    let text = joined(rt, alloc, run.parts.as_slice());
+    let failed = run.failed;
+    discard(run);
     Told { text, failed }
+}
+
+// The parts of what a run told, one behind another.
+fn joined(rt: &impl Abort, alloc: Global, parts: &[Bytes]) -> Bytes {
+    let mut text = Bytes::new(alloc);
+    for part in parts {
+        text.append(part.as_slice()).expect(rt, "memory");
+    }
+    text
 }

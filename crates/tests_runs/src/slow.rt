@@ -8,7 +8,7 @@ use std::alloc::Global;
 use std::process::Abort;
 use std::sync::atomic::{AtomicU64, Ordering};
 
-/// A link whose second send, the first behind its hello, waits for the next call of a gate, if it is so made.
+// A link whose second send, the first behind its hello, waits for the next call of a gate, if it is so made.
 #[derive(Drop)]
 pub(crate) struct SlowLink<'g, L> {
     inner: L,
@@ -16,7 +16,7 @@ pub(crate) struct SlowLink<'g, L> {
     sends: u64,
 }
 
-/// A gate, and how many sends waited for it, and for how many of them it wasn't asked again.
+// A gate, and how many sends waited for it, and for how many of them it wasn't asked again.
 #[derive(Drop)]
 pub(crate) struct Waits {
     pub gate: CountingGate,
@@ -92,7 +92,7 @@ impl<'g, L: Link> Link for SlowLink<'g, L> {
     }
 }
 
-/// A fabric over another one. The link of connection 1 waits in its second send.
+// A fabric over another one. The link of connection 1 waits in its second send.
 #[derive(Drop)]
 pub(crate) struct SlowFabric<'g, 'r, R, F: Fabric> {
     rt: &'r R,

@@ -8,10 +8,10 @@ use schema_binding::hello;
 use std::alloc::Global;
 use std::process::Abort;
 
-/// The most bytes of a payload.
+// The most bytes of a payload.
 pub(crate) const LONGEST: usize = 262_144;
 
-/// The hello of connection 2 with the table of the plan, of a version.
+// The hello of connection 2 with the table of the plan, of a version.
 pub(crate) fn hello_of(rt: &impl Abort, alloc: Global, plan: &Plan, version: u8) -> Vec<u8>
     requires { IsPlan plan.now }
 {
@@ -23,7 +23,7 @@ pub(crate) fn hello_of(rt: &impl Abort, alloc: Global, plan: &Plan, version: u8)
     bytes
 }
 
-/// A request of method 0, behind what there is.
+// A request of method 0, behind what there is.
 pub(crate) fn push_request(
     rt: &impl Abort,
     alloc: Global,
@@ -38,7 +38,7 @@ pub(crate) fn push_request(
         .expect(rt, "memory");
 }
 
-/// A message of the field 2, and so on, 33 in all, of which the last one is empty.
+// A message of the field 2, and so on, 33 in all, of which the last one is empty.
 pub(crate) fn nested(rt: &impl Abort, alloc: Global) -> Vec<u8> {
     let mut bytes = Vec::new(alloc);
     for inner in 0..32_u8 {
@@ -48,7 +48,7 @@ pub(crate) fn nested(rt: &impl Abort, alloc: Global) -> Vec<u8> {
     bytes
 }
 
-/// The longest payload, of zeros.
+// The longest payload, of zeros.
 pub(crate) fn longest(rt: &impl Abort, alloc: Global) -> Vec<u8> {
     let mut bytes = Vec::new(alloc);
     for _ in 0..LONGEST {

@@ -16,7 +16,7 @@ const ONE_CALL_TOLD: &[u8] =
     took 2 1 0 1 2 1 1 copy 089601\nsent 2 1 19\narrived 2 1 0 1 089601\n\
     method 0 2 2 0 0\ntotals 2 2 0 0\n";
 
-/// Links in memory of which none fails.
+// Links in memory of which none fails.
 pub(crate) fn memory<'r, R: Abort + Wait>(rt: &'r R, alloc: Global) -> MemFabric<'r, R> {
     let faults = ListedFaults {
         openings: Vec::new(alloc),

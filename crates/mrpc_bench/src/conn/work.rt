@@ -19,7 +19,7 @@ use policy_rate::Rate;
 use std::alloc::Global;
 use std::marker::Model;
 
-/// The table of the messages.
+// The table of the messages.
 pub(crate) const TABLE: &[u8] =
     b"message M\nfield 1 plain uint64 a\nfield 2 plain uint64 b\nfield 3 plain uint64 c\n\
 field 4 plain uint64 d\nfield 5 plain uint64 e\nfield 6 plain uint64 f\nfield 7 plain uint64 g\n\
@@ -49,8 +49,8 @@ const CALL_A_MOMENT: Rate = Rate {
     hold: true,
 };
 
-/// A connection of number 1, with its heap of 32 words, the tickets of a tenant, its link, and a policy of the rules.
-pub struct Work<'t> {
+// A connection of number 1, with its heap of 32 words, the tickets of a tenant, its link, and a policy of the rules.
+pub(crate) struct Work<'t> {
     alloc: Global,
     table: &'t Table,
     rules: Policy,
@@ -156,7 +156,7 @@ fn new_link(alloc: Global) -> MemLink {
 }
 
 impl<'t> Work<'t> {
-    /// A connection without a call, and a message of ten fields at place 2 of its heap.
+    // A connection without a call, and a message of ten fields at place 2 of its heap.
     pub(crate) fn open(alloc: Global, table: &'t Table) -> Option<Work<'t>>
         requires { IsValid table.now }
     {
@@ -244,7 +244,7 @@ impl<'t> Work<'t> {
         self.attach(at, name, policy)
     }
 
-    /// Attaches four access policies, a rate and a count.
+    // Attaches four access policies, a rate and a count.
     pub(crate) fn attach_all(&mut self) -> Option<()> {
         self.attach_access(0, b"a")?;
         self.attach_access(1, b"b")?;
@@ -254,8 +254,8 @@ impl<'t> Work<'t> {
         self.attach(5, b"count", Policy::Count)
     }
 
-    /// Attaches an access policy, a rate that lets a call go at each moment and holds the others, another access policy and
-    /// a count.
+    // Attaches an access policy, a rate that lets a call go at each moment and holds the others, another access policy and
+    // a count.
     pub(crate) fn attach_holding(&mut self) -> Option<()> {
         self.attach_access(0, b"a")?;
         self.attach(1, b"rate", Policy::Rate(CALL_A_MOMENT))?;
@@ -263,13 +263,13 @@ impl<'t> Work<'t> {
         self.attach(3, b"count", Policy::Count)
     }
 
-    /// Puts the rules once more into the first policy, so that all calls go back to it.
+    // Puts the rules once more into the first policy, so that all calls go back to it.
     pub(crate) fn upgrade_first(&mut self) -> Option<()> {
         let policy = self.rules.copied(self.alloc).ok()?;
         self.upgrade(b"a", policy)
     }
 
-    /// Attaches a policy in the middle of the chain, upgrades it, and detaches it.
+    // Attaches a policy in the middle of the chain, upgrades it, and detaches it.
     pub(crate) fn attach_upgrade_detach(&mut self) -> Option<()> {
         self.attach(3, b"middle", Policy::Count)?;
         self.upgrade(b"middle", Policy::Count)?;
@@ -279,7 +279,7 @@ impl<'t> Work<'t> {
 
     // ---- calls
 
-    /// Accepts the message so often.
+    // Accepts the message so often.
     pub(crate) fn accept(&mut self, times: u32) -> Option<()> {
         for _ in 0..times {
             self.accept_one()?;
@@ -287,7 +287,7 @@ impl<'t> Work<'t> {
         Some(())
     }
 
-    /// Accepts the message.
+    // Accepts the message.
     pub(crate) fn accept_one(&mut self) -> Option<()> {
         if !is_young(&self.conn) {
             return None;
@@ -302,12 +302,12 @@ impl<'t> Work<'t> {
         accepted.is_ok().then_some(())
     }
 
-    /// Shows a moment, in milliseconds.
+    // Shows a moment, in milliseconds.
     pub(crate) fn show(&mut self, moment: u64) -> Option<()> {
         self.conn.clock(moment).ok()
     }
 
-    /// Has the engines take turns, from the first on, until no call can go on. Nothing is sent.
+    // Has the engines take turns, from the first on, until no call can go on. Nothing is sent.
     pub(crate) fn judge(&mut self) -> Option<()> {
         if !knows_tenants(self.conn.chain(), &self.tickets) {
             return None;
@@ -316,7 +316,7 @@ impl<'t> Work<'t> {
         Some(())
     }
 
-    /// Has the engines take turns, and sends the calls that are ready.
+    // Has the engines take turns, and sends the calls that are ready.
     pub(crate) fn drain(&mut self) -> Option<()> {
         if !knows_tenants(self.conn.chain(), &self.tickets) {
             return None;
@@ -327,12 +327,12 @@ impl<'t> Work<'t> {
 
     // ---- what came of it
 
-    /// How many happenings there are.
+    // How many happenings there are.
     pub(crate) fn happenings(&self) -> usize {
         self.conn.history().len()
     }
 
-    /// How many frames the link was handed.
+    // How many frames the link was handed.
     pub(crate) fn frames(&self) -> usize {
         self.link.handed().len()
     }

@@ -27,20 +27,20 @@ const WORDS: u64 = 258;
 // One word of a message is loaded, its number.
 const LIMIT: u64 = 1;
 
-/// What came through a ring.
+// What came through a ring.
 #[derive(Clone, Copy)]
-pub struct Passed {
-    /// How many descriptors were taken.
+pub(crate) struct Passed {
+    // How many descriptors were taken.
     pub taken: u64,
-    /// How many of their messages were copied.
+    // How many of their messages were copied.
     pub copied: u64,
-    /// The sum of the numbers in these messages, modulo 2^64.
+    // The sum of the numbers in these messages, modulo 2^64.
     pub sum: u64,
 }
 
-/// Passes descriptors of so many messages of the first type of a table. A message for which no memory is found isn't
-/// copied.
-pub fn pass<R: Threads + Wait + Sync>(
+// Passes descriptors of so many messages of the first type of a table. A message for which no memory is found isn't
+// copied.
+pub(crate) fn pass<R: Threads + Wait + Sync>(
     rt: &R,
     alloc: Global,
     table: &Table,

@@ -1,38 +1,36 @@
-use Rattle.std.proofs.Common.{List, ◌++◌, map, subst, append_assoc}
+use Rattle.std.proofs.Common.{◌≡◌, [], List, length, map, ap, ◌∙◌, sym, subst, length-append, arith}
 use Rattle.std.specs.List.{flat_map}
-use Rattle.std.proofs.lemmas.Result.{on_ok_weaker}
+use Rattle.std.proofs.lemmas.List.{length-map}
+use Rattle.chain_upgrade.specs.Chains.{ChainParts}
 use Rattle.call_history.specs.Behind.{taken}
-use Rattle.conn_core.specs.Connections.{behind, under}
-use Rattle.telemetry.specs.Counts.{Happened as Counted}
+use Rattle.call_history.specs.declared.happening.Taken.{Taken}
+use Rattle.conn_core.specs.Connections.{behind}
 use Rattle.run_text.specs.Counting.{counted, standing_counted}
-use Rattle.run_text.proofs.Calls.{are-numbered}
 use Rattle.run_text.specs.Counts.{HaveCounted}
-use Rattle.run_text.proofs.Counted.{can-first, can-then}
+use Rattle.run_text.proofs.Counted.{none-counted}
+use Rattle.run_text.proofs.Lines.{rows-long}
+use Rattle.run_text.proofs.Telling.{few-counted}
 use Rattle.run_text.proofs.counting.count_connection.Goals as goal
 
-pub count_history-requires-clause-numbered : goal.count_history-requires-clause-numbered
-count_history-requires-clause-numbered c =
-    are-numbered (under c.args.calls.now) (behind c.args.calls.now) c.is_connection.ensures.is_course.legal.prefix
-
-pub count_history-requires-clause-few : goal.count_history-requires-clause-few
-count_history-requires-clause-few c =
-    can-first (flat_map (counted (taken (behind c.args.calls.now))) c.args.calls.now.happenings)
-    (map (standing_counted (taken (behind c.args.calls.now))) c.args.calls.now.chain.row) c.args.totals.now c.requires.few
-
-pub count_standing-requires-clause-numbered : goal.count_standing-requires-clause-numbered
-count_standing-requires-clause-numbered c =
-    are-numbered (under c.args.calls.now) (behind c.args.calls.now) c.is_connection.ensures.is_course.legal.prefix
-
-pub count_standing-requires-clause-few : goal.count_standing-requires-clause-few
-count_standing-requires-clause-few c =
-    can-then (flat_map (counted (taken (behind c.args.calls.now))) c.args.calls.now.happenings)
-    (map (standing_counted (taken (behind c.args.calls.now))) c.args.calls.now.chain.row) c.args.totals.now
-    c.count_history.new.totals c.requires.few c.in_ok-count_history.ensures
+pub count_lines-requires : goal.count_lines-requires
+count_lines-requires c =
+    let conn = c.args.calls.now in
+    let calls : List Taken = taken (behind conn) in
+    let long : length conn.chain.row ≡ length conn.chain.calls =
+    rows-long conn.chain.row conn.chain.calls c.is_connection.ensures.standing_chain.row in
+    let count : c.len-standing.result ≡ length conn.chain.calls =
+    c.len-standing.ensures.count ∙ ap length (c.calls.ensures ∙ ap (λ (ch : ChainParts). ch.calls) c.chain.ensures) in
+    let told = few-counted calls conn.happenings in
+    let stands : length (map (standing_counted calls) conn.chain.row) ≡ length conn.chain.row =
+    length-map conn.chain.row (standing_counted calls) in
+    let both = length-append (flat_map (counted calls) conn.happenings) (map (standing_counted calls) conn.chain.row) in
+    record {
+      few = record {
+        happened = [];
+        so_far = subst (HaveCounted []) (sym c.new-totals.ensures) none-counted;
+        few = omega (arith, both, told, stands, long, count, c.len-standing.ensures.few, c.requires);
+      };
+    }
 
 pub returns : goal.returns
-returns c = λ happened so.
-    let told : List Counted = flat_map (counted (taken (behind c.args.calls.now))) c.args.calls.now.happenings in
-    let stands : List Counted = map (standing_counted (taken (behind c.args.calls.now))) c.args.calls.now.chain.row in
-    on_ok_weaker c.count_standing.result
-    (λ more. subst (λ (h : List Counted). HaveCounted h c.count_standing.new.totals) (append_assoc happened told stands) more)
-    (c.count_standing.ensures (happened ++ told) (c.in_ok-count_history.ensures happened so))
+returns c = c.in_ok-count_lines.ensures [] (subst (HaveCounted []) (sym c.new-totals.ensures) none-counted)

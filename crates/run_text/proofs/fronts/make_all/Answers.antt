@@ -1,6 +1,6 @@
 use Rattle.std.proofs.Common.{◌≡◌, ◌<◌, length, map, subst, arith}
 use Rattle.std.proofs.lemmas.List.{length-map}
-use Rattle.run_text.specs.Fronts.{front_text}
+use Rattle.run_text.specs.Fronts.{making_by}
 use denote.Param.Send.{sendable}
 use Rattle.std.proofs.alloc.Global.TheSendSync as global
 use Rattle.run_text.proofs.Sharing.{source-sync}
@@ -10,9 +10,9 @@ use Rattle.run_text.proofs.fronts.make_all.Goals as goal
 pub returns : goal.returns
 returns g c =
     let sources = c.args.sources.now in
-    let all : length (map front_text sources) ≡ length sources = length-map sources front_text in
-    let len : length c.in_ok-made.made.items ≡ length (map front_text sources) = omega (arith, c.in_ok-made.made.ok, c.in_ok-made.ensures.len, all) in
-    made-places (map front_text sources) c.in_ok-made.made.items len
+    let all : length (map making_by sources) ≡ length sources = length-map sources making_by in
+    let len : length c.in_ok-made.made.items ≡ length (map making_by sources) = omega (arith, c.in_ok-made.made.ok, c.in_ok-made.ensures.len, all) in
+    made-places (map making_by sources) c.in_ok-made.made.items len
     (λ k d e less. (c.in_ok-made.ensures.each k e (subst (λ n. k < n) all less)).1.met d)
 
 pub map_indices-requires-sync-F : goal.map_indices-requires-sync-F

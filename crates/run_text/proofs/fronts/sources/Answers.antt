@@ -2,7 +2,7 @@ use Rattle.std.proofs.Common.{◌≡◌, ◌+◌, ◌++◌, All, [], ◌∷◌, 
 use Rattle.std.proofs.lemmas.List.{map-append}
 use Rattle.std.proofs.lemmas.List.Elements.{All-append}
 use Rattle.std.proofs.Math.Seq.{take-suc}
-use Rattle.run_text.specs.Fronts.{CanMake, front_of, front_text}
+use Rattle.run_text.specs.Fronts.{CanMake, making_of, making_by}
 use Rattle.run_text.specs.declared.shown.Shown.{Shown}
 use Rattle.run_text.proofs.Making.{all-one}
 use Rattle.run_text.proofs.fronts.sources.Goals as goal
@@ -19,11 +19,11 @@ loop-one-preserved c =
     let next : take i shown ++ one ∷ [] ≡ take (i + 1) shown =
     ap (λ (x : Shown). take i shown ++ x ∷ []) c.one-item.is
     ∙ sym (take-suc shown i one c.loop-one-test.true) ∙ ap (λ n. take n shown) place in
-    let texts : map front_text (before ++ source ∷ []) ≡ map front_of (take (i + 1) shown) =
-    map-append front_text before (source ∷ []) ∙ ap (λ l. l ++ front_text source ∷ []) so.0
-    ∙ ap (λ t. map front_of (take i shown) ++ t ∷ []) c.source_of.ensures.text
-    ∙ sym (map-append front_of (take i shown) (one ∷ [])) ∙ ap (map front_of) next in
+    let texts : map making_by (before ++ source ∷ []) ≡ map making_of (take (i + 1) shown) =
+    map-append making_by before (source ∷ []) ∙ ap (λ l. l ++ making_by source ∷ []) so.0
+    ∙ ap (λ t. map making_of (take i shown) ++ t ∷ []) c.source_of.ensures.same
+    ∙ sym (map-append making_of (take i shown) (one ∷ [])) ∙ ap (map making_of) next in
     let can : All CanMake (before ++ source ∷ []) = All-append CanMake before (source ∷ []) so.1
     (all-one CanMake source c.source_of.ensures.can) in
-    subst (λ items. (map front_text items ≡ map front_of (take (i + 1) shown)) × All CanMake items)
+    subst (λ items. (map making_by items ≡ map making_of (take (i + 1) shown)) × All CanMake items)
     (sym c.in_ok-push.ensures.items) (texts, can)

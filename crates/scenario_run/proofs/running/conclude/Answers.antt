@@ -22,9 +22,9 @@ pub returns-clause-told : goal.returns-clause-told
 returns-clause-told g c =
     told-run g.F.L.Link c.args.plan.now c.args.served.conns.items c.as_slice.result.now c.as_slice-2.result.now
     (record {
-      text = c.in_ok-text.field-0.text;
-      totals = c.in_ok-text.field-0.totals;
+      parts = c.in_ok-parts.field-0.parts;
+      totals = c.in_ok-parts.field-0.totals;
       failed = c.has_failed-failed.result;
     })
     c.as_slice.ensures.value c.as_slice-2.ensures.value c.requires.told c.has_failed-failed.ensures.one
-    c.has_failed-failed.ensures.none c.in_ok-text.ensures
+    c.has_failed-failed.ensures.none c.in_ok-parts.ensures

@@ -1,5 +1,5 @@
 use Rattle.std.proofs.Common.{◌≡◌, ◌-◌, length}
-use Rattle.service_loop.specs.Serving.{AreSame, IsServing}
+use Rattle.service_loop.specs.Serving.{AreSameSubmissions, IsServing}
 use Rattle.service_loop.specs.Within.{OnlySteps}
 use Rattle.service_loop.proofs.submissions.Submissions.apply_due.Given as goal
 
@@ -8,7 +8,7 @@ invariant-steps l = record {
   serving : IsServing l.self;
   closing : l.closing ≡ l.self.calls.closed;
   only : OnlySteps l.fn.self l.self;
-  same : AreSame l.fn.self l.self;
+  same : AreSameSubmissions l.fn.self l.self;
 }
 
 abbrev pub decreases-steps : goal.decreases-steps

@@ -26,7 +26,7 @@ returns-in-Done g c =
           (λ failed. (let wrong : drained.Done ≡ drained.Failed = sym is ∙ failed in cc))
           (c.drain-drained.ensures.done is) (c.drain-drained.ensures.settled is)
       | inr is ↦ ends-failed (c.drain-drained.result ≡ drained.Failed) c.args.self.now.conn c.drain-drained.new.self
-          (c.drain-drained.ensures.failed is).between unended is (c.drain-drained.ensures.failed is).begins
+          (c.drain-drained.ensures.failed is).between unended is (c.drain-drained.ensures.failed is).front
           (c.drain-drained.ensures.failed is).failed c.is_connection-2.ensures.is_course
     ] in
     record {
