@@ -6,10 +6,6 @@ use Rattle.std.specs.List.{AllByRecursion}
 abbrev pub Lacks : ℕ → List ℕ → Type 0
 Lacks c xs = AllByRecursion (λ b. b ≢ c) xs
 
-pub Lacks-append : (c : ℕ) (xs ys : List ℕ) → Lacks c xs → Lacks c ys → Lacks c (xs ++ ys)
-Lacks-append c [] ys h k = k
-Lacks-append c (x ∷ xs) ys h k = (h.0, Lacks-append c xs ys h.1 k)
-
 -- a list is cut in one way
 pub cut_once : (c : ℕ) (p q x y : List ℕ) → Lacks c p → Lacks c q → p ++ c ∷ x ≡ q ++ c ∷ y → (p ≡ q) × (x ≡ y)
 cut_once c [] [] x y h k e = (refl, cc)

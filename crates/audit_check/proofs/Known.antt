@@ -25,9 +25,6 @@ use Rattle.audit_check.specs.declared.connections.Connections.{Connections}
 
 -- ---- what is behind
 
-chosen : (conn : ℕ) (x : Happened) → Bool → Option Happening
-chosen conn x b = if b then Some x.what else None
-
 on-more : (conn : ℕ) (h : History) (x : Happened) → on conn (h ++ x ∷ []) ≡ on conn h ++ on conn (x ∷ [])
 on-more conn h x = filter_map-append (λ (x : Happened). if x.conn == conn then Some x.what else None) h (x ∷ [])
 

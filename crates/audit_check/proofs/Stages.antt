@@ -81,15 +81,3 @@ pub illegal_judged : (T : Table) (limit : ℕ) (h : History) (told : List Stands
 illegal_judged T limit h told i (inl b) = judged_broken b.before b.after b.next i.rule b.history b.prefixes b.breaks (ap (λ (line : ℕ). Illegal line i.rule) b.counted)
 illegal_judged T limit h told i (inr (inl o)) = open_end i.rule o.prefixes o.first (ap (λ (line : ℕ). Illegal line i.rule) o.counted)
 illegal_judged T limit h told i (inr (inr m)) = judged_misplaced m.front m.back m.next m.legal m.lines m.begin m.ends (λ j. Illegal (m.counted j) (m.rule j))
-
--- a happening behind one that broke a rule
-pub broken_more : (T : Table) (limit : ℕ) (h : History) (next : Happened) (i : Place) → IsBroken T limit h i → IsBroken T limit (h ++ next ∷ []) i
-broken_more T limit h next i b = record {
-  before = b.before;
-  after = b.after ++ next ∷ [];
-  next = b.next;
-  history = ap (λ (l : History). l ++ next ∷ []) b.history ∙ append_assoc b.before (b.next ∷ b.after) (next ∷ []);
-  prefixes = b.prefixes;
-  breaks = b.breaks;
-  counted = b.counted;
-}

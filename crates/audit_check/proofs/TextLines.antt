@@ -77,13 +77,6 @@ front_line text first rest other behind is ends e = at_end text first rest other
 pub some_byte : (first : List ℕ) → EndsLine first → 0 < length first
 some_byte first ends = omega (arith, ap length ends.1, length-append ends.0 (10 ∷ []))
 
-shorter_by : (text first rest : List ℕ) → text ≡ first ++ rest → EndsLine first ⊎ (All (λ c. c ≢ 10) first × (rest ≡ [])) → 0 < length text → length rest < length text
-shorter_by text first rest joined (inl here) some = omega (arith, ap length joined, length-append first rest, some_byte first here)
-shorter_by text first rest joined (inr none) some = omega (arith, ap length none.1, some)
-
-pub first_shorter : (text first rest : List ℕ) → IsFirstLine text first rest → 0 < length text → length rest < length text
-first_shorter text first rest is some = shorter_by text first rest is.joined is.ends some
-
 -- ---- texts
 
 pub line-long : (ws : List (List ℕ)) → 0 < length (line ws)
@@ -216,10 +209,6 @@ readable_line T declared (Stands conn seq position name holding) all h = tt
 pub if_some_at : {A : Type 0} (o : Option A) (x : A) (P : A → Type 0) → o ≡ Some x → IfSome o P → P x
 if_some_at None x P e h = absurd cc
 if_some_at (Some y) x P e h = let same : y ≡ x = cc in subst P same h
-
-pub none_of : {A : Type 0} (o : Option A) → ((x : A) → o ≡ Some x → ⊥) → o ≡ None
-none_of None h = refl
-none_of (Some x) h = absurd (h x refl)
 
 -- a text of few bytes has few lines
 pub few_lines : (T : Table) (declared : Declared) (limit : ℕ) (text rest : List ℕ) (p : Progress) → IsRead T declared limit text rest p → p.happenings + p.stands ≤ length text

@@ -15,8 +15,8 @@ use call_history::{Happened, Happening};
 use mrpc_table::{Memory, Name, Table};
 use std::alloc::Global;
 
-/// Judges what became of a call by the checker of its connection. It takes no memory.
-pub fn judge(checker: &mut Checker, table: &Table, what: Brief<'_>) -> Option<Rule>
+// Judges what became of a call by the checker of its connection. It takes no memory.
+pub(crate) fn judge(checker: &mut Checker, table: &Table, what: Brief<'_>) -> Option<Rule>
     requires valid { IsValid table.now }
     requires knowing { IsKnowing table.now checker.old }
     ensures may { (past : Behind) → Knows table.now past checker.old
@@ -40,9 +40,9 @@ pub fn judge(checker: &mut Checker, table: &Table, what: Brief<'_>) -> Option<Ru
     }
 }
 
-/// The happening that a line tells, with a name of its own.
+// The happening that a line tells, with a name of its own.
 #[inline(never)]
-pub fn happened(alloc: Global, next: BriefLine<'_>) -> Result<Happened, Memory>
+pub(crate) fn happened(alloc: Global, next: BriefLine<'_>) -> Result<Happened, Memory>
     ensures { IfOk result (λ h. h ≡ told_in next.entry) }
 {
     let conn = next.conn;

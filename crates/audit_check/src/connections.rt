@@ -22,22 +22,22 @@ use mrpc_table::{Memory, Table};
 use std::alloc::Global;
 use std::collections::BTreeMap;
 
-/// The connections with a number below this have a place of their own each.
-pub const NEAR: u32 = 17;
+// The connections with a number below this have a place of their own each.
+pub(crate) const NEAR: u32 = 17;
 
-/// The checkers of connections, under one limit of loads.
+// The checkers of connections, under one limit of loads.
 #[derive(Drop)]
-pub struct Connections {
+pub(crate) struct Connections {
     pub limit: u64,
-    /// Those of the lowest numbers, by number, whether something has happened there or not.
+    // Those of the lowest numbers, by number, whether something has happened there or not.
     pub near: Vec<Checker>,
-    /// Those of the others, as soon as something has happened there.
+    // Those of the others, as soon as something has happened there.
     pub far: BTreeMap<u32, Checker>,
 }
 
 impl Connections {
-    /// On no connection has anything happened yet.
-    pub fn new(alloc: Global, limit: u64) -> Result<Connections, Memory>
+    // On no connection has anything happened yet.
+    pub(crate) fn new(alloc: Global, limit: u64) -> Result<Connections, Memory>
         ensures knows { IfOk result (λ c. (T : Table) → KnowsAll T [] c) }
         ensures limit { IfOk result (λ c. c.limit ≡ limit) }
     {
@@ -50,9 +50,9 @@ impl Connections {
         Ok(Connections { limit, near, far })
     }
 
-    /// Judges the next happening on its connection: the first rule that it breaks, if it breaks one. `Memory` comes only
-    /// where it is the first one there and no memory was found for its checker.
-    pub fn check(
+    // Judges the next happening on its connection: the first rule that it breaks, if it breaks one. `Memory` comes only
+    // where it is the first one there and no memory was found for its checker.
+    pub(crate) fn check(
         &mut self,
         alloc: Global,
         table: &Table,
@@ -76,8 +76,8 @@ impl Connections {
         self.check_far(alloc, table, next)
     }
 
-    /// The same for what became of a call, as its line tells it.
-    pub fn check_brief(
+    // The same for what became of a call, as its line tells it.
+    pub(crate) fn check_brief(
         &mut self,
         alloc: Global,
         table: &Table,
@@ -154,8 +154,8 @@ impl Connections {
         Ok(rule)
     }
 
-    /// All of them, by the numbers of their connections.
-    pub fn gather(self) -> Result<BTreeMap<u32, Checker>, Memory>
+    // All of them, by the numbers of their connections.
+    pub(crate) fn gather(self) -> Result<BTreeMap<u32, Checker>, Memory>
         requires { length self.near.items ≤ NEAR }
         ensures { IfOk result (λ all. (conn : ℕ) → get nat_cmp all conn ≡ checker_of self conn) }
     {
@@ -179,9 +179,9 @@ fn put(all: &mut BTreeMap<u32, Checker>, conn: u32, checker: Checker) -> Result<
     Ok(())
 }
 
-/// The first of the rules for which something is left open on any connection, if something is.
+// The first of the rules for which something is left open on any connection, if something is.
 #[inline(never)]
-pub fn left_open(checkers: &BTreeMap<u32, Checker>) -> Option<Rule>
+pub(crate) fn left_open(checkers: &BTreeMap<u32, Checker>) -> Option<Rule>
     ensures settled { (T : Table) (limit : ℕ) (h : History) → KnowsEach T limit h checkers.now
         → IfNone result ((conn : ℕ) → IsSettledUp (behind conn h)) }
     ensures open { (T : Table) (limit : ℕ) (h : History) → KnowsEach T limit h checkers.now

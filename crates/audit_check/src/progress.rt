@@ -17,17 +17,17 @@ use audit_text::{AuditFault, AuditLine, BriefLine};
 use mrpc_table::{Memory, Table};
 use std::alloc::Global;
 
-/// How many lines of each sort were read, and how they are judged.
+// How many lines of each sort were read, and how they are judged.
 #[derive(Drop)]
-pub struct Progress {
+pub(crate) struct Progress {
     pub happenings: u64,
     pub stands: u64,
     pub stage: Stage,
 }
 
 impl Progress {
-    /// No line yet.
-    pub fn new(alloc: Global, limit: u64) -> Result<Progress, Memory>
+    // No line yet.
+    pub(crate) fn new(alloc: Global, limit: u64) -> Result<Progress, Memory>
         ensures { IfOk result (λ p. (T : Table) → IsProgress T limit [] [] p) }
     {
         Ok(Progress {
@@ -37,16 +37,21 @@ impl Progress {
         })
     }
 
-    /// The number of the next line, from 1.
-    pub fn next_line(&self) -> u64
+    // The number of the next line, from 1.
+    pub(crate) fn next_line(&self) -> u64
         requires { self.now.happenings + self.now.stands + 1 < 2 ^ 64 }
         ensures { result ≡ self.now.happenings + self.now.stands + 1 }
     {
         self.happenings + self.stands + 1
     }
 
-    /// Takes the next line. `Bad` comes exactly where it is that of a happening behind one of a call that stands.
-    pub fn take(&mut self, alloc: Global, table: &Table, line: AuditLine) -> Result<(), AuditFault>
+    // Takes the next line. `Bad` comes exactly where it is that of a happening behind one of a call that stands.
+    pub(crate) fn take(
+        &mut self,
+        alloc: Global,
+        table: &Table,
+        line: AuditLine,
+    ) -> Result<(), AuditFault>
         requires valid { IsValid table.now }
         requires readable { IsReadableLine table.now line }
         requires few { self.old.happenings + self.old.stands + 3 < 2 ^ 32 }
@@ -85,8 +90,8 @@ impl Progress {
         }
     }
 
-    /// The same for a line that tells what became of a call.
-    pub fn note(
+    // The same for a line that tells what became of a call.
+    pub(crate) fn note(
         &mut self,
         alloc: Global,
         table: &Table,
@@ -108,8 +113,8 @@ impl Progress {
         Ok(())
     }
 
-    /// What is answered of a text that ends here.
-    pub fn end(self) -> Result<Checked, Memory>
+    // What is answered of a text that ends here.
+    pub(crate) fn end(self) -> Result<Checked, Memory>
         requires few { self.happenings + self.stands + 1 < 2 ^ 64 }
         requires familiar { (T : Table) × IsFamiliar T self }
         ensures { (T : Table) (limit : ℕ) (h : History) (told : List StandsLine) → IsProgress T limit h told self

@@ -13,9 +13,9 @@ use audit_text::Holding;
 use mrpc_table::{Name, Table};
 use std::collections::BTreeMap;
 
-/// A call that stands, as a line tells it.
+// A call that stands, as a line tells it.
 #[derive(Drop)]
-pub struct Told {
+pub(crate) struct Told {
     pub conn: u32,
     pub seq: u32,
     pub position: u32,
@@ -23,25 +23,25 @@ pub struct Told {
     pub holding: Option<Holding>,
 }
 
-/// A connection, with what its checker knows.
+// A connection, with what its checker knows.
 #[derive(Drop)]
-pub struct Turn {
+pub(crate) struct Turn {
     pub conn: u32,
     pub checker: Checker,
 }
 
-/// The connections of whose calls that stand some are still to be told, in order.
+// The connections of whose calls that stand some are still to be told, in order.
 #[derive(Drop)]
-pub struct Row {
-    /// The connection whose calls are told, if it has begun.
+pub(crate) struct Row {
+    // The connection whose calls are told, if it has begun.
     pub current: Option<Turn>,
-    /// Those behind it.
+    // Those behind it.
     pub rest: BTreeMap<u32, Checker>,
 }
 
 impl Row {
-    /// No call is told yet.
-    pub fn new(checkers: BTreeMap<u32, Checker>) -> Row
+    // No call is told yet.
+    pub(crate) fn new(checkers: BTreeMap<u32, Checker>) -> Row
         ensures { (T : Table) (limit : ℕ) (h : History) → KnowsEach T limit h checkers → ArePrefixes T limit h
             → ((conn : ℕ) → IsSettledUp (behind conn h)) → IsRow T limit h [] result }
     {
@@ -68,8 +68,8 @@ impl Row {
         Row { current, rest }
     }
 
-    /// A line tells the next call that stands; none comes exactly where it can't.
-    pub fn tell(self, table: &Table, told: Told) -> Option<Row>
+    // A line tells the next call that stands; none comes exactly where it can't.
+    pub(crate) fn tell(self, table: &Table, told: Told) -> Option<Row>
         requires valid { IsValid table.now }
         requires known { (limit : ℕ) × (h : History) × (before : List StandsLine) × IsRow table.now limit h before self }
         ensures tells { (limit : ℕ) (h : History) (before : List StandsLine) → IsRow table.now limit h before self
@@ -96,8 +96,8 @@ impl Row {
         })
     }
 
-    /// Whether all calls that stand are told.
-    pub fn is_whole(self) -> bool
+    // Whether all calls that stand are told.
+    pub(crate) fn is_whole(self) -> bool
         ensures { (T : Table) (limit : ℕ) (h : History) (told : List StandsLine) → IsRow T limit h told self
             → IsTrue result ↔ AreWhole T limit h told }
     {

@@ -22,27 +22,27 @@ use mrpc_table::{Memory, Table};
 use std::alloc::Global;
 use std::mem::replace;
 
-/// How the lines that were read are judged.
+// How the lines that were read are judged.
 #[derive(Drop)]
-pub enum Stage {
-    /// All happenings came as the rules say, and no line of a call that stands was read.
+pub(crate) enum Stage {
+    // All happenings came as the rules say, and no line of a call that stands was read.
     Happening(Connections),
-    /// The history is legal, and the lines behind it may begin to tell the calls that stand.
+    // The history is legal, and the lines behind it may begin to tell the calls that stand.
     Standing(Row),
-    /// They are illegal.
+    // They are illegal.
     Illegal(Illegal),
 }
 
-/// The first line, counted from 1, through which a text is illegal, and the first rule that is broken there.
+// The first line, counted from 1, through which a text is illegal, and the first rule that is broken there.
 #[derive(Clone, Copy)]
-pub struct Illegal {
+pub(crate) struct Illegal {
     pub line: u64,
     pub rule: Rule,
 }
 
 impl Stage {
-    /// A happening comes, on a line. It is judged in place: what the checkers know stays where it is.
-    pub fn happen(
+    // A happening comes, on a line. It is judged in place: what the checkers know stays where it is.
+    pub(crate) fn happen(
         &mut self,
         alloc: Global,
         table: &Table,
@@ -68,8 +68,8 @@ impl Stage {
         }
     }
 
-    /// The same for what became of a call, as its line tells it.
-    pub fn note(
+    // The same for what became of a call, as its line tells it.
+    pub(crate) fn note(
         &mut self,
         alloc: Global,
         table: &Table,
@@ -117,9 +117,9 @@ impl Stage {
         }
     }
 
-    /// A line of a call that stands comes. Until it is told, it is one that can't stand.
+    // A line of a call that stands comes. Until it is told, it is one that can't stand.
     #[inline(never)]
-    pub fn stand(&mut self, table: &Table, told: Told, line: u64) -> Result<(), Memory>
+    pub(crate) fn stand(&mut self, table: &Table, told: Told, line: u64) -> Result<(), Memory>
         requires valid { IsValid table.now }
         requires known { (limit : ℕ) × (h : History) × (before : List StandsLine)
             × IsStage table.now limit h before self.old × (line ≡ length h + length before + 1) }
@@ -154,8 +154,8 @@ impl Stage {
         }
     }
 
-    /// The text ends behind so many happenings and so many lines of calls that stand.
-    pub fn end(self, happenings: u64, stands: u64) -> Result<Checked, Memory>
+    // The text ends behind so many happenings and so many lines of calls that stand.
+    pub(crate) fn end(self, happenings: u64, stands: u64) -> Result<Checked, Memory>
         requires few { happenings + stands + 1 < 2 ^ 64 }
         requires known { (T : Table) × (limit : ℕ) × (h : History) × (told : List StandsLine)
             × IsStage T limit h told self }

@@ -49,13 +49,13 @@ struct Items<'a> {
 // Why the items of a text weren't read up to a line `audit`.
 #[derive(Clone, Copy)]
 enum Stop {
-    /// A line is at fault, counted from 1 at the front of the bytes that are left.
+    // A line is at fault, counted from 1 at the front of the bytes that are left.
     At {
         left: usize,
         line: u64,
         reason: ScriptReason,
     },
-    /// No memory was found.
+    // No memory was found.
     Memory,
 }
 

@@ -149,18 +149,6 @@ stands-reads T declared conn ws tail (Ok (Some x)) small is h = let said = stand
 stands-reads T declared conn ws tail (Ok None) small is h = λ x holds e. stands-lost T declared conn tail small (sym h) x holds (sym is ∙ e)
 stands-reads T declared conn ws tail (Err e) small is h = tt
 
--- the first word is that of no kind
-pub no-kind : (T : Table) (declared : Declared) (ws tail : Words) (word : List ℕ) (conn : ℕ) → conn < 2 ^ 32
-    → ws ≡ word ∷ decimal conn ∷ tail → bytes_eq word (codes "stands") ≡ false → kind_said word ≡ None
-    → (x : AuditLine) → IsLine T declared x → ws ≡ line_words T x → ⊥
-no-kind T declared ws tail word conn small is other none (lines.Happened x) h e =
-    let same = parts-same word (kind_word (kind_of x.what)) conn x.conn tail (tail_words T x.what) small h.conn (sym is ∙ e ∙ told-words T x.conn x.what) in
-    not-some (kind_of x.what) (sym (kind-read (kind_of x.what)) ∙ ap kind_said (sym same.0) ∙ none)
-no-kind T declared ws tail word conn small is other none (lines.Stands c seq position name holding) h e =
-    let same = parts-same word (codes "stands") conn c tail (decimal seq ∷ decimal position ∷ name ∷ held_words holding) small h.conn (sym is ∙ e) in
-    let yes : bytes_eq word (codes "stands") ≡ true = (bytes_eq-Decides word (codes "stands")).1 same.0 in
-    let wrong : true ≡ false = sym yes ∙ other in cc
-
 -- what stands behind the connection says no happening of the kind
 pub no-what : (T : Table) (declared : Declared) (ws tail : Words) (word : List ℕ) (conn : ℕ) (kind : Kind)
     → conn < 2 ^ 32 → ws ≡ word ∷ decimal conn ∷ tail → bytes_eq word (codes "stands") ≡ false

@@ -25,7 +25,7 @@ use wire_encode::{Output, encode_into};
 // How many bytes of a copy are read into a row at hand. For more, memory is taken.
 const ROOM: usize = 128;
 
-/// The numbers of an accepted call, as its line has them before the copy.
+// The numbers of an accepted call, as its line has them before the copy.
 #[derive(Clone, Copy)]
 pub(crate) struct CallNumbers {
     pub seq: u32,
@@ -248,7 +248,7 @@ fn copy(
     }
 }
 
-/// An accepted call.
+// An accepted call.
 pub(crate) fn taken(
     alloc: Global,
     out: &mut Output,

@@ -8,7 +8,7 @@ ghost use Rattle.audit_text.specs.Writable.{HasNameForm};
 use crate::word::{behind_byte, front_number, is_word};
 use mrpc_table::is_name_form;
 
-/// What stands behind some bytes with which a text begins.
+// What stands behind some bytes with which a text begins.
 #[inline(always)]
 pub(crate) fn behind<'a>(text: &'a [u8], front: &[u8]) -> Option<&'a [u8]>
     ensures { IfSome result (λ rest. text.now ≡ front.now ++ rest.now) }
@@ -20,7 +20,7 @@ pub(crate) fn behind<'a>(text: &'a [u8], front: &[u8]) -> Option<&'a [u8]>
     Some(&text[len..])
 }
 
-/// A number of 64 bits with a byte behind it, and what stands behind that.
+// A number of 64 bits with a byte behind it, and what stands behind that.
 #[inline(always)]
 pub(crate) fn front64(text: &[u8], byte: u8) -> Option<(u64, &[u8])>
     ensures { IfSome result (λ r. (r.0 < 2 ^ 64) × (text.now ≡ decimal r.0 ++ byte ∷ r.1.now)) }
@@ -30,7 +30,7 @@ pub(crate) fn front64(text: &[u8], byte: u8) -> Option<(u64, &[u8])>
     Some((number, rest))
 }
 
-/// A number of 32 bits with a byte behind it, and what stands behind that.
+// A number of 32 bits with a byte behind it, and what stands behind that.
 #[inline(always)]
 pub(crate) fn front32(text: &[u8], byte: u8) -> Option<(u32, &[u8])>
     ensures { IfSome result (λ r. (r.0 < 2 ^ 32) × (text.now ≡ decimal r.0 ++ byte ∷ r.1.now)) }
@@ -54,7 +54,7 @@ fn front_word(text: &[u8]) -> (&[u8], &[u8])
     (&text[..count], &text[count..])
 }
 
-/// A name with a byte behind it, and what stands behind that.
+// A name with a byte behind it, and what stands behind that.
 #[inline(always)]
 pub(crate) fn front_name(text: &[u8], byte: u8) -> Option<(&[u8], &[u8])>
     ensures { IfSome result (λ r. HasNameForm r.0.now × (text.now ≡ r.0.now ++ byte ∷ r.1.now)) }

@@ -67,8 +67,8 @@ fn read_digits(row: &mut [u8], word: &[u8]) -> Option<usize>
     if left.is_empty() { Some(count) } else { None }
 }
 
-/// Puts the bytes that a word spells at the front of a row, and says how many they are: none where the word is `-`. `None`
-/// comes where it spells no bytes.
+// Puts the bytes that a word spells at the front of a row, and says how many they are: none where the word is `-`. `None`
+// comes where it spells no bytes.
 pub(crate) fn read_bytes(row: &mut [u8], word: &[u8]) -> Option<usize>
     requires { length word.now ≤ 2 * length row.old }
     ensures { MatchOption result ((bytes : List ℕ) → IsBytes bytes → word.now ≡ hex_word bytes → ⊥)

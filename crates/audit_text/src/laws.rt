@@ -1,12 +1,8 @@
 //! Laws of the audit text. These functions do nothing; their clauses hold.
 
-ghost use Rattle.std.specs.Prelude.{◌≡◌, ◌≢◌, ◌<◌, ◌^◌, ◌++◌, ◌∷◌, ℕ, List, [], All, Option, length};
-ghost use Rattle.hex.specs.Hex.{IsBytes};
-ghost use Rattle.mrpc_table.specs.Node.{Node};
-ghost use Rattle.mrpc_table.specs.Normal.{IsNormal};
+ghost use Rattle.std.specs.Prelude.{◌≡◌, ◌≢◌, ◌++◌, ℕ, List, All, Option};
 ghost use Rattle.mrpc_table.specs.Valid.{IsValid};
 ghost use Rattle.mrpc_table.specs.declared.table.Table.{Table};
-ghost use Rattle.wire_base.specs.Encoding.{encoding};
 ghost use Rattle.call_history.specs.Legal.{History};
 ghost use Rattle.call_history.specs.declared.happening.Happened.{Happened};
 ghost use Rattle.policy_blocks.specs.Declarations.{Declared};
@@ -57,10 +53,4 @@ pub fn a_line_is_cut_into_its_words()
         → IsCutInto (happening_words T x.conn x.what) }
     ensures stands { (conn seq position : ℕ) (name : List ℕ) (holding : Option Holding)
         → IsStanding conn seq position name holding → IsCutInto (standing_words conn seq position name holding) }
-{}
-
-/// The encoding of a normal tree, whose length fits 64 bits, has bytes alone. So hexadecimal digits tell it.
-pub fn an_encoding_is_bytes()
-    ensures { (T : Table) (msg : ℕ) (t : Node) → IsValid T → IsNormal T msg t → length (encoding T msg t) < 2 ^ 64
-        → IsBytes (encoding T msg t) }
 {}

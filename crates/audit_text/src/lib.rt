@@ -32,7 +32,7 @@ mod writing;
 pub use holding::Holding;
 pub use laws::{
     a_line_is_cut_into_its_words, a_stands_line_tells_one_call, a_text_has_one_bad_line,
-    a_text_has_one_history, an_encoding_is_bytes,
+    a_text_has_one_history,
 };
 pub use line::{AuditLine, read_line};
 pub use reading::{AuditFault, read_audit};

@@ -5,7 +5,7 @@ ghost use Rattle.std.specs.Fmt.{decimal};
 ghost use Rattle.mrpc_table.specs.Text.{line};
 ghost use Rattle.mrpc_table.specs.Valid.{IsValid};
 ghost use Rattle.audit_text.specs.Lines.{audit_line, cause_words, FitsTable};
-ghost use Rattle.call_history.specs.Records.{cause_of, name_in, rule_in, step_at, told_by, HasRule, IsNamed, IsRuleOf};
+ghost use Rattle.call_history.specs.Records.{cause_told_by, name_in, rule_in, step_at, told_by, HasRule, IsNamed, IsRuleOf};
 ghost use Rattle.call_history.specs.Events.{rule_of};
 ghost use Rattle.call_history.specs.declared.happening.Happening.{Happening};
 ghost use Rattle.call_history.specs.declared.record.Record.TheVariants.{Refused};
@@ -121,7 +121,7 @@ fn append_kept_refusal(
 ) -> Result<(), Memory>
     requires { IsNamed history.now.steps (Refused seq by) }
     ensures { OnOk result (out.new ≡ out.old
-        ++ line (codes "refused" ∷ decimal conn ∷ decimal seq ∷ cause_words (cause_of history.now.steps by))) }
+        ++ line (codes "refused" ∷ decimal conn ∷ decimal seq ∷ cause_words (cause_told_by history.now.steps by))) }
 {
     begin(out, b"refused", &[u64::from(conn), u64::from(seq)])?;
     match by {

@@ -100,7 +100,7 @@ fn upgrade(alloc: Global, rest: Rest<'_>, declared: &Declarations) -> Result<Opt
     }))
 }
 
-/// What an operator did.
+// What an operator did.
 #[tactic(auto, unfolding(crate::specs::Said::step_said))]
 pub(crate) fn step(
     alloc: Global,

@@ -10,7 +10,7 @@ use call_history::{Cause, Happening};
 use mrpc_table::{Memory, Name};
 use std::alloc::Global;
 
-/// What the first word of a line says that it tells.
+// What the first word of a line says that it tells.
 #[derive(Clone, Copy)]
 pub(crate) enum Kind {
     Took,
@@ -26,7 +26,7 @@ pub(crate) enum Kind {
 }
 
 impl Kind {
-    /// The kind that a word names. (Those that most lines are of come first.)
+    // The kind that a word names. (Those that most lines are of come first.)
     pub(crate) fn of_word(word: &[u8]) -> Option<Kind>
         ensures { result ≡ kind_said word.now }
     {
@@ -56,7 +56,7 @@ impl Kind {
     }
 }
 
-/// `METHOD NUMBER ADDR`
+// `METHOD NUMBER ADDR`
 #[tactic(auto, unfolding(crate::specs::Said::away_said))]
 pub(crate) fn away(rest: Rest<'_>) -> Option<Happening>
     ensures { result ≡ away_said (words_in rest.entry) }
@@ -71,7 +71,7 @@ pub(crate) fn away(rest: Rest<'_>) -> Option<Happening>
     })
 }
 
-/// `MS`
+// `MS`
 #[tactic(auto, unfolding(crate::specs::Said::moment_said))]
 pub(crate) fn moment(rest: Rest<'_>) -> Option<Happening>
     ensures { result ≡ moment_said (words_in rest.entry) }
@@ -80,7 +80,7 @@ pub(crate) fn moment(rest: Rest<'_>) -> Option<Happening>
     Some(Happening::Moment { ms })
 }
 
-/// `SEQ BYTES`
+// `SEQ BYTES`
 #[tactic(auto, unfolding(crate::specs::Said::sent_said))]
 pub(crate) fn sent(rest: Rest<'_>) -> Option<Happening>
     ensures { result ≡ sent_said (words_in rest.entry) }
@@ -100,7 +100,7 @@ pub(crate) fn noted(rest: Rest<'_>) -> Option<(u32, &[u8], Rest<'_>)>
     Some((seq, name, rest))
 }
 
-/// `SEQ NAME LEVEL`
+// `SEQ NAME LEVEL`
 #[tactic(auto, unfolding(crate::specs::Said::charged_said))]
 pub(crate) fn charged(alloc: Global, rest: Rest<'_>) -> Result<Option<Happening>, Memory>
     ensures { IfOk result (λ x. x ≡ charged_said (words_in rest.entry)) }
@@ -115,7 +115,7 @@ pub(crate) fn charged(alloc: Global, rest: Rest<'_>) -> Result<Option<Happening>
     Ok(Some(Happening::Charged { seq, name, level }))
 }
 
-/// `SEQ NAME WINDOW TICKET`
+// `SEQ NAME WINDOW TICKET`
 #[tactic(auto, unfolding(crate::specs::Said::drawn_said))]
 pub(crate) fn drawn(alloc: Global, rest: Rest<'_>) -> Result<Option<Happening>, Memory>
     ensures { IfOk result (λ x. x ≡ drawn_said (words_in rest.entry)) }
@@ -138,7 +138,7 @@ pub(crate) fn drawn(alloc: Global, rest: Rest<'_>) -> Result<Option<Happening>, 
     }))
 }
 
-/// `SEQ NAME`
+// `SEQ NAME`
 #[tactic(auto, unfolding(crate::specs::Said::counted_said))]
 pub(crate) fn counted(alloc: Global, rest: Rest<'_>) -> Result<Option<Happening>, Memory>
     ensures { IfOk result (λ x. x ≡ counted_said (words_in rest.entry)) }
@@ -153,7 +153,7 @@ pub(crate) fn counted(alloc: Global, rest: Rest<'_>) -> Result<Option<Happening>
     Ok(Some(Happening::Counted { seq, name }))
 }
 
-/// `SEQ NAME VERSION`
+// `SEQ NAME VERSION`
 #[tactic(auto, unfolding(crate::specs::Said::redacted_said))]
 pub(crate) fn redacted(alloc: Global, rest: Rest<'_>) -> Result<Option<Happening>, Memory>
     ensures { IfOk result (λ x. x ≡ redacted_said (words_in rest.entry)) }
@@ -252,7 +252,7 @@ fn cause(alloc: Global, rest: Rest<'_>) -> Result<Option<Cause>, Memory>
     }
 }
 
-/// `SEQ CAUSE`
+// `SEQ CAUSE`
 #[tactic(auto, unfolding(crate::specs::Said::refused_said))]
 pub(crate) fn refused(alloc: Global, rest: Rest<'_>) -> Result<Option<Happening>, Memory>
     ensures { IfOk result (λ x. x ≡ refused_said (words_in rest.entry)) }

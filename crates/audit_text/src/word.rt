@@ -10,11 +10,11 @@ ghost use Rattle.audit_text.specs.Reading.{end_said, first_said, last_said, name
 
 use mrpc_table::{Decimal, cut, is_name_form, number_of};
 
-/// What is left of a line behind some of its words: the words behind a space, or nothing.
+// What is left of a line behind some of its words: the words behind a space, or nothing.
 pub(crate) type Rest<'a> = Option<&'a [u8]>;
 
-/// Whether a word is this one. (Words of lines are short, and most differ in their length or in their first byte, so that
-/// they are compared byte by byte: `is_word` of `mrpc_table` looks at many bytes at once, as serves longer ones.)
+// Whether a word is this one. (Words of lines are short, and most differ in their length or in their first byte, so that
+// they are compared byte by byte: `is_word` of `mrpc_table` looks at many bytes at once, as serves longer ones.)
 #[inline(always)]
 pub(crate) fn is_word(word: &[u8], expected: &[u8]) -> bool
     ensures { result ≡ bytes_eq word.now expected.now }
@@ -32,7 +32,7 @@ pub(crate) fn is_word(word: &[u8], expected: &[u8]) -> bool
     true
 }
 
-/// The first word, and what is left behind it.
+// The first word, and what is left behind it.
 pub(crate) fn next(rest: Rest<'_>) -> Option<(&[u8], Rest<'_>)>
     ensures { option_map (λ p. (p.0.now, words_in p.1)) result ≡ first_said (words_in rest.entry) }
 {
@@ -43,7 +43,7 @@ pub(crate) fn next(rest: Rest<'_>) -> Option<(&[u8], Rest<'_>)>
     }
 }
 
-/// Nothing is left.
+// Nothing is left.
 pub(crate) fn end(rest: Rest<'_>) -> Option<()>
     ensures { result ≡ end_said (words_in rest.entry) }
 {
@@ -71,8 +71,8 @@ fn is_number(digits: &[u8]) -> bool
     }
 }
 
-/// The number that the first digits of a text spell, at most 19 of them, and what stands behind these; none where they
-/// are no number.
+// The number that the first digits of a text spell, at most 19 of them, and what stands behind these; none where they
+// are no number.
 #[inline(always)]
 pub(crate) fn front_number(text: &[u8]) -> Option<(u64, &[u8])>
     ensures { IfSome result (λ r. IsNumberBefore text.now r.0 r.1.now) }
@@ -90,7 +90,7 @@ pub(crate) fn front_number(text: &[u8]) -> Option<(u64, &[u8])>
     Some((number, &text[count..]))
 }
 
-/// What stands behind a byte with which a text begins.
+// What stands behind a byte with which a text begins.
 #[inline(always)]
 pub(crate) fn behind_byte(text: &[u8], byte: u8) -> Option<&[u8]>
     ensures { IfSome result (λ r. text.now ≡ byte ∷ r.now) }
@@ -127,7 +127,7 @@ fn any_number(rest: Rest<'_>) -> Option<(u64, Rest<'_>)>
     }
 }
 
-/// A number of 64 bits. (Most words of an audit are short numbers, whose digits are looked at once.)
+// A number of 64 bits. (Most words of an audit are short numbers, whose digits are looked at once.)
 #[inline(always)]
 #[tactic(auto, unfolding(crate::specs::Reading::number_said))]
 pub(crate) fn number64(rest: Rest<'_>) -> Option<(u64, Rest<'_>)>
@@ -139,7 +139,7 @@ pub(crate) fn number64(rest: Rest<'_>) -> Option<(u64, Rest<'_>)>
     }
 }
 
-/// A number of 32 bits.
+// A number of 32 bits.
 #[inline(always)]
 pub(crate) fn number32(rest: Rest<'_>) -> Option<(u32, Rest<'_>)>
     ensures { option_map (λ p. (p.0, words_in p.1)) result ≡ number_said (2 ^ 32) (words_in rest.entry) }
@@ -151,7 +151,7 @@ pub(crate) fn number32(rest: Rest<'_>) -> Option<(u32, Rest<'_>)>
     Some((number as u32, behind))
 }
 
-/// A number of 16 bits.
+// A number of 16 bits.
 #[inline(always)]
 pub(crate) fn number16(rest: Rest<'_>) -> Option<(u16, Rest<'_>)>
     ensures { option_map (λ p. (p.0, words_in p.1)) result ≡ number_said (2 ^ 16) (words_in rest.entry) }
@@ -163,7 +163,7 @@ pub(crate) fn number16(rest: Rest<'_>) -> Option<(u16, Rest<'_>)>
     Some((number as u16, behind))
 }
 
-/// A number of 64 bits, as the last word.
+// A number of 64 bits, as the last word.
 #[inline(always)]
 #[tactic(auto, unfolding(crate::specs::Reading::last_said))]
 pub(crate) fn last64(rest: Rest<'_>) -> Option<u64>
@@ -174,7 +174,7 @@ pub(crate) fn last64(rest: Rest<'_>) -> Option<u64>
     Some(number)
 }
 
-/// A number of 32 bits, as the last word.
+// A number of 32 bits, as the last word.
 #[tactic(auto, unfolding(crate::specs::Reading::last_said))]
 pub(crate) fn last32(rest: Rest<'_>) -> Option<u32>
     ensures { result ≡ last_said (2 ^ 32) (words_in rest.entry) }
@@ -184,7 +184,7 @@ pub(crate) fn last32(rest: Rest<'_>) -> Option<u32>
     Some(number)
 }
 
-/// A name, of any length.
+// A name, of any length.
 #[tactic(auto, unfolding(crate::specs::Reading::name_said))]
 pub(crate) fn name(rest: Rest<'_>) -> Option<(&[u8], Rest<'_>)>
     ensures { option_map (λ p. (p.0.now, words_in p.1)) result ≡ name_said (words_in rest.entry) }

@@ -11,7 +11,7 @@ use Rattle.mrpc_table.specs.declared.call.Call.{Call}
 use Rattle.engine_core.specs.Answers.{Past, nothing, charged, drawn, counted}
 use Rattle.engine_core.specs.Chains.{Chain, Changes, Entry, IsAgainst, IsChain, changed, is_named, is_taken, names_of, new_entry, taken as taken_name, upgraded}
 use Rattle.engine_core.specs.Engines.{EngineParts, chain_of, clocked}
-use Rattle.engine_core.specs.Marks.{HasMarksUpTo, IsTrueFor, StandingCall, note_of, past_by, past_of}
+use Rattle.engine_core.specs.Marks.{IsTrueFor, StandingCall, note_of, past_by, past_of}
 use Rattle.engine_core.specs.Policies.{first_level, level_at, level_under}
 use Rattle.engine_core.specs.declared.op.Op.TheVariants.{Attach, Detach, Upgrade}
 use Rattle.engine_core.specs.declared.policy.Policy.{Policy}

@@ -39,13 +39,13 @@ abbrev pub step_at : List Step → ℕ → Step
 step_at steps place = get_or steps place (Detach [])
 
 -- the cause that a kept refusal stands for
-abbrev pub cause_of : List Step → Refusal → Cause
-cause_of steps by.Malformed = cause.Malformed
-cause_of steps (by.Access step version rule) =
+abbrev pub cause_told_by : List Step → Refusal → Cause
+cause_told_by steps by.Malformed = cause.Malformed
+cause_told_by steps (by.Access step version rule) =
     cause.Access (name_in (step_at steps step)) version (rule_in (step_at steps step) rule)
-cause_of steps (by.Rate step level cost) = cause.Rate (name_in (step_at steps step)) level cost
-cause_of steps (by.Quota step ticket cap) = cause.Quota (name_in (step_at steps step)) ticket cap
-cause_of steps by.Transport = cause.Transport
+cause_told_by steps (by.Rate step level cost) = cause.Rate (name_in (step_at steps step)) level cost
+cause_told_by steps (by.Quota step ticket cap) = cause.Quota (name_in (step_at steps step)) ticket cap
+cause_told_by steps by.Transport = cause.Transport
 
 -- what a record tells
 abbrev pub told_by : List Step → Record → Happening
@@ -58,7 +58,7 @@ told_by steps (Drawn seq step window ticket) = what.Drawn seq (name_in (step_at 
 told_by steps (Counted seq step) = what.Counted seq (name_in (step_at steps step))
 told_by steps (Redacted seq step version) = what.Redacted seq (name_in (step_at steps step)) version
 told_by steps (Sent seq bytes) = what.Sent seq bytes
-told_by steps (Refused seq why) = what.Refused seq (cause_of steps why)
+told_by steps (Refused seq why) = what.Refused seq (cause_told_by steps why)
 
 -- the policy is one of rules, and has one at a place; the number of rules stands for the default
 abbrev pub IsRuleOf : Policy → ℕ → Type 0

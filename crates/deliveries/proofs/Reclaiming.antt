@@ -1,5 +1,5 @@
 -- Numbers of blocks that are judged, one by one.
-use Rattle.std.proofs.Common.{◌≡◌, ℕ, List, [], ◌∷◌, ◌++◌, refl, sym, ap, subst, ◌∙◌, append_assoc, append-nil}
+use Rattle.std.proofs.Common.{◌≡◌, ℕ, List, [], ◌∷◌, ◌++◌, refl, sym, ap, subst, ◌∙◌, append_assoc}
 use Rattle.std.proofs.Common.{IsPermutation, Result, Ok, Err, OnOk, OnErr, is_err, true, false}
 use Rattle.std.proofs.lemmas.List.Sorted.{IsPermutation-append, IsPermutation-append_comm, IsPermutation-refl, IsPermutation-trans}
 use Rattle.std.proofs.lemmas.Bool.{true≢false}
@@ -12,15 +12,6 @@ use Rattle.deliveries.specs.declared.reclaims.Reclaims.{Reclaims}
 abbrev pub HasJudged : Reclaims → Reclaims → List Block → List Block → Type 0
 HasJudged old new held left = (numbers back : List ℕ) → IsReclaiming numbers back old → (more : List ℕ)
     × (gained : List ℕ) × IsReclaiming (numbers ++ more) (back ++ gained) new × LosesEach gained held left
-
-pub judged-none : (r : Reclaims) (held : List Block) → HasJudged r r held held
-judged-none r held numbers back h = (
-  [],
-  [],
-  subst (λ xs. IsReclaiming xs (back ++ []) r) (sym (append-nil numbers))
-      (subst (λ xs. IsReclaiming numbers xs r) (sym (append-nil back)) h),
-  refl,
-)
 
 loses-more : (gained : List ℕ) (number : ℕ) (old between new : List Block) → LosesEach gained old between
     → IsWithout number between new → LosesEach (gained ++ number ∷ []) old new

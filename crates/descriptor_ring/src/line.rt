@@ -6,19 +6,19 @@ use crossbeam_queue::{Pass, RuledArrayQueue};
 use std::collections::LinkedList;
 use std::marker::{Brand, Model, PhantomData};
 
-pub type Line<T> = RuledArrayQueue<Slip<T>, View<T>, InOrder>;
+pub(crate) type Line<T> = RuledArrayQueue<Slip<T>, View<T>, InOrder>;
 
-pub type LinePass<T> = Pass<Slip<T>, View<T>>;
+pub(crate) type LinePass<T> = Pass<Slip<T>, View<T>>;
 
 // An item of a ring, or its closing.
 #[derive(Drop)]
-pub enum Slip<T> {
+pub(crate) enum Slip<T> {
     Item(T),
     Closing,
 }
 
 // Which heap the notes of a ring are of.
-pub struct HeapName {
+pub(crate) struct HeapName {
     number: u64,
 }
 
@@ -33,7 +33,7 @@ impl Model for HeapName {
 
 // What a pass may do, of which heap the ring is, and the items that it knows were sent and taken, and whether the
 // closing was. The sender's pass knows all that was sent, the receiver's all that was taken, any other a front of both.
-pub struct View<T> {
+pub(crate) struct View<T> {
     pub heap: HeapName,
     pub sends: bool,
     pub sent: LinkedList<T>,
@@ -44,7 +44,7 @@ pub struct View<T> {
 }
 
 // What may go through a ring of a heap, and how many at most.
-pub trait Goods: Drop {
+pub(crate) trait Goods: Drop {
     ghost use Rattle.shared_heap.specs.Fresh.{HeapId};
     ghost use Rattle.std.specs.Prelude.{ℕ};
 
@@ -53,7 +53,7 @@ pub trait Goods: Drop {
     ghost most: { ℕ };
 }
 
-pub struct InOrder;
+pub(crate) struct InOrder;
 
 impl<T: Goods> Protocol<Slip<T>, View<T>> for InOrder {
     ghost use Rattle.descriptor_ring.specs.Line.{IsLine, first};
@@ -64,7 +64,7 @@ impl<T: Goods> Protocol<Slip<T>, View<T>> for InOrder {
 }
 
 // A push of an item or of the closing.
-pub struct Puts;
+pub(crate) struct Puts;
 
 impl<T: Goods> Outcome<Slip<T>, View<T>> for Puts {
     ghost use Rattle.descriptor_ring.specs.Line.{Put};
@@ -81,7 +81,7 @@ impl<T: Goods> Lesson<Slip<T>, View<T>> for Puts {
 }
 
 // A pop of an item or of the closing.
-pub struct Gets;
+pub(crate) struct Gets;
 
 impl<T: Goods> Outcome<Slip<T>, View<T>> for Gets {
     ghost use Rattle.descriptor_ring.specs.Line.{Got};
@@ -98,7 +98,7 @@ impl<T: Goods> Lesson<Slip<T>, View<T>> for Gets {
 }
 
 // Once the closing was taken, and the ends are joined, all that was sent was taken.
-pub struct Total;
+pub(crate) struct Total;
 
 impl<T: Goods> Lesson<Slip<T>, View<T>> for Total {
     ghost use Rattle.std.specs.Prelude.{◌≡◌};
@@ -107,7 +107,7 @@ impl<T: Goods> Lesson<Slip<T>, View<T>> for Total {
 }
 
 // What was taken and what the pass knows was sent are in order.
-pub struct Ordered;
+pub(crate) struct Ordered;
 
 impl<T: Goods> Lesson<Slip<T>, View<T>> for Ordered {
     ghost use Rattle.descriptor_ring.specs.Line.{IsInOrder};
@@ -116,7 +116,7 @@ impl<T: Goods> Lesson<Slip<T>, View<T>> for Ordered {
 }
 
 // What the pass knows was taken begins what it sent.
-pub struct Behind;
+pub(crate) struct Behind;
 
 impl<T: Goods> Lesson<Slip<T>, View<T>> for Behind {
     ghost use mathlib.Core.List.{IsPrefix};
@@ -125,7 +125,7 @@ impl<T: Goods> Lesson<Slip<T>, View<T>> for Behind {
 }
 
 // Which heap a ring is opened for. The call that opens it picks the heap.
-pub trait Named {
+pub(crate) trait Named {
     ghost use Rattle.shared_heap.specs.Fresh.{HeapId};
 
     ghost heap: { HeapId };
@@ -138,7 +138,7 @@ impl Named for Brand {
 }
 
 // The first pass becomes the sender's, and a new one the receiver's.
-pub struct Ends<N> {
+pub(crate) struct Ends<N> {
     named: PhantomData<N>,
 }
 
@@ -152,7 +152,7 @@ impl<T, N: Named> Split<View<T>> for Ends<N> {
 }
 
 // A new pass that may do nothing, and knows what this one does.
-pub struct Tells;
+pub(crate) struct Tells;
 
 impl<T> Split<View<T>> for Tells {
     ghost use Rattle.descriptor_ring.specs.Line.{knowing};
@@ -163,7 +163,7 @@ impl<T> Split<View<T>> for Tells {
 }
 
 // A pass is told what another knows of what was sent.
-pub struct HearsSent;
+pub(crate) struct HearsSent;
 
 impl<T> Join<View<T>> for HearsSent {
     ghost use Rattle.descriptor_ring.specs.Line.{told_sent, nobody};
@@ -174,7 +174,7 @@ impl<T> Join<View<T>> for HearsSent {
 }
 
 // A pass is told what another knows of what was taken.
-pub struct HearsTaken;
+pub(crate) struct HearsTaken;
 
 impl<T> Join<View<T>> for HearsTaken {
     ghost use Rattle.descriptor_ring.specs.Line.{told_taken, nobody};
@@ -185,7 +185,7 @@ impl<T> Join<View<T>> for HearsTaken {
 }
 
 // The receiver's pass takes in the sender's.
-pub struct Meets;
+pub(crate) struct Meets;
 
 impl<T> Join<View<T>> for Meets {
     ghost use Rattle.descriptor_ring.specs.Line.{both, nobody};

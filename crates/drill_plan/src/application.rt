@@ -10,7 +10,7 @@ use mrpc_table::{Memory, Sequence};
 use run_plan::{Application, Role};
 use std::alloc::Global;
 
-/// How many clients there are, each with an echo.
+// How many clients there are, each with an echo.
 pub(crate) const CLIENTS: u32 = 4;
 
 // The words of an application's heap.
@@ -22,7 +22,7 @@ const RECEIVE: u64 = 1024;
 // How many items its rings hold.
 const RING: u64 = 4;
 
-/// The applications, each client before its echo.
+// The applications, each client before its echo.
 pub(crate) fn applications(alloc: Global, calls: u64) -> Result<Sequence<Application>, Memory>
     requires { calls ≤ MAX_CALLS }
     ensures { IfOk result (λ apps. apps ≡ applications calls) }

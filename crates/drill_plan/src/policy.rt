@@ -16,7 +16,7 @@ const BIG: &[u8] = b"rule big deny method 0 where 1 gt 49";
 // All else is allowed.
 const DEFAULT: &[u8] = b"default allow";
 
-/// What the plan declares: no tenant, and this policy alone.
+// What the plan declares: no tenant, and this policy alone.
 pub(crate) fn declared(alloc: Global, table: &Table) -> Result<Declarations, Memory>
     requires { table.now ≡ schema }
     ensures { IfOk result (λ d. d ≡ only_acl) }

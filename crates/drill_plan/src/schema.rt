@@ -6,10 +6,10 @@ ghost use Rattle.drill_plan.specs.Drill.{field, message, method, schema};
 use mrpc_table::{Bytes, Field, Kind, Label, Memory, Message, Method, Name, Sequence, Table};
 use std::alloc::Global;
 
-/// The service to which all applications bind.
+// The service to which all applications bind.
 pub(crate) const SERVICE: &[u8] = b"S";
 
-/// The table of the schema.
+// The table of the schema.
 pub(crate) fn schema(alloc: Global) -> Result<Table, Memory>
     ensures { IfOk result (λ T. T ≡ schema) }
 {
@@ -20,7 +20,7 @@ pub(crate) fn schema(alloc: Global) -> Result<Table, Memory>
     })
 }
 
-/// A list of one item.
+// A list of one item.
 pub(crate) fn one<T: Drop>(alloc: Global, item: T) -> Result<Sequence<T>, Memory>
     ensures { IfOk result (λ items. items ≡ item ∷ []) }
 {
@@ -29,7 +29,7 @@ pub(crate) fn one<T: Drop>(alloc: Global, item: T) -> Result<Sequence<T>, Memory
     Ok(items)
 }
 
-/// A name that is known before the run.
+// A name that is known before the run.
 pub(crate) fn name(alloc: Global, word: &[u8]) -> Result<Name, Memory>
     ensures { IfOk result (λ name. name ≡ word.now) }
 {

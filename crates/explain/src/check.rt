@@ -20,10 +20,10 @@ use proto_schema::{alone_is_ordered, read_proto};
 use schema_resolve::{ResolveFault, resolve};
 use std::alloc::Global;
 
-/// How long a text is that isn't read again. No input that a command reads is so long.
+// How long a text is that isn't read again. No input that a command reads is so long.
 pub(crate) const TOO_LONG: usize = 0x1000_0000;
 
-/// What stands against a proto file or a set of files.
+// What stands against a proto file or a set of files.
 pub(crate) fn explain_check<'a>(
     alloc: Global,
     input: &'a [u8],
@@ -81,7 +81,7 @@ fn explain_resolved<'a>(alloc: Global, text: &'a [u8], file: &File) -> Result<Fi
     }
 }
 
-/// What is wrong with the first token at fault of a text.
+// What is wrong with the first token at fault of a text.
 pub(crate) fn found_token<'a>(
     alloc: Global,
     text: &'a [u8],

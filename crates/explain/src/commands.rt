@@ -115,7 +115,7 @@ fn found<'a>(
     explain_line(alloc, input, &fault, format)
 }
 
-/// A sentence alone.
+// A sentence alone.
 pub(crate) fn only<'a>(alloc: Global, words: &[u8]) -> Result<Finding<'a>, Memory>
     ensures { (input : List ℕ) → IfOk result (λ f. PointsInto input f.part) }
 {

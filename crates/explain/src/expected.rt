@@ -25,8 +25,8 @@ const SORTS: [Row; 3] = [("x", "a name"), ("1", "a number"), ("'x'", "a string")
 // The place of the first word among them.
 const FIRST_WORD: usize = 14;
 
-/// Says `expected X, Y or Z, found W` about the token that stands in a text from one place to another. What is named is
-/// what the reader of proto files takes in its place.
+// Says `expected X, Y or Z, found W` about the token that stands in a text from one place to another. What is named is
+// what the reader of proto files takes in its place.
 pub(crate) fn say_expected(
     alloc: Global,
     text: &[u8],

@@ -2,22 +2,22 @@
 
 use mrpc_table::{Decimal, cut, number_of};
 
-/// The beginning of the line of a fault.
+// The beginning of the line of a fault.
 pub(crate) const FAULT: &[u8] = b"fault ";
 
-/// What a printed fault says.
+// What a printed fault says.
 #[derive(Clone, Copy)]
 pub(crate) struct FaultLine<'a> {
-    /// The file of a set, from 1, where a line of it is named.
+    // The file of a set, from 1, where a line of it is named.
     pub file: Option<u64>,
-    /// A line, from 1, a byte, from 0, or, in a set, a file, from 1.
+    // A line, from 1, a byte, from 0, or, in a set, a file, from 1.
     pub place: u64,
-    /// The word of the reason.
+    // The word of the reason.
     pub reason: &'a [u8],
 }
 
 impl<'a> FaultLine<'a> {
-    /// What the line `fault PLACE REASON` or `fault FILE:LINE REASON` says; None where it is none.
+    // What the line `fault PLACE REASON` or `fault FILE:LINE REASON` says; None where it is none.
     pub(crate) fn of(line: &'a [u8]) -> Option<FaultLine<'a>> {
         let line = match line.strip_suffix(b"\n") {
             Some(line) => line,

@@ -8,7 +8,7 @@ use frame_transport::{FrameRef, HEADER_LEN};
 use mrpc_table::{Kind, MAX_DEPTH, Memory, Table};
 use wire_base::{read_delimited, read_record, read_tag};
 
-/// Says the numbers of the fields in which a byte of a frame stands, joined by dots.
+// Says the numbers of the fields in which a byte of a frame stands, joined by dots.
 pub(crate) fn say_path(
     table: &Table,
     frame: &FrameRef<'_>,

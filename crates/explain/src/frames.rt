@@ -62,7 +62,7 @@ const SENTENCES: [Row; 18] = [
     ),
 ];
 
-/// What stands against an input of `decode`.
+// What stands against an input of `decode`.
 pub(crate) fn explain_decode<'a>(
     alloc: Global,
     input: &'a [u8],

@@ -4,12 +4,12 @@ use crate::named::{name_at, stands_at};
 use mrpc_table::{MAX_ENUMS, MAX_FIELDS, MAX_MESSAGES, MAX_METHODS, MAX_NAME, MAX_VALUES};
 use proto_file::{EnumDecl, File, MessageDecl, ServiceDecl, Span};
 
-/// All limits, where it isn't known which one is passed.
+// All limits, where it isn't known which one is passed.
 pub(crate) const LIMITS: &str =
     "past a limit: 256 messages, enums or rpcs, 128 fields of a message, 1024 values of an \
     enum, 64 bytes of a name, 255 of a full name, 65536 of the table's text";
 
-/// Which limit the name at the span passes.
+// Which limit the name at the span passes.
 pub(crate) fn limit_words(file: &File, span: Span) -> &'static str {
     if is_message_past(file.messages.as_slice(), span) {
         return "a table has 256 messages at the most, and this is the 257th";

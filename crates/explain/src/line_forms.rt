@@ -68,7 +68,7 @@ const AUDIT: [Row; 12] = [
     ("stands", "stands CONN SEQ POSITION NAME [held LEVEL COST]"),
 ];
 
-/// The form of the lines of a format that begin with a word; None where none does.
+// The form of the lines of a format that begin with a word; None where none does.
 pub(crate) fn line_form(word: &[u8], format: Format) -> Option<&'static str> {
     match text_for(&TABLE, word) {
         Some(form) => Some(form),

@@ -74,7 +74,7 @@ const NUMBERS: [Row; 4] = [
     ("clear", "INDEX is 0 to 65535"),
 ];
 
-/// What a reason says of a line that begins with this word, and whose words have the right form.
+// What a reason says of a line that begins with this word, and whose words have the right form.
 pub(crate) fn reason_sentence(reason: &[u8], word: &[u8]) -> &'static str {
     number_sentence(reason, word)
         .or(text_for(&SENTENCES, reason))

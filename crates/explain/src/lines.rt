@@ -19,14 +19,14 @@ const MISSING: [Row; 3] = [
     ("Number", "the value 0 of an enum"),
 ];
 
-/// What a text of lines is.
+// What a text of lines is.
 #[derive(Clone, Copy)]
 pub(crate) enum Format {
-    /// A script, which `replay` reads.
+    // A script, which `replay` reads.
     Replay,
-    /// What stands in front of the frames that `decode` reads.
+    // What stands in front of the frames that `decode` reads.
     Decode,
-    /// An audit.
+    // An audit.
     Audit,
 }
 
@@ -48,7 +48,7 @@ impl Format {
     }
 }
 
-/// What stands against a line of a text.
+// What stands against a line of a text.
 pub(crate) fn explain_line<'a>(
     alloc: Global,
     text: &'a [u8],

@@ -4,7 +4,7 @@ use findings::{Around, Sentence};
 use mrpc_table::{Decimal, Memory};
 use proto_file::{EnumDecl, FieldDecl, File, MessageDecl, ServiceDecl, Span, Word};
 
-/// Says which earlier field of its message has the number that stands at the span.
+// Says which earlier field of its message has the number that stands at the span.
 pub(crate) fn say_earlier_number(
     text: &[u8],
     file: &File,
@@ -25,7 +25,7 @@ pub(crate) fn say_earlier_number(
     }
 }
 
-/// Says in which line the name at the span was given already.
+// Says in which line the name at the span was given already.
 pub(crate) fn say_earlier_name(
     text: &[u8],
     file: &File,
@@ -78,11 +78,11 @@ fn value_at(fields: &[FieldDecl], span: Span) -> Option<Decimal> {
 // Where a name is looked for: among the methods of a service, in a message, in an enum's scope, or in the file.
 #[derive(Clone, Copy)]
 enum Scope {
-    /// The methods of the service at this place.
+    // The methods of the service at this place.
     Service(usize),
-    /// What stands in the message at this place.
+    // What stands in the message at this place.
     Message(usize),
-    /// What stands in no message.
+    // What stands in no message.
     File,
 }
 
@@ -106,7 +106,7 @@ fn scope_of(parent: Option<usize>) -> Scope {
     }
 }
 
-/// The name of a thing of the file that stands at the span.
+// The name of a thing of the file that stands at the span.
 pub(crate) fn name_at(file: &File, span: Span) -> Option<&Word> {
     let (_, word) = named_at(file, span)?;
     Some(word)
@@ -177,7 +177,7 @@ fn named_in_services(services: &[ServiceDecl], span: Span) -> Option<(Scope, &Wo
     None
 }
 
-/// Whether a name stands at the span.
+// Whether a name stands at the span.
 pub(crate) fn stands_at(word: &Word, span: Span) -> bool {
     word.span.start == span.start
 }

@@ -15,7 +15,7 @@ use proto_file::{File, Span};
 use schema_offences::ResolveReason;
 use std::alloc::Global;
 
-/// What stands against the first name or number at fault of a file that was read.
+// What stands against the first name or number at fault of a file that was read.
 pub(crate) fn found_offence<'a>(
     alloc: Global,
     text: &'a [u8],

@@ -6,24 +6,24 @@ use findings::{Sentence, TextLine};
 use mrpc_table::{Memory, cut, is_word};
 use script_words::{Form, Sort, form_of, judge};
 
-/// A word of a line of a known form, and what stands against it.
+// A word of a line of a known form, and what stands against it.
 #[derive(Clone, Copy)]
 pub(crate) struct WordAtFault {
-    /// Its place among the words of the line, from 0.
+    // Its place among the words of the line, from 0.
     pub place: usize,
     why: Why,
 }
 
 #[derive(Clone, Copy)]
 enum Why {
-    /// It isn't of the sort of the words that stand there.
+    // It isn't of the sort of the words that stand there.
     NotOf(Sort),
-    /// What the reason of the fault says.
+    // What the reason of the fault says.
     Reason(&'static str),
 }
 
 impl WordAtFault {
-    /// Says what stands against the word.
+    // Says what stands against the word.
     pub(crate) fn say(&self, line: &TextLine<'_>, sentence: &mut Sentence) -> Result<(), Memory> {
         let word = self.word(line);
         match self.why {
@@ -50,7 +50,7 @@ impl WordAtFault {
     }
 }
 
-/// The word of a line at fault, if it is a line of a script whose form is known and the reason stands against a word.
+// The word of a line at fault, if it is a line of a script whose form is known and the reason stands against a word.
 pub(crate) fn word_at_fault(
     line: &TextLine<'_>,
     reason: &[u8],

@@ -67,7 +67,7 @@ const LINES: [Row; 12] = [
     ("Limit", LIMITS),
 ];
 
-/// What stands against a set of files, whose file is named by its path.
+// What stands against a set of files, whose file is named by its path.
 pub(crate) fn explain_set<'a>(
     alloc: Global,
     input: &'a [u8],

@@ -36,10 +36,6 @@ pub words_push : (files : List File) (f : File) → AreWords files → IsWord f.
 words_push [] f h w = (w, tt)
 words_push (g ∷ gs) f h w = (h.0, words_push gs f h.1 w)
 
-words_behind : (files more : List File) → AreWords (files ++ more) → AreWords more
-words_behind [] more h = h
-words_behind (f ∷ fs) more h = words_behind fs more h.1
-
 abbrev pub texts_of : List File → List ℕ
 texts_of files = flat_map file_text files
 

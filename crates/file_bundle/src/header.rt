@@ -21,8 +21,8 @@ struct Header<'a> {
     behind: &'a [u8],
 }
 
-/// The file at the front, and what stands behind its bytes; none where no header line stands there, or too few bytes
-/// stand behind it.
+// The file at the front, and what stands behind its bytes; none where no header line stands there, or too few bytes
+// stand behind it.
 pub(crate) fn first_file(bytes: &[u8]) -> Option<(Packed<'_>, &[u8])>
     ensures found { IfSome result (λ f. HasFile bytes.now (file_of f.0) f.1.now) }
     ensures none { IfNone result (HasNoFile bytes.now) }

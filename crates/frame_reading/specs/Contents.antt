@@ -1,5 +1,5 @@
 -- What a frame has.
-use Rattle.std.specs.Prelude.{◌≡◌, ◌≢◌, ℕ, ◌==◌, ◌<◌, length, if◌then◌else◌}
+use Rattle.std.specs.Prelude.{◌≡◌, ◌≢◌, ◌<◌, length}
 use Rattle.mrpc_table.specs.Node.{Node}
 use Rattle.mrpc_table.specs.Normal.{IsNormal}
 use Rattle.mrpc_table.specs.declared.table.Table.{Table}

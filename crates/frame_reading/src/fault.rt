@@ -16,7 +16,7 @@ pub enum ReadFault {
 }
 
 impl ReadFault {
-    /// A fault at a place.
+    // A fault at a place.
     pub(crate) fn at(place: u64, word: &'static str) -> ReadFault
         ensures is { OnFault (λ p w. (p ≡ place) × (w ≡ word.now)) result }
         ensures not_memory { result ≢ ReadFault.Memory }

@@ -25,18 +25,6 @@ pub record IsFound (place : ℕ) (begun piece : List ℕ) (frames : List Frame) 
   pub rest : begun_behind frames begun left ≡ ahead ++ left
   pub fewer : length left ≤ length piece
 
--- before the first frame
-pub found_none : (place : ℕ) (begun piece : List ℕ) → IsPartial begun → IsFound place begun piece [] place begun piece
-found_none place begun piece h = record {
-  whole = refl;
-  each = All-nil IsFrame;
-  places = tt;
-  ends = omega arith;
-  partial = h;
-  rest = refl;
-  fewer = omega arith;
-}
-
 begun_behind-more : (frames : List Frame) (f : Frame) (begun left : List ℕ) → begun_behind (frames ++ f ∷ []) begun left ≡ left
 begun_behind-more [] f begun left = refl
 begun_behind-more (g ∷ gs) f begun left = refl

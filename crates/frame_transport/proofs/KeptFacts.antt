@@ -8,8 +8,8 @@ use Rattle.std.proofs.lemmas.Option.{slice_get_read, slice_get_past}
 use Rattle.std.proofs.lemmas.List.{append-nil}
 use Rattle.std.proofs.lemmas.List.Elements.{All-append, All-nil, All-head, All-tail}
 use Rattle.std.proofs.lemmas.List.Concat.{flat_map-append}
-use Rattle.frame_transport.specs.Frames.{IsFrame, bytes_of, joined, StandFrom, IsPartial, IsFaultAt, HasFault, Splits, Ends}
-use Rattle.frame_transport.specs.Feed.{Fed, Gives, GoesOn, StopsAt}
+use Rattle.frame_transport.specs.Frames.{IsFrame, bytes_of, joined, StandFrom, IsPartial, HasFault, Splits, Ends}
+use Rattle.frame_transport.specs.Feed.{Fed, Gives, StopsAt}
 use Rattle.frame_transport.specs.Kept.{Kept, IsKept}
 use Rattle.frame_transport.specs.Kept.{Advances}
 use Rattle.frame_transport.specs.declared.advance.Advance.{Advance}
@@ -97,18 +97,6 @@ ends_advanced taken waiting end begun behind piece new now_begun a k adv =
           (fault_of_all a.fault a.end now_begun adv.unkept adv.first adv.clean);
     }
 
-pub goes_on : (taken : ℕ) (waiting : List Frame) (end : ℕ) (begun : List ℕ) (behind : ℕ) (piece : List ℕ) (new : List Frame) (now_begun : List ℕ) (a : Advance)
-    → Advances (keeping waiting end begun) piece (keeping new a.end now_begun) a.dropped a.fault → a.fault ≡ None
-    → GoesOn (seen taken waiting begun behind) piece (seen taken new now_begun (behind + a.dropped))
-goes_on taken waiting end begun behind piece new now_begun a adv none =
-    let nothing : adv.unkept ≡ [] = adv.clean none in
-    let zero_dropped : length adv.unkept ≡ 0 = ap length nothing in
-    record {
-      place = refl;
-      bytes = sym (advanced_bytes end begun piece waiting new now_begun a adv ∙ ap (λ (bs : List ℕ). (joined new ++ now_begun) ++ bs) nothing ∙ append-nil (joined new ++ now_begun));
-      behind = omega (arith, adv.count);
-    }
-
 pub stops : (taken : ℕ) (waiting : List Frame) (end : ℕ) (begun : List ℕ) (behind : ℕ) (piece : List ℕ) (new : List Frame) (now_begun : List ℕ) (a : Advance) (fault : FeedFault)
     → IsKept taken new a.end now_begun (behind + a.dropped)
     → Advances (keeping waiting end begun) piece (keeping new a.end now_begun) a.dropped a.fault → a.fault ≡ Some fault
@@ -119,18 +107,6 @@ stops taken waiting end begun behind piece new now_begun a fault k adv some = re
   dropped = adv.unkept;
   stream = advanced_bytes end begun piece waiting new now_begun a adv;
   behind = omega (arith, adv.count);
-}
-
--- a feed that has stopped drops the piece
-pub stopped : (taken : ℕ) (waiting : List Frame) (end : ℕ) (begun : List ℕ) (behind : ℕ) (piece : List ℕ) (fault : FeedFault)
-    → IsKept taken waiting end begun behind → IsFaultAt end begun fault
-    → StopsAt (seen taken waiting begun behind) piece fault (seen taken waiting begun (behind + length piece))
-stopped taken waiting end begun behind piece fault k h = record {
-  place = refl;
-  kept = kept_ends taken waiting end begun behind (Some fault) k h;
-  dropped = piece;
-  stream = refl;
-  behind = refl;
 }
 
 -- there is no other fault than the one that was found

@@ -12,19 +12,19 @@ use mrpc_table::Memory;
 use std::alloc::Global;
 use std::collections::VecDeque;
 
-/// How far a piece brought a feed.
+// How far a piece brought a feed.
 #[derive(Drop)]
 pub(crate) struct Advance {
-    /// The place behind the last whole frame.
+    // The place behind the last whole frame.
     pub end: u64,
-    /// How many bytes of the piece lie so far behind a fault that they aren't kept.
+    // How many bytes of the piece lie so far behind a fault that they aren't kept.
     pub dropped: usize,
-    /// The fault behind the last whole frame.
+    // The fault behind the last whole frame.
     pub fault: Option<FeedFault>,
 }
 
-/// Goes on with a piece behind `begun`, whose first byte has the place `end`. Without memory
-/// nothing changes.
+// Goes on with a piece behind `begun`, whose first byte has the place `end`. Without memory
+// nothing changes.
 pub(crate) fn go_on(
     alloc: Global,
     end: u64,

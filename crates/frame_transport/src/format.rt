@@ -41,7 +41,7 @@ pub fn kind_of(sort: Sort) -> u8
     }
 }
 
-/// Whether the frames of a kind are those of requests or of replies; None for a hello.
+// Whether the frames of a kind are those of requests or of replies; None for a hello.
 pub(crate) fn sort_of_kind(kind: u8) -> Option<Sort>
     ensures { result ≡ sort_of_kind kind }
 {

@@ -10,7 +10,7 @@ use crate::format::{Frame, HEADER_LEN, MAX_PAYLOAD};
 use mrpc_table::{Bytes, Memory};
 use std::alloc::Global;
 
-/// What stands at the front of a stream.
+// What stands at the front of a stream.
 #[derive(Drop)]
 pub(crate) enum Front {
     Whole(Frame),
@@ -18,7 +18,7 @@ pub(crate) enum Front {
     Fault(FeedFault),
 }
 
-/// What stands at the front of `begun` and then `piece`, the first byte at this place.
+// What stands at the front of `begun` and then `piece`, the first byte at this place.
 pub(crate) fn front_of(
     alloc: Global,
     place: u64,

@@ -11,14 +11,14 @@ use crate::format::{
 use byteorder::{BigEndian, ByteOrder};
 use std::marker::Model;
 
-/// The first bytes of two that stand one behind the other: a header, or what has come of it.
+// The first bytes of two that stand one behind the other: a header, or what has come of it.
 #[derive(Drop)]
 pub(crate) struct HeaderPart {
     bytes: [u8; HEADER_LEN],
     len: usize,
 }
 
-/// The numbers of a whole header without a fault.
+// The numbers of a whole header without a fault.
 #[derive(Drop)]
 pub(crate) struct Header {
     pub kind: u8,
@@ -41,8 +41,8 @@ impl Model for HeaderPart {
 }
 
 impl HeaderPart {
-    /// The first bytes of `begun` and then `piece`, or all where there are fewer.
-    pub fn of(begun: &[u8], piece: &[u8]) -> HeaderPart
+    // The first bytes of `begun` and then `piece`, or all where there are fewer.
+    pub(crate) fn of(begun: &[u8], piece: &[u8]) -> HeaderPart
         ensures { result ≡ take HEADER_LEN (begun.now ++ piece.now) }
     {
         let mut bytes = [0; HEADER_LEN];
@@ -56,16 +56,16 @@ impl HeaderPart {
         }
     }
 
-    /// The bytes of a header that are there.
-    pub fn bytes(&self) -> &[u8]
+    // The bytes of a header that are there.
+    pub(crate) fn bytes(&self) -> &[u8]
         ensures { result.now ≡ self.now }
     {
         &self.bytes[..self.len]
     }
 }
 
-/// The first fault of bytes that stand at this place. Each field is judged as soon as it is there,
-/// in the order of their bytes.
+// The first fault of bytes that stand at this place. Each field is judged as soon as it is there,
+// in the order of their bytes.
 #[tactic(auto, unfolding(crate::specs::Frames::length_in))]
 pub(crate) fn fault_in(place: u64, bytes: &[u8]) -> Option<FeedFault>
     requires { place < 2 ^ 63 }
@@ -111,7 +111,7 @@ fn has_version(kind: u8, version: u8) -> bool
     version == VERSION || kind == HELLO && version == HELLO_VERSION
 }
 
-/// The numbers in a header.
+// The numbers in a header.
 #[tactic(auto, unfolding(crate::specs::Frames::length_in))]
 pub(crate) fn read_header(bytes: &[u8]) -> Option<Header>
     ensures none { IsNone result ↔ (length bytes.now < HEADER_LEN) }

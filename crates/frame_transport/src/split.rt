@@ -11,20 +11,20 @@ use mrpc_table::Memory;
 use std::alloc::Global;
 use std::collections::VecDeque;
 
-/// The frames that a piece ends, and what follows them.
+// The frames that a piece ends, and what follows them.
 #[derive(Drop)]
 pub(crate) struct Found<'a> {
-    /// The frames, in order.
+    // The frames, in order.
     pub frames: VecDeque<Frame>,
-    /// The place behind them.
+    // The place behind them.
     pub end: u64,
-    /// The bytes of the piece that lie in none of them.
+    // The bytes of the piece that lie in none of them.
     pub left: &'a [u8],
-    /// The fault that stands behind them.
+    // The fault that stands behind them.
     pub fault: Option<FeedFault>,
 }
 
-/// Splits `begun` and then `piece`, the first byte at this place.
+// Splits `begun` and then `piece`, the first byte at this place.
 pub(crate) fn split<'a>(
     alloc: Global,
     place: u64,

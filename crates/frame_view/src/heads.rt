@@ -8,7 +8,7 @@ ghost use Rattle.frame_view.specs.Views.{call_head, hello_head, path_of, sort_wo
 use frame_transport::{FrameRef, REQUEST};
 use mrpc_table::{Bytes, Memory, Table};
 
-/// Appends the line of a hello.
+// Appends the line of a hello.
 pub(crate) fn put_hello(out: &mut Bytes, frame: &FrameRef) -> Result<(), Memory>
     ensures { OnOk result (out.new ≡ out.old ++ hello_head (frame_of frame.now)) }
 {
@@ -19,7 +19,7 @@ pub(crate) fn put_hello(out: &mut Bytes, frame: &FrameRef) -> Result<(), Memory>
     out.append(b"\n")
 }
 
-/// Appends the line in front of the message of a request or a reply.
+// Appends the line in front of the message of a request or a reply.
 pub(crate) fn put_call(out: &mut Bytes, table: &Table, frame: &FrameRef) -> Result<(), Memory>
     requires { frame.now.method < length table.now.methods }
     ensures { OnOk result (out.new ≡ out.old ++ call_head table.now (frame_of frame.now)) }

@@ -1,5 +1,5 @@
 -- Loads that lead to the end are those of a sound placed tree; loads that stop make a graph malformed.
-use Rattle.std.proofs.Common.{◌≡◌, ℕ, ◌<◌, ◌≤◌, ◌^◌, List, [], ◌∷◌, ◌++◌, length, drop, refl, sym, ap, subst, ◌∙◌, arith, append_assoc}
+use Rattle.std.proofs.Common.{◌≡◌, ℕ, ◌<◌, ◌≤◌, ◌^◌, List, [], ◌∷◌, ◌++◌, length, refl, sym, ap, subst, ◌∙◌, arith, append_assoc}
 use Rattle.mrpc_table.specs.declared.table.Table.{Table}
 use Rattle.mrpc_table.specs.Node.{Node}
 use Rattle.graph_form.specs.declared.reason.Reason.{Reason}
@@ -9,7 +9,7 @@ use Rattle.graph_form.specs.Placed.{Placed, nothing, first, word, loads, LiesIn,
 use Rattle.graph_form.specs.Forgotten.{tree_of}
 use Rattle.graph_form.specs.Loading.{LeadsTo}
 use Rattle.graph_form.specs.Malformed.{OffendsFirst, IsMalformed}
-use Rattle.graph_copy.specs.Copies.{since, IsCopied}
+use Rattle.graph_copy.specs.Copies.{IsCopied}
 use Rattle.graph_copy.specs.Stops.{Stops, at_word, at_limit}
 
 record Split (T : Table) (H : ℕ) (es fs : Expected) (P : Placed) : Type 0 where
@@ -60,10 +60,6 @@ has_last [] h = absurd (omega (arith, h))
 has_last (x ∷ []) h = record { front = []; last = x; is = refl }
 has_last (x ∷ y ∷ ys) h = let r = has_last (y ∷ ys) (omega arith) in record { front = x ∷ r.front; last = r.last; is = ap (λ zs. x ∷ zs) r.is }
 
-pub drop-front : {X : Type 0} (xs ys : List X) → drop (length xs) (xs ++ ys) ≡ ys
-drop-front [] ys = refl
-drop-front (x ∷ xs) ys = drop-front xs ys
-
 -- ---- loads that stop
 
 abbrev pub OffenceLaw : Type 0
@@ -112,8 +108,3 @@ copied T H msg address size es own taken t same words lies leads is made =
     let here = subst (λ h. LeadsTo T h es own []) same leads in
     let w = whole T H (node_words T msg 1 address) own (subst (λ ws. LeadsTo T H ws own []) words here) in
     record { placed = w.placed; sound = record { root = lies; words = w.sound }; loads_are = w.loads_are; tree_is = made H address w.placed w.sound (is ∙ w.loads_are) }
-
--- ---- the loads since a moment
-
-pub since_is : (before now own : List (ℕ × ℕ)) → now ≡ before ++ own → since before now ≡ own
-since_is before now own is = ap (drop (length before)) is ∙ drop-front before own

@@ -236,15 +236,6 @@ cases_end T fs room count start next found more on = λ place depth deep H P res
     let none = sound_none T H r.words r.sound in
     (r.made_is ∙ ap (λ Q. insert_all more (slots_tree T fs [] Q)) none, r.now_is ∙ ap (λ Q. loads Q ++ rest) none)
 
--- the slot of a oneof
-pub no_member : (T : Table) (fs : List Field) (v : ℕ) (before mid : List (ℕ × ℕ)) (found : List (ℕ × FieldValue)) → Gives before v mid → v ≡ 0
-    → (place depth oneof : ℕ) → TakesWord T (case_word fs oneof depth, place) before mid (λ w. (t : Node) → insert_all found (with_member T fs w t) ≡ insert_all found t)
-no_member T fs v before mid found gives absent place depth oneof = λ H n content rest small fine sound is.
-    let g = gives (place, n) (loads content ++ rest) is in
-    let n_zero : n ≡ 0 = sym g.0 ∙ absent in
-    let none = sound_none T H content (subst (λ n. AreSound T H (behind T (case_word fs oneof depth) place n) content) n_zero sound) in
-    (λ t. ap (λ P. insert_all found (with_member T fs (word place n P) t)) none, g.1 ∙ ap (λ P. loads P ++ rest) none)
-
 pub unknown_member : (T : Table) (fs : List Field) (v : ℕ) (before mid : List (ℕ × ℕ)) (Made : Word → Type 0) → Gives before v mid → v ≢ 0 → field_at fs v ≡ None
     → (place depth oneof : ℕ) → TakesWord T (case_word fs oneof depth, place) before mid Made
 unknown_member T fs v before mid Made gives some none place depth oneof = λ H n content rest small fine sound is.

@@ -5,39 +5,25 @@ use Rattle.std.specs.Prelude.{if◌then◌else◌}
 use Rattle.std.proofs.lemmas.Bool.{eq-eqb, ne_eqb}
 use Rattle.std.proofs.lemmas.Bool.Decides.{leb_tells}
 use Rattle.mrpc_table.specs.MapEntries.{last_of_each}
-use Rattle.mrpc_table.specs.Node.{Node, Content, one, many, pairs, Item, number, run, node, Items, Pairs}
+use Rattle.mrpc_table.specs.Node.{Node, Content, one, many, pairs, Item, run, node, Items, Pairs}
 use Rattle.mrpc_table.specs.declared.table.Kind.{Kind}
-use Rattle.mrpc_table.specs.declared.table.Kind.TheVariants.{Int32, Int64, Uint32, Uint64, Sint32, Sint64}
-use Rattle.mrpc_table.specs.declared.table.Kind.TheVariants.{Bool as TheBool, Fixed32, Fixed64, Sfixed32, Sfixed64}
-use Rattle.mrpc_table.specs.declared.table.Kind.TheVariants.{Float, Double, Text, Octets, Message as OfMessage}
-use Rattle.mrpc_table.specs.declared.table.Kind.TheVariants.{Choice}
+use Rattle.mrpc_table.specs.declared.table.Kind.TheVariants.{Text, Octets, Message as OfMessage}
 use Rattle.mrpc_table.specs.declared.table.Label.{Label}
 use Rattle.mrpc_table.specs.declared.table.Label.TheVariants.{Plain, Optional, Repeated, Packed, Map, Member}
 use Rattle.mrpc_table.specs.declared.table.Table.{Table}
 use Rattle.graph_form.specs.declared.reason.Reason.TheVariants.{Address, Depth, Length}
-use Rattle.graph_form.specs.Roles.{value, run_length, run_presence, run_address, link, elements_address}
+use Rattle.graph_form.specs.Roles.{run_length, run_presence, run_address, link, elements_address}
 use Rattle.graph_form.specs.Roles.{entries_address, behind, plain_role, optional_role, slot_role, node_words}
 use Rattle.graph_form.specs.Roles.{size_words}
-use Rattle.graph_form.specs.Placed.{Placed, nothing, word, loads, IsFine, AreSound}
-use Rattle.graph_form.specs.Forgotten.{run_at, number_at, optional_item, slot_content, plain_item, elements_at, entries_at, tree_of}
-use Rattle.graph_copy.specs.declared.role.Shape.TheVariants.{Number, Run, Message}
+use Rattle.graph_form.specs.Placed.{Placed, word, loads, IsFine, AreSound}
+use Rattle.graph_form.specs.Forgotten.{run_at, optional_item, slot_content, plain_item, elements_at, entries_at, tree_of}
+use Rattle.graph_copy.specs.declared.role.Shape.TheVariants.{Run, Message}
 use Rattle.graph_copy.specs.Shapes.{shape_of}
 use Rattle.graph_copy.specs.Makes.{Takes, TakesWord, TakesBehind}
 use Rattle.graph_copy.proofs.Fitting.{lies_by_not}
 use Rattle.graph_copy.proofs.Running.{Gives}
-use Rattle.graph_copy.proofs.Taking.{sound_none, none_taken, one_of}
 
 -- ---- values of plain slots
-
-nothing_left : (T : Table) (H : ℕ) (P : Placed) (rest before : List (ℕ × ℕ)) → AreSound T H [] P → before ≡ loads P ++ rest → before ≡ rest
-nothing_left T H P rest before sound is = none_taken T H P rest before sound is
-
-pub number_made : (T : Table) (k : Kind) (place depth : ℕ) (needed : Bool) (v : ℕ) (before : List (ℕ × ℕ)) → shape_of k ≡ Number
-    → TakesBehind T (plain_role k depth needed, place) v before before (λ P. number v ≡ plain_item T k (word place v P))
-number_made T Text place depth needed v before shape = absurd (cc)
-number_made T Octets place depth needed v before shape = absurd (cc)
-number_made T (OfMessage m) place depth needed v before shape = absurd (cc)
-number_made T _ place depth needed v before shape = λ H content rest fine sound is. (refl, none_taken T H content rest before sound is)
 
 pub run_made : (T : Table) (k : Kind) (place depth : ℕ) (needed : Bool) (v : ℕ) (before after : List (ℕ × ℕ)) (bytes : List ℕ) → shape_of k ≡ Run
     → ((k : Kind) (place : ℕ) → TakesBehind T (run_length k, place) v before after (λ P. bytes ≡ run_at v P))
@@ -99,54 +85,6 @@ slot_made T l k place depth v before mid after c Made gives some says made = λ 
     let m = made H content rest (subst (IsFine T H (slot_role l k depth)) (sym g.0) fine) (subst (λ n. AreSound T H (behind T (slot_role l k depth) place n) content) (sym g.0) sound) g.1 in
     (ap Some m.0 ∙ sym (says content ∙ ap (λ b. cond b None (Some (Made content))) (ne_eqb v 0 some)) ∙ ap (λ n. slot_content T l k (word place n content)) g.0, m.1)
 
--- the first word of a slot is 0
-zero_plain : (T : Table) (k : Kind) (place depth : ℕ) (H : ℕ) (P : Placed)
-    → AreSound T H (behind T (plain_role k depth false) place 0) P → IsFine T H (plain_role k depth false) 0
-    → P ≡ nothing
-zero_plain T Text place depth H P sound fine = sound_none T H P sound
-zero_plain T Octets place depth H P sound fine = sound_none T H P sound
-zero_plain T (OfMessage m) place depth H P sound fine = sound_none T H P sound
-zero_plain T _ place depth H P sound fine = sound_none T H P sound
-
-zero_optional : (T : Table) (k : Kind) (place : ℕ) (H : ℕ) (P : Placed) → AreSound T H (behind T (optional_role k) place 0) P → P ≡ nothing
-zero_optional T Text place H P sound = sound_none T H P sound
-zero_optional T Octets place H P sound = sound_none T H P sound
-zero_optional T _ place H P sound = sound_none T H P sound
-
-zero_slot : (T : Table) (l : Label) (k : Kind) (place depth : ℕ) (H : ℕ) (P : Placed)
-    → AreSound T H (behind T (slot_role l k depth) place 0) P → IsFine T H (slot_role l k depth) 0 → P ≡ nothing
-zero_slot T Optional k place depth H P sound fine = zero_optional T k place H P sound
-zero_slot T Repeated k place depth H P sound fine = sound_none T H P sound
-zero_slot T Packed k place depth H P sound fine = sound_none T H P sound
-zero_slot T (Map key) k place depth H P sound fine = sound_none T H P sound
-zero_slot T _ k place depth H P sound fine = zero_plain T k place depth H P sound fine
-
-plain_zero : (T : Table) (k : Kind) (place : ℕ) (P : Placed) → slot_content T Plain k (word place 0 P) ≡ None
-plain_zero T (OfMessage m) place P = refl
-plain_zero T _ place P = refl
-
-member_zero : (T : Table) (o : ℕ) (k : Kind) (place : ℕ) (P : Placed) → slot_content T (Member o) k (word place 0 P) ≡ None
-member_zero T o (OfMessage m) place P = refl
-member_zero T o _ place P = refl
-
-content_zero : (T : Table) (l : Label) (k : Kind) (place : ℕ) (P : Placed) → slot_content T l k (word place 0 P) ≡ None
-content_zero T Optional k place P = refl
-content_zero T Repeated k place P = refl
-content_zero T Packed k place P = refl
-content_zero T (Map key) k place P = refl
-content_zero T Plain k place P = plain_zero T k place P
-content_zero T (Member o) k place P = member_zero T o k place P
-
-pub slot_absent : (T : Table) (l : Label) (k : Kind) (place depth v : ℕ) (before mid : List (ℕ × ℕ)) → Gives before v mid → v ≡ 0
-    → TakesWord T (slot_role l k depth, place) before mid (λ w. None ≡ slot_content T l k w)
-slot_absent T l k place depth v before mid gives absent = λ H n content rest small fine sound is.
-    let g = gives (place, n) (loads content ++ rest) is in
-    let n_zero : n ≡ 0 = sym g.0 ∙ absent in
-    let none = zero_slot T l k place depth H content
-    (subst (λ n. AreSound T H (behind T (slot_role l k depth) place n) content) n_zero sound)
-    (subst (IsFine T H (slot_role l k depth)) n_zero fine) in
-    (sym (ap (λ n. slot_content T l k (word place n content)) n_zero ∙ content_zero T l k place content), g.1 ∙ ap (λ P. loads P ++ rest) none)
-
 -- what a slot says by its label
 pub plain_says : (T : Table) (k : Kind) (place v : ℕ) (P : Placed) → slot_content T Plain k (word place v P) ≡ (if v == 0 then None else Some (one (plain_item T k (word place v P))))
 plain_says T (OfMessage m) place v P = refl
@@ -159,16 +97,6 @@ member_says T o (OfMessage m) place v P = refl
 member_says T o _ place v P = refl
 
 -- ---- optional slots
-
-optional_given : (T : Table) (k : Kind) (place v x : ℕ) (before after : List (ℕ × ℕ)) → v ≢ 0 → Gives before x after
-    → (H : ℕ) (content : Placed) (rest : List (ℕ × ℕ))
-    → AreSound T H (if v == 0 then [] else (value k, place + 1) ∷ []) content → before ≡ loads content ++ rest
-    → (number x ≡ number (number_at content)) × (after ≡ rest)
-optional_given T k place v x before after some gives H content rest sound is =
-    let inner = subst (λ b. AreSound T H (cond b [] ((value k, place + 1) ∷ [])) content) (ne_eqb v 0 some) sound in
-    let w = one_of T H (value k, place + 1) content rest before inner is in
-    let g = gives (place + 1, w.number) (loads w.content ++ rest) w.now_is in
-    (ap number g.0 ∙ sym (ap (λ P. number (number_at P)) w.is), g.1 ∙ ap (λ P. loads P ++ rest) (sound_none T H w.content w.sound))
 
 -- a run behind its length and one more is a run behind its length
 less_one : (T : Table) (H : ℕ) (k : Kind) (place v n : ℕ) (P : Placed) → v ≢ 0 → n ≡ v - 1
@@ -192,27 +120,6 @@ optional_bytes : (T : Table) (k : Kind) (place v n : ℕ) (before after : List (
 optional_bytes T k place v n before after bytes some is_less made = λ H content rest fine sound is.
     let m = made T k place H content rest (less_fine T H k v n is_less fine) (less_one T H k place v n content some is_less sound) is in
     (ap run (m.0 ∙ ap (λ j. run_at j content) is_less), m.1)
-
-pub optional_number : (T : Table) (k : Kind) (place v x : ℕ) (before after : List (ℕ × ℕ)) → (shape_of k ≡ Run → ⊥) → v ≢ 0 → Gives before x after
-    → TakesBehind T (optional_role k, place) v before after (λ P. number x ≡ optional_item k v P)
-optional_number T Text place v x before after shape some gives = absurd (shape refl)
-optional_number T Octets place v x before after shape some gives = absurd (shape refl)
-optional_number T Int32 place v x before after shape some gives = λ H content rest fine sound is. optional_given T Int32 place v x before after some gives H content rest sound is
-optional_number T Int64 place v x before after shape some gives = λ H content rest fine sound is. optional_given T Int64 place v x before after some gives H content rest sound is
-optional_number T Uint32 place v x before after shape some gives = λ H content rest fine sound is. optional_given T Uint32 place v x before after some gives H content rest sound is
-optional_number T Uint64 place v x before after shape some gives = λ H content rest fine sound is. optional_given T Uint64 place v x before after some gives H content rest sound is
-optional_number T Sint32 place v x before after shape some gives = λ H content rest fine sound is. optional_given T Sint32 place v x before after some gives H content rest sound is
-optional_number T Sint64 place v x before after shape some gives = λ H content rest fine sound is. optional_given T Sint64 place v x before after some gives H content rest sound is
-optional_number T TheBool place v x before after shape some gives = λ H content rest fine sound is. optional_given T TheBool place v x before after some gives H content rest sound is
-optional_number T Fixed32 place v x before after shape some gives = λ H content rest fine sound is. optional_given T Fixed32 place v x before after some gives H content rest sound is
-optional_number T Fixed64 place v x before after shape some gives = λ H content rest fine sound is. optional_given T Fixed64 place v x before after some gives H content rest sound is
-optional_number T Sfixed32 place v x before after shape some gives = λ H content rest fine sound is. optional_given T Sfixed32 place v x before after some gives H content rest sound is
-optional_number T Sfixed64 place v x before after shape some gives = λ H content rest fine sound is. optional_given T Sfixed64 place v x before after some gives H content rest sound is
-optional_number T Float place v x before after shape some gives = λ H content rest fine sound is. optional_given T Float place v x before after some gives H content rest sound is
-optional_number T Double place v x before after shape some gives = λ H content rest fine sound is. optional_given T Double place v x before after some gives H content rest sound is
-optional_number T (OfMessage m) place v x before after shape some gives = λ H content rest fine sound is.
-    optional_given T (OfMessage m) place v x before after some gives H content rest sound is
-optional_number T (Choice i) place v x before after shape some gives = λ H content rest fine sound is. optional_given T (Choice i) place v x before after some gives H content rest sound is
 
 pub optional_run : (T : Table) (k : Kind) (place v n : ℕ) (before after : List (ℕ × ℕ)) (bytes : List ℕ) → shape_of k ≡ Run → v ≢ 0 → n ≡ v - 1
     → ((T : Table) (k : Kind) (place : ℕ) → TakesBehind T (run_length k, place) n before after (λ P. bytes ≡ run_at n P))

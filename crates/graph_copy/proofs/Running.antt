@@ -7,7 +7,7 @@ use Rattle.std.proofs.lemmas.Bool.Decides.{leb_tells}
 use Rattle.mrpc_table.specs.declared.table.Kind.{Kind}
 use Rattle.mrpc_table.specs.declared.table.Table.{Table}
 use Rattle.graph_form.specs.Roles.{behind, run_length, run_address, run_word, word_bytes}
-use Rattle.graph_form.specs.Placed.{Placed, nothing, loads, AreSound}
+use Rattle.graph_form.specs.Placed.{Placed, loads, AreSound}
 use Rattle.graph_form.specs.Forgotten.{chain_bytes, run_at}
 use Rattle.graph_copy.specs.Makes.{TakesBehind}
 use Rattle.graph_copy.proofs.Taking.{sound_none, one_of}
@@ -90,18 +90,9 @@ run_ends start bytes left v now next done made on le count gives is T H k place 
 
 -- ---- behind the length
 
-pub run_none : (T : Table) (H : ℕ) (k : Kind) (place bytes : ℕ) (P : Placed) → bytes ≡ 0 → AreSound T H (behind T (run_length k) place bytes) P → P ≡ nothing
-run_none T H k place bytes P none h = sound_none T H P (subst (λ n. AreSound T H (behind T (run_length k) place n) P) none h)
-
 pub run_some : (T : Table) (H : ℕ) (k : Kind) (place bytes : ℕ) (P : Placed) → bytes ≢ 0
     → AreSound T H (behind T (run_length k) place bytes) P → AreSound T H ((run_address k bytes, place + 1) ∷ []) P
 run_some T H k place bytes P some h = subst (λ b. AreSound T H (cond b [] ((run_address k bytes, place + 1) ∷ [])) P) (ne_eqb bytes 0 some) h
-
-pub run_nothing : (bytes : ℕ) (before : List (ℕ × ℕ)) → bytes ≡ 0 → (T : Table) (k : Kind) (place : ℕ)
-    → TakesBehind T (run_length k, place) bytes before before (λ P. [] ≡ run_at bytes P)
-run_nothing bytes before is_zero T k place = λ H content rest fine sound is.
-    let none = run_none T H k place bytes content is_zero sound in
-    (ap (run_at bytes) (sym none), is ∙ ap (λ Q. loads Q ++ rest) none)
 
 pub run_done : (before start next : List (ℕ × ℕ)) (bytes left a v : ℕ) (now : List (ℕ × ℕ)) (done made : List ℕ)
     → bytes ≢ 0 → Gives before a start → RunsOn start bytes left now done → left ≤ 8 → bytes ≡ length done + left

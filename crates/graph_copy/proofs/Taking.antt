@@ -8,10 +8,6 @@ pub sound_none : (T : Table) (H : ℕ) (P : Placed) → AreSound T H [] P → P 
 sound_none T H nothing h = refl
 sound_none T H (first w others) h = absurd h
 
--- nothing was expected, and the loads stay
-pub none_taken : (T : Table) (H : ℕ) (P : Placed) (rest now : List (ℕ × ℕ)) → AreSound T H [] P → now ≡ loads P ++ rest → now ≡ rest
-none_taken T H P rest now sound is = is ∙ ap (λ Q. loads Q ++ rest) (sound_none T H P sound)
-
 -- the first of some words
 pub record FirstOf (T : Table) (H : ℕ) (e : Use × ℕ) (es : Expected) (P : Placed) (rest now : List (ℕ × ℕ)) : Type 0 where
   pub number : ℕ

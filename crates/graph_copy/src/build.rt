@@ -47,8 +47,8 @@ impl Tape<'_> {
     }
 }
 
-/// The tree of the message at a place of the table whose words these are.
-pub fn make_tree(
+// The tree of the message at a place of the table whose words these are.
+pub(crate) fn make_tree(
     alloc: Global,
     table: &Table,
     message: u32,

@@ -20,8 +20,8 @@ use graph_form::{Reason, size_words};
 use mrpc_table::{Kind, Memory, Table};
 
 impl Walk {
-    /// Goes on behind a word with this value; or why it offends, first.
-    pub fn follow(
+    // Goes on behind a word with this value; or why it offends, first.
+    pub(crate) fn follow(
         &mut self,
         table: &Table,
         next: Next,

@@ -16,15 +16,15 @@ use crate::role::Role;
 use graph_form::{Reason, element_words, run_words, size_words};
 use mrpc_table::{Kind, Label, MAX_DEPTH, Table};
 
-/// Whether a span of words lies in a heap, whose word 0 belongs to nobody.
-pub fn lies_in(size: u64, place: u64, words: u64) -> bool
+// Whether a span of words lies in a heap, whose word 0 belongs to nobody.
+pub(crate) fn lies_in(size: u64, place: u64, words: u64) -> bool
     ensures { IsTrue result ↔ LiesIn size place words }
 {
     place >= 1 && place <= size && words <= size - place
 }
 
-/// Why a word of the role offends in a heap of a size, first; none where it doesn't.
-pub fn offence(table: &Table, size: u64, role: Role, value: u64) -> Option<Reason>
+// Why a word of the role offends in a heap of a size, first; none where it doesn't.
+pub(crate) fn offence(table: &Table, size: u64, role: Role, value: u64) -> Option<Reason>
     requires valid { IsValid table.now }
     requires least { 1 ≤ size }
     requires most { size ≤ MAX_HEAP }

@@ -10,8 +10,8 @@ ghost use Rattle.graph_form.specs.Roles.{own_slots, is_member};
 use graph_form::is_member;
 use mrpc_table::{Field, Table};
 
-/// The field of a number in the message at a place of the table.
-pub fn field_of(table: &Table, message: u32, number: u64) -> Option<&Field>
+// The field of a number in the message at a place of the table.
+pub(crate) fn field_of(table: &Table, message: u32, number: u64) -> Option<&Field>
     requires { IsValid table.now }
     ensures { option_copied result ≡ field_at (fields_of table.now message) number }
 {
@@ -21,8 +21,8 @@ pub fn field_of(table: &Table, message: u32, number: u64) -> Option<&Field>
     }
 }
 
-/// The place of the next field with a slot of its own, from a place on.
-pub fn next_slot(fields: &[Field], from: usize) -> Option<usize>
+// The place of the next field with a slot of its own, from a place on.
+pub(crate) fn next_slot(fields: &[Field], from: usize) -> Option<usize>
     ensures none { IfNone result (own_slots (drop from fields.now) ≡ []) }
     ensures ahead { IfSome result (λ place. from ≤ place) }
     ensures within { IfSome result (λ place. place < length fields.now) }

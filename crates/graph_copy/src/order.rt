@@ -7,8 +7,8 @@ ghost use Rattle.graph_copy.specs.Makes.{insert_all};
 
 use mrpc_table::{Memory, Numbered};
 
-/// The fields by ascending number. Only those of oneofs can be out of order.
-pub fn in_order(fields: Numbered) -> Result<Numbered, Memory>
+// The fields by ascending number. Only those of oneofs can be out of order.
+pub(crate) fn in_order(fields: Numbered) -> Result<Numbered, Memory>
     ensures { IfOk result (λ sorted. node_of sorted.items ≡ insert_all fields.items no_fields) }
 {
     if ascends(&fields) {

@@ -8,53 +8,53 @@ ghost use Rattle.graph_copy.specs.Expects.{role_of};
 
 use mrpc_table::{Kind, Label};
 
-/// What a word is for. A depth is that of the message in which the word stands, the root counting 1.
+// What a word is for. A depth is that of the message in which the word stands, the root counting 1.
 #[derive(Clone, Copy)]
-pub enum Role {
-    /// A number of the kind.
+pub(crate) enum Role {
+    // A number of the kind.
     Value(Kind),
-    /// 0, or 1 where the number follows.
+    // 0, or 1 where the number follows.
     Presence(Kind),
-    /// The length of a run.
+    // The length of a run.
     RunLength(Kind),
-    /// 0 where the run is absent, else its length plus 1.
+    // 0 where the run is absent, else its length plus 1.
     RunPresence(Kind),
-    /// The address of a run of so many bytes.
+    // The address of a run of so many bytes.
     RunAddress {
         kind: Kind,
         bytes: u64,
     },
-    /// The address of a message; 0 is one that is absent, unless it must be there.
+    // The address of a message; 0 is one that is absent, unless it must be there.
     Link {
         message: u32,
         depth: u32,
         needed: bool,
     },
-    /// The number of elements.
+    // The number of elements.
     Count {
         kind: Kind,
         depth: u32,
     },
-    /// The address of so many elements.
+    // The address of so many elements.
     Elements {
         kind: Kind,
         count: u64,
         depth: u32,
     },
-    /// The number of entries of a map.
+    // The number of entries of a map.
     EntryCount {
         key: Kind,
         kind: Kind,
         depth: u32,
     },
-    /// The address of so many entries.
+    // The address of so many entries.
     Entries {
         key: Kind,
         kind: Kind,
         count: u64,
         depth: u32,
     },
-    /// The number of the member that a oneof of the message has, or 0.
+    // The number of the member that a oneof of the message has, or 0.
     Case {
         message: u32,
         oneof: u32,
@@ -62,19 +62,19 @@ pub enum Role {
     },
 }
 
-/// How a value of a kind lies in words.
+// How a value of a kind lies in words.
 #[derive(Clone, Copy)]
-pub enum Shape {
-    /// In one word.
+pub(crate) enum Shape {
+    // In one word.
     Number,
-    /// In a run of bytes.
+    // In a run of bytes.
     Run,
-    /// In the node of the message at this place of the table.
+    // In the node of the message at this place of the table.
     Message(u32),
 }
 
-/// How a value of the kind lies in words.
-pub fn shape_of(kind: Kind) -> Shape
+// How a value of the kind lies in words.
+pub(crate) fn shape_of(kind: Kind) -> Shape
     ensures { result ≡ shape_of kind }
 {
     match kind {
@@ -84,8 +84,8 @@ pub fn shape_of(kind: Kind) -> Shape
     }
 }
 
-/// The first word of a plain slot.
-pub fn plain_role(kind: Kind, depth: u32, needed: bool) -> Role
+// The first word of a plain slot.
+pub(crate) fn plain_role(kind: Kind, depth: u32, needed: bool) -> Role
     ensures { (T : Table) → role_of T result ≡ plain_role kind depth needed }
 {
     match shape_of(kind) {
@@ -109,8 +109,8 @@ fn optional_role(kind: Kind) -> Role
     }
 }
 
-/// The first word of a field's slot.
-pub fn slot_role(label: Label, kind: Kind, depth: u32) -> Role
+// The first word of a field's slot.
+pub(crate) fn slot_role(label: Label, kind: Kind, depth: u32) -> Role
     ensures { (T : Table) → role_of T result ≡ slot_role label kind depth }
 {
     match label {

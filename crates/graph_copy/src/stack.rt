@@ -7,9 +7,9 @@ use mrpc_table::Memory;
 use std::alloc::Global;
 use std::marker::Model;
 
-/// Some frames. Contracts see them as a list, of which the last one is taken first.
+// Some frames. Contracts see them as a list, of which the last one is taken first.
 #[derive(Drop)]
-pub struct Stack {
+pub(crate) struct Stack {
     below: Vec<Frame>,
     top: Option<Frame>,
 }
@@ -25,8 +25,8 @@ impl Model for Stack {
 }
 
 impl Stack {
-    /// No frames. It takes no memory.
-    pub fn new(alloc: Global) -> Stack
+    // No frames. It takes no memory.
+    pub(crate) fn new(alloc: Global) -> Stack
         ensures { result ≡ [] }
     {
         Stack {
@@ -35,8 +35,8 @@ impl Stack {
         }
     }
 
-    /// Puts a frame behind the others.
-    pub fn push(&mut self, frame: Frame) -> Result<(), Memory>
+    // Puts a frame behind the others.
+    pub(crate) fn push(&mut self, frame: Frame) -> Result<(), Memory>
         ensures { OnOk result (self.new ≡ self.old ++ frame ∷ []) }
     {
         if let Some(top) = self.top {
@@ -46,8 +46,8 @@ impl Stack {
         Ok(())
     }
 
-    /// Takes the last frame.
-    pub fn pop(&mut self) -> Option<Frame>
+    // Takes the last frame.
+    pub(crate) fn pop(&mut self) -> Option<Frame>
         ensures some { IfSome result (λ frame. self.old ≡ self.new ++ frame ∷ []) }
         ensures none { IfNone result (self.old ≡ []) }
         ensures same { IfNone result (self.new ≡ []) }

@@ -13,11 +13,11 @@ use graph_form::Reason;
 use mrpc_base::Words;
 use mrpc_table::{Memory, Table};
 
-/// The loads that were made, each a place and a value.
-pub type Loads = Vec<(u64, u64)>;
+// The loads that were made, each a place and a value.
+pub(crate) type Loads = Vec<(u64, u64)>;
 
-/// Loads what is expected, and what that leads to; or why it stops.
-pub fn take_words<W: Words>(
+// Loads what is expected, and what that leads to; or why it stops.
+pub(crate) fn take_words<W: Words>(
     words: &mut W,
     table: &Table,
     walk: &mut Walk,

@@ -15,36 +15,36 @@ use graph_form::{element_words, oneofs_of};
 use mrpc_table::{Kind, Memory, Table};
 use std::alloc::Global;
 
-/// Some words that are expected, one behind another.
+// Some words that are expected, one behind another.
 #[derive(Clone, Copy)]
-pub enum Frame {
-    /// One word.
+pub(crate) enum Frame {
+    // One word.
     Word {
         role: Role,
         place: u64,
     },
-    /// The slots of a message's fields from a place in its list on.
+    // The slots of a message's fields from a place in its list on.
     Slots {
         message: u32,
         field: usize,
         depth: u32,
         place: u64,
     },
-    /// The slots of a message's oneofs from one on.
+    // The slots of a message's oneofs from one on.
     Oneofs {
         message: u32,
         oneof: u32,
         depth: u32,
         place: u64,
     },
-    /// So many elements.
+    // So many elements.
     Elements {
         kind: Kind,
         left: u64,
         depth: u32,
         place: u64,
     },
-    /// So many entries.
+    // So many entries.
     Entries {
         key: Kind,
         kind: Kind,
@@ -54,24 +54,24 @@ pub enum Frame {
     },
 }
 
-/// The next word of a run: so many bytes are left with it.
+// The next word of a run: so many bytes are left with it.
 #[derive(Clone, Copy)]
-pub struct RunWord {
+pub(crate) struct RunWord {
     pub kind: Kind,
     pub left: u64,
     pub place: u64,
 }
 
-/// The word that is loaded next.
+// The word that is loaded next.
 #[derive(Clone, Copy)]
-pub enum Next {
+pub(crate) enum Next {
     Word { role: Role, place: u64 },
     Run(RunWord),
 }
 
 impl Next {
-    /// Where the word stands.
-    pub fn place(self) -> u64
+    // Where the word stands.
+    pub(crate) fn place(self) -> u64
         ensures { (T : Table) (bytes : List ℕ) → result ≡ (next_word T bytes self).1 }
     {
         match self {
@@ -81,20 +81,20 @@ impl Next {
     }
 }
 
-/// The words that are expected of a graph, in a heap of a size: those of the run that is being loaded, and then
-/// those of the frames, the last one first.
+// The words that are expected of a graph, in a heap of a size: those of the run that is being loaded, and then
+// those of the frames, the last one first.
 #[derive(Drop)]
-pub struct Walk {
+pub(crate) struct Walk {
     pub size: u64,
     pub run: Option<RunWord>,
-    /// The bytes of the run so far.
+    // The bytes of the run so far.
     pub bytes: Vec<u8>,
     pub frames: Stack,
 }
 
 impl Walk {
-    /// Nothing is expected.
-    pub fn new(alloc: Global, size: u64) -> Walk
+    // Nothing is expected.
+    pub(crate) fn new(alloc: Global, size: u64) -> Walk
         ensures size { result.size ≡ size }
         ensures run { result.run ≡ None }
         ensures expected { (T : Table) → expected T result ≡ [] }
@@ -107,8 +107,8 @@ impl Walk {
         }
     }
 
-    /// The words of a frame are expected before those of the others.
-    pub fn push(&mut self, frame: Frame) -> Result<(), Memory>
+    // The words of a frame are expected before those of the others.
+    pub(crate) fn push(&mut self, frame: Frame) -> Result<(), Memory>
         ensures frames { OnOk result ((T : Table)
             → stack_words T self.new.frames ≡ frame_words T frame ++ stack_words T self.old.frames) }
         ensures size { self.new.size ≡ self.old.size }
@@ -119,8 +119,8 @@ impl Walk {
         Ok(())
     }
 
-    /// The words of a node of the message at a place of the table are expected before all others.
-    pub fn expect_node(
+    // The words of a node of the message at a place of the table are expected before all others.
+    pub(crate) fn expect_node(
         &mut self,
         table: &Table,
         message: u32,
@@ -156,8 +156,8 @@ impl Walk {
         Ok(())
     }
 
-    /// Takes the word that is loaded next; none where no more is expected.
-    pub fn next(&mut self, table: &Table) -> Result<Option<Next>, Memory>
+    // Takes the word that is loaded next; none where no more is expected.
+    pub(crate) fn next(&mut self, table: &Table) -> Result<Option<Next>, Memory>
         requires valid { IsValid table.now }
         requires fits { AllFit self.old.size (expected table.now self.old) }
         requires size { self.old.size ≤ MAX_HEAP }

@@ -210,10 +210,6 @@ sound-not_led T H reading es xs ys e rest h g r s le =
     let on = goes-on T H reading 1 es [] (e ∷ rest) xs ys h g r s le in
     nothing-more T H on.more e rest on.leads
 
--- the value of the word at which loads end is that of the reading
-last-value : (reading : ℕ → ℕ → ℕ) (ys : List (ℕ × ℕ)) (x : ℕ × ℕ) → ReadsBy reading 1 (ys ++ x ∷ []) → x.1 ≡ reading (1 + length ys) x.0
-last-value reading ys x r = (reads-front reading 1 ys (x ∷ []) r).1.0
-
 -- loads that end at an offence aren't the front of further ones
 offence-last : (T : Table) (H : ℕ) (reading : ℕ → ℕ → ℕ) (es to : Expected) (ys zs : List (ℕ × ℕ)) (e : Role × ℕ)
     (rest : Expected) (v : ℕ) (reason : Reason) → LeadsTo T H es ys (e ∷ rest) → OffendsFirst T H e.0 v reason

@@ -1,5 +1,5 @@
 -- Which graphs are malformed: the loads that were made of one, up to the word that ends them, and for which reason.
-use Rattle.std.specs.Prelude.{◌≡◌, ◌+◌, ◌<◌, ◌≤◌, ℕ, List, [], ◌∷◌, ◌++◌, length, map, All}
+use Rattle.std.specs.Prelude.{◌≡◌, ◌+◌, ◌≤◌, ℕ, List, [], ◌∷◌, ◌++◌, length, map, All}
 use Rattle.mrpc_table.specs.Node.{Node}
 use Rattle.mrpc_table.specs.declared.table.Table.{Table}
 use Rattle.graph_form.specs.declared.reason.Reason.{Reason}

@@ -63,14 +63,6 @@ fields_known T fs last (field n c t) h = (known_content T fs n c h.1, fields_kno
 
 -- ---- slots of fields
 
-pub number_at_field : (fs : List Field) (n : ℕ) (f : Field) → field_at fs n ≡ Some f → f.number ≡ n
-number_at_field [] n f at = absurd (cc)
-number_at_field (g ∷ fs) n f at =
-    elim (eqb_tells g.number n) [
-      | inl same ↦ let e : Some g ≡ Some f = sym (ap (λ b. cond b (Some g) (field_at fs n)) same.0) ∙ at in let h : g ≡ f = cc in sym (ap (λ x. x.number) h) ∙ same.1
-      | inr other ↦ number_at_field fs n f (sym (ap (λ b. cond b (Some g) (field_at fs n)) other.0) ∙ at)
-    ]
-
 pub member_at : (fs : List Field) (n : ℕ) (f : Field) → field_at fs n ≡ Some f → is_member_at fs n ≡ is_member f.label
 member_at [] n f at = absurd (cc)
 member_at (g ∷ fs) n f at =

@@ -20,17 +20,17 @@ use graph_form::{element_words, is_member, oneofs_of, run_words, size_words};
 use mrpc_table::{Entries, Field, FieldValue, Kind, Label, Memory, Table, Tree, Value, Values};
 use std::alloc::Global;
 
-/// The words so far, in the order in which they are loaded, and the place from which on nothing stands yet.
+// The words so far, in the order in which they are loaded, and the place from which on nothing stands yet.
 #[derive(Drop)]
-pub struct Builder {
-    /// Each a place and a value.
+pub(crate) struct Builder {
+    // Each a place and a value.
     pub words: Vec<(u64, u64)>,
     pub free: u64,
 }
 
 impl Builder {
-    /// No words, with room for so many.
-    pub fn new(alloc: Global, free: u64, room: u64) -> Result<Builder, Memory>
+    // No words, with room for so many.
+    pub(crate) fn new(alloc: Global, free: u64, room: u64) -> Result<Builder, Memory>
         ensures words { IfOk result (λ builder. builder.words.items ≡ []) }
         ensures free { IfOk result (λ builder. builder.free ≡ free) }
     {
@@ -61,9 +61,9 @@ impl Builder {
         place
     }
 
-    /// A message: the slots of its fields, and then those of its oneofs, each with its content.
+    // A message: the slots of its fields, and then those of its oneofs, each with its content.
     #[cycle(builder)]
-    pub fn node(&mut self, table: &Table, message: u32, tree: &Tree) -> Result<(), Memory>
+    pub(crate) fn node(&mut self, table: &Table, message: u32, tree: &Tree) -> Result<(), Memory>
         requires valid { IsValid table.now }
         requires fields { HasFields table.now (fields_of table.now message) 0 tree.now }
         requires oneofs { OneMemberEach (fields_of table.now message) tree.now }

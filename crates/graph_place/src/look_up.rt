@@ -12,8 +12,8 @@ ghost use Rattle.graph_place.specs.Content.{is_of, is_member_of, member_of};
 
 use mrpc_table::{FieldValue, Kind, Label, MAX_FIELDS, Table, Tree, Value};
 
-/// The kind of the field of a number in the message at a place of the table.
-pub fn kind_of(table: &Table, message: u32, number: u32) -> Kind
+// The kind of the field of a number in the message at a place of the table.
+pub(crate) fn kind_of(table: &Table, message: u32, number: u32) -> Kind
     requires { IsValid table.now }
     ensures { result ≡ kind_at (fields_of table.now message) number }
 {
@@ -23,8 +23,8 @@ pub fn kind_of(table: &Table, message: u32, number: u32) -> Kind
     }
 }
 
-/// The value that a tree has under a number, if it has a single one there.
-pub fn value_of(tree: &Tree, number: u32) -> Option<&Value>
+// The value that a tree has under a number, if it has a single one there.
+pub(crate) fn value_of(tree: &Tree, number: u32) -> Option<&Value>
     requires { NumbersAscend 0 tree.now }
     ensures some { IfSome result (λ value. content_at tree.now number ≡ Some (one (item_of value.now))) }
     ensures less { IfSome result (λ value. item_weight (item_of value.now) < weight tree.now) }
@@ -39,8 +39,8 @@ pub fn value_of(tree: &Tree, number: u32) -> Option<&Value>
     }
 }
 
-/// For each oneof of a message, the number of the member that the tree has, or 0.
-pub fn members_of(table: &Table, message: u32, tree: &Tree) -> [u32; MAX_FIELDS]
+// For each oneof of a message, the number of the member that the tree has, or 0.
+pub(crate) fn members_of(table: &Table, message: u32, tree: &Tree) -> [u32; MAX_FIELDS]
     requires { IsValid table.now }
     ensures { (oneof : ℕ) → slice_index result oneof ≡ member_of (fields_of table.now message) oneof 0 tree.now }
 {

@@ -57,7 +57,10 @@ headed line column sentence = decimal line ++ codes ":" ++ decimal column ++ cod
 
 -- a part of a line, and under it a mark for each column from a place up to another, and one at the least
 abbrev pub marked : List ℕ → Bool → ℕ → ℕ → ℕ → ℕ → List ℕ
-marked text is_utf8 from at stop to = flat_map (legible is_utf8) (part text from to) ++ codes "\n" ++ flat_map (under 32 is_utf8) (part text from at) ++ codes "^" ++ flat_map (under 94 is_utf8) (part text (at + 1) stop) ++ codes "\n"
+marked text is_utf8 from at stop to =
+    flat_map (legible is_utf8) (part text from to) ++ codes "\n"
+    ++ flat_map (under 32 is_utf8) (part text from at) ++ codes "^"
+    ++ flat_map (under 94 is_utf8) (part text (at + 1) stop) ++ codes "\n"
 
 -- the part of the line that is shown has `width` bytes at the most: it begins at most half of them in front of the
 -- place, and the mark goes up to `end`, or as far as the part goes

@@ -5,19 +5,19 @@ ghost use Rattle.line_mark.specs.Pointing.{line_at, BeginsLine, EndsLine, IsLine
 
 use mrpc_table::line_count;
 
-/// The line that a place of a text stands in.
+// The line that a place of a text stands in.
 #[derive(Clone, Copy)]
 pub(crate) struct LineAt {
-    /// Its number, from 1.
+    // Its number, from 1.
     pub number: usize,
-    /// Where it begins in the text, from 0.
+    // Where it begins in the text, from 0.
     pub start: usize,
-    /// Where it ends in the text: at its line feed, or at the end of the text.
+    // Where it ends in the text: at its line feed, or at the end of the text.
     pub end: usize,
 }
 
 impl LineAt {
-    /// The line of a place of a text.
+    // The line of a place of a text.
     pub(crate) fn of(text: &[u8], at: usize) -> LineAt
         requires within { at ≤ length text.now }
         requires countable { length text.now < 2 ^ 63 }

@@ -1,5 +1,5 @@
 -- Pieces that go to a writer and come back from it.
-use Rattle.std.proofs.Common.{◌≡◌, ℕ, Bool, true, false, true≢false, List, [], ◌∷◌, ◌++◌, Option, None, Some, length}
+use Rattle.std.proofs.Common.{◌≡◌, ℕ, Bool, true, false, true≢false, List, [], ◌∷◌, ◌++◌, Some, length}
 use Rattle.std.proofs.Common.{take, drop, refl, ap, sym, ◌∙◌, append_assoc, subst, inl, inr, ⊎_elim}
 use Rattle.std.proofs.lemmas.List.{append-nil, take-append-drop}
 use Rattle.std.proofs.Math.Seq.{take-length, take-append_seam}
@@ -216,12 +216,6 @@ told_ended pieces m apart a = among_front End m (marks_of pieces) apart (subst (
 
 pub told_failed : (pieces : List (Piece News)) (m : News) → (m ≡ Failed → ⊥) → Among Failed (marks_of (pieces ++ Mark m ∷ [])) → Among Failed (marks_of pieces)
 told_failed pieces m apart a = among_front Failed m (marks_of pieces) apart (subst (Among Failed) (marks_snoc_mark pieces m) a)
-
--- nothing is left to bring once the end was told
-pub ended_holds_none : (held : Option (Piece News)) → may_hold true held ≡ true → held_bytes held ≡ []
-ended_holds_none None h = refl
-ended_holds_none (Some (Bytes b)) h = absurd (cc (h))
-ended_holds_none (Some (Mark m)) h = refl
 
 -- ---- beginnings
 module _ {A : Type 0} where

@@ -11,11 +11,11 @@ use Rattle.link_queue.specs.declared.marks.News.TheVariants.{End, Failed, Memory
 use Rattle.link_queue.specs.declared.marks.Health.{Health}
 use Rattle.link_queue.specs.declared.marks.Health.TheVariants.{Working, Failed as HasFailed, Memory as LacksMemory}
 use Rattle.link_queue.specs.Known.{BeginsWith}
-use Rattle.link_queue.specs.Marks.{Among, is_open, is_closed, ends_once, held_bytes, may_hold, IsNewsOf, PassesOn, BringsBack, HasBroughtBack}
+use Rattle.link_queue.specs.Marks.{Among, is_open, is_closed, ends_once, held_bytes, may_hold, IsNewsOf, PassesOn, BringsBack}
 use Rattle.link_queue.proofs.Pieces.{frames_snoc_bytes, frames_snoc_mark, open_snoc_bytes, open_snoc_finish}
 use Rattle.link_queue.proofs.Pieces.{closed_snoc_close, put_bytes, put_ends, put_ended, put_failed, told_ended}
-use Rattle.link_queue.proofs.Pieces.{told_failed, ends_snoc_mark, bytes_snoc_mark, ended_holds_none, begins_same}
-use Rattle.link_queue.proofs.Pieces.{begins_append, begins_more}
+use Rattle.link_queue.proofs.Pieces.{told_failed, ends_snoc_mark, bytes_snoc_mark, begins_same}
+use Rattle.link_queue.proofs.Pieces.{begins_more}
 
 -- ---- to the inner link
 
@@ -83,17 +83,6 @@ close_was_passed taken taken' passed passed' closed health health' unclosed more
       whole = λ e. same ∙ h.whole (sym stays ∙ e) ∙ sym all;
     }
 
--- the inner link may fail from now on
-pub passes_on_less : (taken : List (Piece Order)) (passed passed' : List (List ℕ)) (closed : Bool)
-    (before after : Health) → before ≡ Working → passed' ≡ passed → PassesOn taken passed closed before
-    → PassesOn taken passed' closed after
-passes_on_less taken passed passed' closed before after works same h = record {
-  unclosed = h.unclosed;
-  closed_last = h.closed_last;
-  in_order = subst (λ (l : List (List ℕ)). BeginsWith (frames_of taken) l) (sym same) h.in_order;
-  whole = λ _. same ∙ h.whole works;
-}
-
 -- ---- back from it
 
 -- what was held went into the queue
@@ -111,14 +100,6 @@ held_was_put put put' piece held held' came ended health was is more h =
       holds = ap (λ (o : Option (Piece News)). may_hold ended o) is;
       failed_first = λ a. h.failed_first (put_failed ended put piece may (subst (λ (l : List (Piece News)). Among Failed (marks_of l)) more a));
     }
-
--- what was held stays so
-pub held_is_kept : (put put' : List (Piece News)) (held held' : Option (Piece News)) (came : List ℕ) (ended : Bool)
-    (health : Health) → held' ≡ held → put' ≡ put → BringsBack put held came ended health
-    → BringsBack put' held' came ended health
-held_is_kept put put' held held' came ended health is same h =
-    subst (λ (p : List (Piece News) × Option (Piece News)). BringsBack p.0 p.1 came ended health)
-    (λ i. (sym same i, sym is i)) h
 
 -- the inner link may fail from now on
 pub brings_back_still : (put : List (Piece News)) (held : Option (Piece News)) (came came' : List ℕ)
@@ -163,44 +144,4 @@ news_was_told Memory put put' held came ended health so more h holds = record {
   ended_first = λ a. h.ended_first (told_ended put Memory (λ e. cc (e)) (subst (λ (l : List (Piece News)). Among End (marks_of l)) more a));
   holds = h.holds;
   failed_first = λ a. h.failed_first (told_failed put Memory (λ e. cc (e)) (subst (λ (l : List (Piece News)). Among Failed (marks_of l)) more a));
-}
-
--- bytes came
-pub bytes_came : (put : List (Piece News)) (held : Option (Piece News)) (bytes came came' : List ℕ)
-    (ended ended' : Bool) (before after : Health) → held ≡ None → ended ≡ false → ended' ≡ ended → before ≡ Working
-    → came' ≡ came ++ bytes
-    → BringsBack put held came ended before → BringsBack put (Some (Bytes bytes)) came' ended' after
-bytes_came put held bytes came came' ended ended' before after holds unended stays works more h =
-    let brought : bytes_of put ≡ came = sym (append-nil (bytes_of put)) ∙ ap (λ (o : Option (Piece News)). bytes_of put ++ held_bytes o) (sym holds) ∙ h.in_order in
-    record {
-      in_order = ap (λ (l : List ℕ). l ++ bytes) brought ∙ sym more;
-      ends_once = h.ends_once;
-      ended_first = λ a. stays ∙ h.ended_first a;
-      holds = ap (λ e. may_hold e (Some (Bytes bytes))) (stays ∙ unended);
-      failed_first = λ a. absurd (cc (works, h.failed_first a));
-    }
-
--- the inner link answered that the other side has finished
-pub end_came : (put : List (Piece News)) (held : Option (Piece News)) (came came' : List ℕ) (ended ended' : Bool)
-    (before after : Health) → held ≡ None → ended' ≡ true → before ≡ Working → came' ≡ came
-    → BringsBack put held came ended before → BringsBack put (Some (Mark End)) came' ended' after
-end_came put held came came' ended ended' before after holds now works same h = record {
-  in_order = ap (λ (o : Option (Piece News)). bytes_of put ++ held_bytes o) (sym holds) ∙ h.in_order ∙ sym same;
-  ends_once = h.ends_once;
-  ended_first = λ _. now;
-  holds = ap (λ e. may_hold e (Some (Mark End))) now;
-  failed_first = λ a. absurd (cc (works, h.failed_first a));
-}
-
--- what is still held is left out
-pub held_was_left : (put : List (Piece News)) (held : Option (Piece News)) (came : List ℕ) (ended : Bool)
-    (health : Health) → BringsBack put held came ended health → HasBroughtBack put came ended health
-held_was_left put held came ended health h = record {
-  in_order = subst (λ (l : List ℕ). BeginsWith l (bytes_of put)) h.in_order (begins_append (bytes_of put) (held_bytes held));
-  whole = λ a. sym (append-nil (bytes_of put)) ∙ ap (λ (l : List ℕ). bytes_of put ++ l)
-      (sym (ended_holds_none held (subst (λ (e : Bool). may_hold e held ≡ true) (h.ended_first a) h.holds)))
-      ∙ h.in_order;
-  ends_once = h.ends_once;
-  ended_first = h.ended_first;
-  failed_first = h.failed_first;
 }

@@ -45,12 +45,12 @@ impl Tally {
         self.counts.received.load(Ordering::SeqCst)
     }
 
-    /// Counts a frame that was handed over.
+    // Counts a frame that was handed over.
     pub(crate) fn count_sent(&self) {
         self.counts.sent.fetch_add(1, Ordering::SeqCst);
     }
 
-    /// Counts frames that came.
+    // Counts frames that came.
     pub(crate) fn count_received(&self, frames: u64) {
         if frames > 0 {
             self.counts.received.fetch_add(frames, Ordering::SeqCst);

@@ -1,10 +1,10 @@
 -- The values of an enum stand by ascending number.
 use Rattle.std.proofs.Common.{◌≡◌, ◌≢◌, ℕ, zero, suc, ◌<◌, ◌≤◌, ℤ, ◌<ℤ◌, ◌≤ℤ◌, List, [], ◌∷◌, length, get_or, int_lt}
-use Rattle.std.proofs.Common.{Less, refl, ap, ◌∙◌, arith}
+use Rattle.std.proofs.Common.{Less, refl, ap, arith}
 use Rattle.std.specs.List.{AllWithin}
 use Rattle.std.specs.List.Sorted.{IsPartitionedBy}
 use Rattle.std.proofs.lemmas.Bool.{cases_lt}
-use Rattle.message_text.specs.Numbers.{HasNoName, IsFirstName}
+use Rattle.message_text.specs.Numbers.{HasNoName}
 use Rattle.std.proofs.lemmas.Cmp.{int_ranked}
 use Rattle.std.proofs.lemmas.Int.{ints}
 use Rattle.mrpc_table.specs.Valid.{Ascends, IsValueBelow}
@@ -65,15 +65,4 @@ none_here vs n p v up before behind here is other = record {
         let equal : v.0 ≡ n = omega (arith, ints) in
         other equal
   ];
-}
-
--- and it has its name there
-pub named_here : (vs : List (ℤ × List ℕ)) (n : ℤ) (p : ℕ) (v : ℤ × List ℕ)
-    → AllWithin (λ (w : ℤ × List ℕ). w.0 <ℤ n) vs 0 p → p < length vs → v ≡ get_or vs p v → v.0 ≡ n
-    → IsFirstName vs n v.1
-named_here vs n p v before here is equal = record {
-  at = p;
-  within = here;
-  stands = λ d. one_item vs p d v here ∙ sym is ∙ ap (λ (m : ℤ). (m, v.1)) equal;
-  first = λ k d less same. let below : (get_or vs k d).0 <ℤ n = before k d (omega arith) less in omega (arith, ints);
 }

@@ -10,7 +10,7 @@ ghost use Rattle.message_text.specs.Numbers.{values_of, IsFirstName, HasNoName, 
 use itoa::Buffer;
 use mrpc_table::{Bytes, Memory, Name, Table};
 
-/// Appends the text of a number of the enum at a place of the table, given in its word form.
+// Appends the text of a number of the enum at a place of the table, given in its word form.
 pub(crate) fn put_choice(
     out: &mut Bytes,
     table: &Table,
@@ -27,7 +27,7 @@ pub(crate) fn put_choice(
     }
 }
 
-/// Appends the digits of a number, behind `-` where it is negative.
+// Appends the digits of a number, behind `-` where it is negative.
 pub(crate) fn put_signed(out: &mut Bytes, word: u64) -> Result<(), Memory>
     ensures { OnOk result (out.new ≡ out.old ++ signed_decimal (cast_signed w64 word)) }
 {

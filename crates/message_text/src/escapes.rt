@@ -6,7 +6,7 @@ ghost use Rattle.message_text.specs.Escapes.{letter_of, is_printable, octal, esc
 
 use mrpc_table::{Bytes, Memory};
 
-/// Appends a string or bytes in quotation marks.
+// Appends a string or bytes in quotation marks.
 pub(crate) fn put_quoted(out: &mut Bytes, bytes: &[u8]) -> Result<(), Memory>
     ensures { OnOk result (out.new ≡ out.old ++ quoted bytes.now) }
 {

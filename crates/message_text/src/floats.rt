@@ -22,7 +22,7 @@ const INFINITE: u32 = 0x7f80_0000;
 
 const DOUBLE_INFINITE: u64 = 0x7ff0_0000_0000_0000;
 
-/// The text of the float with these bits.
+// The text of the float with these bits.
 pub(crate) fn float_text(alloc: Global, bits: u32) -> Result<Bytes, Memory>
     ensures { IfOk result (IsFloatText binary32 bits) }
 {
@@ -32,7 +32,7 @@ pub(crate) fn float_text(alloc: Global, bits: u32) -> Result<Bytes, Memory>
     float_digits(alloc, bits)
 }
 
-/// The text of the double with these bits.
+// The text of the double with these bits.
 pub(crate) fn double_text(alloc: Global, bits: u64) -> Result<Bytes, Memory>
     ensures { IfOk result (IsFloatText binary64 bits) }
 {

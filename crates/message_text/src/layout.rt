@@ -9,8 +9,8 @@ const MINUS: &[u8] = b"-";
 // How many places behind the point a number below 1 begins at the most, without an exponent.
 const PLACES: u64 = 4;
 
-/// The layout of a number that is given as `-d.ddde-x`, in so many digits at the most. Zeros at its end fall away, and an
-/// exponent stands where the point would be far off. Another text stays as it is.
+// The layout of a number that is given as `-d.ddde-x`, in so many digits at the most. Zeros at its end fall away, and an
+// exponent stands where the point would be far off. Another text stays as it is.
 pub(crate) fn general(alloc: Global, text: &[u8], digits: u64) -> Result<Bytes, Memory> {
     let mut out = Bytes::new(alloc);
     put_general(alloc, &mut out, text, digits)?;

@@ -10,7 +10,7 @@ use crate::floats::{double_text, float_text};
 use mrpc_table::{Bytes, Kind, Memory, Table};
 use std::alloc::Global;
 
-/// Appends the text of a number of the kind, given in its word form.
+// Appends the text of a number of the kind, given in its word form.
 pub(crate) fn put_number(
     alloc: Global,
     out: &mut Bytes,

@@ -8,7 +8,7 @@ ghost use Rattle.message_text.specs.Entries.{name_at};
 
 use mrpc_table::{Field, Kind, Label, Table, find_field};
 
-/// The fields of the message at a place of the table.
+// The fields of the message at a place of the table.
 pub(crate) fn fields_at(table: &Table, message: u32) -> &[Field]
     requires { IsValid table.now }
     ensures value { result.now ≡ fields_of table.now message }
@@ -17,7 +17,7 @@ pub(crate) fn fields_at(table: &Table, message: u32) -> &[Field]
     table.fields(message)
 }
 
-/// The name, the kind and the label of a field.
+// The name, the kind and the label of a field.
 #[derive(Clone, Copy)]
 pub(crate) struct Said<'a> {
     pub name: &'a [u8],
@@ -25,8 +25,8 @@ pub(crate) struct Said<'a> {
     pub label: Label,
 }
 
-/// What these fields say of a number, and the place where they say it. Trees and tables have their fields in one order,
-/// so that the place at hand is tried first.
+// What these fields say of a number, and the place where they say it. Trees and tables have their fields in one order,
+// so that the place at hand is tried first.
 pub(crate) fn said_near(fields: &[Field], number: u32, hint: usize) -> (Said<'_>, usize)
     requires { FieldsAscend fields.now }
     ensures name { result.0.name.now ≡ name_at fields.now number }

@@ -21,7 +21,7 @@ const FAULT: &[u8] = b"fault ";
 // How long it is, at the most.
 const LONGEST: usize = 64;
 
-/// A source whose bytes are kept as they are read.
+// A source whose bytes are kept as they are read.
 pub(crate) struct KeptSource<S: Source + Drop> {
     source: S,
     bytes: Bytes,
@@ -40,7 +40,7 @@ impl<S: Source + Drop> Drop for KeptSource<S> {
 }
 
 impl<S: Source + Drop> KeptSource<S> {
-    /// Nothing was read yet.
+    // Nothing was read yet.
     pub(crate) fn new(alloc: Global, source: S) -> KeptSource<S> {
         KeptSource {
             source,
@@ -49,7 +49,7 @@ impl<S: Source + Drop> KeptSource<S> {
         }
     }
 
-    /// All that was read; None where there was no memory to keep it.
+    // All that was read; None where there was no memory to keep it.
     pub(crate) fn kept(&self) -> Option<&[u8]> {
         if self.is_whole {
             Some(self.bytes.as_slice())
@@ -89,8 +89,8 @@ impl<S: Source + Drop> Source for KeptSource<S> {
     }
 }
 
-/// A sink of which the line of a fault is kept, and the number of calls that a run tells of. The commands write a fault
-/// in a piece of its own, and a run all that it tells. What is shown of the run is taken away before that.
+// A sink of which the line of a fault is kept, and the number of calls that a run tells of. The commands write a fault
+// in a piece of its own, and a run all that it tells. What is shown of the run is taken away before that.
 pub(crate) struct KeptSink<'r, R, K: Sink + Drop> {
     sink: K,
     alloc: Global,
@@ -115,7 +115,7 @@ impl<'r, R, K: Sink + Drop> Drop for KeptSink<'r, R, K> {
 }
 
 impl<'r, R: Eprint + Clock, K: Sink + Drop> KeptSink<'r, R, K> {
-    /// Nothing was written yet.
+    // Nothing was written yet.
     pub(crate) fn new(alloc: Global, sink: K, progress: &'r Progress<'r, R>) -> KeptSink<'r, R, K> {
         KeptSink {
             sink,
@@ -127,7 +127,7 @@ impl<'r, R: Eprint + Clock, K: Sink + Drop> KeptSink<'r, R, K> {
         }
     }
 
-    /// From now on the number of calls is looked for in what is written.
+    // From now on the number of calls is looked for in what is written.
     pub(crate) fn look_for_calls(&mut self) {
         self.counts = true;
     }
@@ -156,12 +156,12 @@ impl<'r, R: Eprint + Clock, K: Sink + Drop> KeptSink<'r, R, K> {
 }
 
 impl<'r, R, K: Sink + Drop> KeptSink<'r, R, K> {
-    /// The line of a fault that was written last; empty where there is none.
+    // The line of a fault that was written last; empty where there is none.
     pub(crate) fn fault(&self) -> &[u8] {
         self.fault.as_slice()
     }
 
-    /// How many calls a run told of that was written.
+    // How many calls a run told of that was written.
     pub(crate) fn calls(&self) -> Option<u64> {
         self.calls
     }

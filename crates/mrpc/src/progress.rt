@@ -12,8 +12,8 @@ use std::time::{Clock, Instant};
 // How often the line is written anew, in milliseconds.
 const EVERY: u64 = 1000;
 
-/// How a run goes, on standard error where that is a terminal: one line, which the worker writes anew that asks the gate
-/// once it is due, and at the end a line that stays. Elsewhere nothing is shown.
+// How a run goes, on standard error where that is a terminal: one line, which the worker writes anew that asks the gate
+// once it is due, and at the end a line that stays. Elsewhere nothing is shown.
 pub(crate) struct Progress<'r, R> {
     rt: &'r R,
     // None where the system told no time then.
@@ -46,7 +46,7 @@ impl<'r, R> Drop for Progress<'r, R> {
 const NEVER: u64 = u64::MAX;
 
 impl<'r, R: Eprint + Clock> Progress<'r, R> {
-    /// Of a run that hasn't begun.
+    // Of a run that hasn't begun.
     pub(crate) fn new(
         rt: &'r R,
         alloc: Global,
@@ -74,7 +74,7 @@ impl<'r, R: Eprint + Clock> Progress<'r, R> {
         u64::try_from(passed.as_millis()).unwrap_or(u64::MAX)
     }
 
-    /// Where the frames of the run are counted.
+    // Where the frames of the run are counted.
     pub(crate) fn tally(&self) -> &Tally {
         &self.tally
     }
@@ -107,14 +107,14 @@ impl<'r, R: Eprint + Clock> Progress<'r, R> {
         );
     }
 
-    /// Takes the line away, where it stands, so that others can write on the terminal.
+    // Takes the line away, where it stands, so that others can write on the terminal.
     pub(crate) fn clear(&self) {
         if self.stands.swap(false, Ordering::SeqCst) {
             let _written = eprint!(self.rt; "\r\x1b[K");
         }
     }
 
-    /// Tells of a run that has ended how many calls there were, and how fast. Where nothing was run, nothing is told.
+    // Tells of a run that has ended how many calls there were, and how fast. Where nothing was run, nothing is told.
     pub(crate) fn close(&self, calls: u64) {
         let began = self.began.load(Ordering::SeqCst);
         let now = self.now();
@@ -141,7 +141,7 @@ fn a_second(count: u64, millis: u64) -> u64 {
 }
 
 impl<'r, R: Eprint + Clock + Sync> Gate for Progress<'r, R> {
-    /// It is always open.
+    // It is always open.
     fn open(&self, _conn: u32) -> bool
         ensures { IsTrue result }
     {

@@ -3,7 +3,7 @@
 use memchr::memrchr;
 use mrpc_table::{Decimal, cut, is_word, number_of};
 
-/// The number of calls that were taken, where the last line of a text is that of the counts of a run or of a drill.
+// The number of calls that were taken, where the last line of a text is that of the counts of a run or of a drill.
 pub(crate) fn calls_told(text: &[u8]) -> Option<u64> {
     let (name, words) = cut(last_line(text), b' ')?;
     let counts = if is_word(name, b"totals") {

@@ -57,7 +57,7 @@ const COMMANDS: [(&str, &str); 6] = [
     ),
 ];
 
-/// The usage text of the program, with an example of each command, and the exit statuses. It fits a screen.
+// The usage text of the program, with an example of each command, and the exit statuses. It fits a screen.
 pub(crate) fn usage(alloc: Global) -> Result<String, AllocError> {
     let mut program = Command::new(alloc, "mrpc")
         .override_usage(USAGE)
@@ -70,7 +70,7 @@ pub(crate) fn usage(alloc: Global) -> Result<String, AllocError> {
     program.render_help()
 }
 
-/// What failed, of a run or of another command, and what to do about it, for the statuses that say that something did.
+// What failed, of a run or of another command, and what to do about it, for the statuses that say that something did.
 pub(crate) fn failure(status: u8, is_run: bool) -> Option<&'static str> {
     match status {
         NO_COMMAND => Some(

@@ -1,11 +1,11 @@
 -- The word at a place after a list of stores: what one more store does, what stores elsewhere leave, and what the words keep.
-use Rattle.std.proofs.Common.{◌≡◌, ◌≢◌, ◌<◌, ℕ, nat_eq, true, false, List, [], ◌∷◌, ◌++◌, length, filter, map, All}
+use Rattle.std.proofs.Common.{◌≡◌, ◌≢◌, ◌<◌, ℕ, nat_eq, true, false, List, [], ◌∷◌, ◌++◌, length, filter, map}
 use Rattle.std.proofs.Common.{replicate, set, get_or, arith, refl, sym, ap, ◌∙◌, subst, get_or-set_same}
 use Rattle.std.proofs.Common.{get_or-set_other, length-set, ⊎_elim}
 use Rattle.std.proofs.lemmas.Bool.{cond-true, cond-false, cases_eq}
 use Rattle.std.proofs.lemmas.Bool.Decides.{nat_tests}
 use Rattle.std.proofs.lemmas.List.{map-append, get_or-replicate, length-replicate}
-use Rattle.std.proofs.lemmas.List.Elements.{filter-append, All-head, All-tail}
+use Rattle.std.proofs.lemmas.List.Elements.{filter-append}
 use Rattle.mrpc_base.specs.Heap.{last_or, word_after}
 use Rattle.mrpc_base.specs.Parts.{StandsAfter}
 
@@ -21,13 +21,6 @@ values_at-append place stores more =
     ap (map (λ store. store.1)) (filter-append (λ store. nat_eq store.0 place) stores more)
     ∙ map-append (λ store. store.1) (filter (λ store. nat_eq store.0 place) stores)
     (filter (λ store. nat_eq store.0 place) more)
-
-values_at-elsewhere : (place : ℕ) (stores : List (ℕ × ℕ)) → All (λ store. store.0 ≢ place) stores → values_at place stores ≡ []
-values_at-elsewhere place [] apart = refl
-values_at-elsewhere place (store ∷ stores) apart =
-    let test : nat_eq store.0 place ≡ false = let ne : store.0 ≢ place = All-head (λ s. s.0 ≢ place) store stores apart in grind (arith, nat_tests) in
-    ap (map (λ s. s.1)) (cond-false (nat_eq store.0 place) (store ∷ filter (λ s. nat_eq s.0 place) stores) (filter (λ s. nat_eq s.0 place) stores) test)
-    ∙ values_at-elsewhere place stores (All-tail (λ s. s.0 ≢ place) store stores apart)
 
 pub word_after-nil : (place : ℕ) → word_after [] place ≡ 0
 unfolding word_after
@@ -45,11 +38,6 @@ word_after-same stores place value =
     word_after-append stores ((place, value) ∷ []) place
     ∙ ap (λ kept. last_or (word_after stores place) (map (λ s. s.1) kept)) (let test : nat_eq place place ≡ true =
     grind (arith, nat_tests) in cond-true (nat_eq place place) ((place, value) ∷ []) [] test)
-
--- stores elsewhere leave a word as it was
-pub word_after-elsewhere : (stores more : List (ℕ × ℕ)) (place : ℕ) → All (λ store. store.0 ≢ place) more → word_after (stores ++ more) place ≡ word_after stores place
-word_after-elsewhere stores more place apart =
-    word_after-append stores more place ∙ ap (last_or (word_after stores place)) (values_at-elsewhere place more apart)
 
 pub word_after-other : (stores : List (ℕ × ℕ)) (place value other : ℕ) → place ≢ other → word_after (stores ++ (place, value) ∷ []) other ≡ word_after stores other
 word_after-other stores place value other apart =

@@ -1,11 +1,8 @@
-mod Counts
 mod Drawn
 mod Due
-mod Known
 mod KnownBytes
 mod LastStore
 mod Listed
 mod Listing
-mod Order
 mod Rows
 mod Search

@@ -1,6 +1,6 @@
 -- Parts of a tree fit where their first part fits and the rest do.
 use Rattle.std.proofs.Common.{◌≡◌, ◌≢◌, ℕ, zero, suc, ◌+◌, ◌-◌, ◌<◌, ◌≤◌, ◌==◌, ◌↔◌, Bool, true, false, not, cond}
-use Rattle.std.proofs.Common.{List, [], ◌∷◌, length, drop, get_or, set, Option, Some, None, refl, ap, sym, subst, ◌∙◌}
+use Rattle.std.proofs.Common.{List, [], ◌∷◌, length, drop, get_or, set, Option, Some, refl, ap, sym, subst, ◌∙◌}
 use Rattle.std.proofs.Common.{arith, inl, inr, drop-cons, get_or-set_same, get_or-set_other, IsTrue, length-drop}
 use Rattle.std.proofs.Common.{replicate}
 use Rattle.std.proofs.lemmas.Bool.{cases_eq, eq-eqb}
@@ -62,11 +62,6 @@ content_up : (T : Table) (fs : List Field) (n : ℕ) (f : Field) (c : Content) �
 content_up T fs n f (one i) e h = (f, e, h.0, h.1)
 content_up T fs n f (many is) e h = (f, e, h.0, h.1, h.2)
 content_up T fs n f (pairs ps) e h = (f, h.0, e, h.1, h.2, h.3, h.4)
-
-no_content : (T : Table) (fs : List Field) (n : ℕ) (c : Content) → field_at fs n ≡ None → HasContent T fs n c → ⊥
-no_content T fs n (one i) e h = let clash : None ≡ Some h.0 = sym e ∙ h.1 in cc
-no_content T fs n (many is) e h = let clash : None ≡ Some h.0 = sym e ∙ h.1 in cc
-no_content T fs n (pairs ps) e h = let clash : None ≡ Some h.0 = sym e ∙ h.2 in cc
 
 false_from_not : (b : Bool) → not b ≡ true → b ≡ false
 false_from_not true e = absurd cc
@@ -150,10 +145,6 @@ rest_up T fs room last n taken f c t e placed first rest = record {
   oneofs = λ o. rw e (taken_up taken f.label (λ p. members_in fs p t) placed first.free rest.oneofs o);
   depth = omega (arith, first.content.depth, rest.depth);
 }
-
-pub rest_unknown : (T : Table) (fs : List Field) (room last n : ℕ) (taken : List Bool) (c : Content) (t : Node)
-    → field_at fs n ≡ None → RestFits T fs room last taken (field n c t) → ⊥
-rest_unknown T fs room last n taken c t e h = no_content T fs n c e h.fields.1
 
 depth_positive : (t : Node) → 0 < depth t
 depth_positive no_fields = omega arith

@@ -319,9 +319,6 @@ pub record Kept (k : Kind) (es kept : List E) : Type 0 where
   pub same : (w : E) → found k (code k w) kept ≡ last_at k (code k w) es
   pub up : (z : E) → AllUpTo k es z → AllUpTo k kept z
 
-pub kept-start : (k : Kind) → Kept k [] []
-kept-start k = record { asc = tt; same = λ w. refl; up = λ z u. tt }
-
 kept-replaced : (k : Kind) (es front : List E) (l y : E) → Kept k es (front ++ l ∷ []) → ord (code k l) (code k y) ≡ Equal → Kept k (es ++ y ∷ []) (front ++ y ∷ [])
 kept-replaced k es front l y h q =
     let less = less-alike k front l y q (front-less k front l h.asc) in
@@ -410,12 +407,3 @@ added-behind k old popped mid new l y false was tied m n =
     (λ front f is. let same : l ≡ f = last-same popped front l f (sym was ∙ is) in
     let P : E → Type 0 = λ z. entry_cmp k z y ≢ Equal in subst P same (not-equal (entry_cmp k l y) tied))
     (n ∙ ap (λ xs. xs ++ y ∷ []) (m ∙ sym was))
-
-length-none : (xs : List E) → length xs ≡ 0 → xs ≡ []
-length-none [] h = refl
-length-none (x ∷ xs) h = absurd (omega (arith, h))
-
-pub added-alone : (k : Kind) (old new : List E) (y : E) → length old ≡ 0 → new ≡ y ∷ [] → IsEntryAdded k old y new
-added-alone k old new y none is =
-    let empty = length-none old none in
-    appended (λ front f at. absurd (nil-pushed front f (sym empty ∙ at))) (is ∙ ap (λ xs. xs ++ y ∷ []) (sym empty))

@@ -1,7 +1,7 @@
 -- The numbers of a path.
-use Rattle.std.proofs.Common.{◌≡◌, ℕ, ◌==◌, Bool, true, false, cond, List, [], ◌∷◌, ◌++◌, Option, Some, None, refl, sym, ap, append_assoc}
+use Rattle.std.proofs.Common.{◌≡◌, ℕ, ◌==◌, List, [], ◌∷◌, ◌++◌, Option, Some, None, refl, sym, ap, append_assoc}
 use Rattle.std.specs.Prelude.{option_map}
-use Rattle.std.specs.List.{slice_split, onto_first}
+use Rattle.std.specs.List.{slice_split}
 use Rattle.mrpc_table.specs.declared.words.Decimal.{Decimal}
 use Rattle.mrpc_table.specs.PathWords.{path_of_parts, begins_path, decimal_of}
 use Rattle.mrpc_table.specs.declared.path.PathWord.{PathWord}
@@ -18,6 +18,3 @@ one_more ns n (Some p) = ap (λ (w : List Decimal). Some (record { way = w; last
 pub step_path : (part : List ℕ) (n : Decimal) (text : List ℕ) → decimal_of part ≡ Some n
     → path_of_parts (part ∷ slice_split (λ c. c == 46) text) ≡ option_map (begins_path n) (path_of_parts (slice_split (λ c. c == 46) text))
 step_path part n text is = let rest = has_part 46 text in rw (rest.2, is) refl
-
-pub no_number : (part : List ℕ) (text : List ℕ) → decimal_of part ≡ None → path_of_parts (part ∷ slice_split (λ c. c == 46) text) ≡ None
-no_number part text is = let rest = has_part 46 text in rw (rest.2, is) refl

@@ -36,8 +36,8 @@ fn stands_at(fields: &[Field], number: u32, place: usize) -> bool
     }
 }
 
-/// The same without a place at hand.
-pub fn search(fields: &[Field], number: u32) -> Option<usize>
+// The same without a place at hand.
+pub(crate) fn search(fields: &[Field], number: u32) -> Option<usize>
     requires { FieldsAscend fields.now }
     ensures bound { IfSome result (λ place. place < length fields.now) }
     ensures found { IfSome result (λ place. slice_get fields.now place ≡ field_at fields.now number) }

@@ -3,7 +3,7 @@
 ghost use Rattle.std.specs.Prelude.{◌≡◌, ◌+◌, ◌*◌, ◌<◌, length, slice_index, IfSome};
 ghost use Rattle.hex.specs.Hex.{encode_lower, lower_digits};
 
-/// The place behind two digits for each byte, where they begin at `start`.
+// The place behind two digits for each byte, where they begin at `start`.
 pub(crate) fn end_of_digits(start: usize, bytes: usize) -> Option<usize>
     ensures { IfSome result (λ end. end ≡ start + 2 * bytes) }
 {
@@ -11,7 +11,7 @@ pub(crate) fn end_of_digits(start: usize, bytes: usize) -> Option<usize>
     start.checked_add(digits)
 }
 
-/// Writes two digits for each byte, in lower case.
+// Writes two digits for each byte, in lower case.
 pub(crate) fn write_digits(digits: &mut [u8], bytes: &[u8])
     requires { length digits.old ≡ 2 * length bytes.now }
     ensures { digits.new ≡ encode_lower bytes.now }

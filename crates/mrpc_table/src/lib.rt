@@ -53,7 +53,7 @@ pub use memory::Memory;
 pub use normal::fits;
 pub use path::{Path, PathWord};
 pub use path_find::message_behind;
-pub use path_laws::{content_ascends, normal_ascends, numbers_ascend};
+pub use path_laws::{normal_ascends, numbers_ascend};
 pub use policy_lines::{Lines, RuleFault, RuleReason};
 pub use sequence::{Bytes, Name, Sequence};
 pub use table::{

@@ -1,10 +1,10 @@
 //! Laws of the trees that paths lead into. These functions do nothing; their clauses hold.
 
-ghost use Rattle.std.specs.Prelude.{◌≡◌, ℕ, Some};
-ghost use Rattle.mrpc_table.specs.Node.{Node, Content, content_at, NumbersAscend};
+ghost use Rattle.std.specs.Prelude.{ℕ};
+ghost use Rattle.mrpc_table.specs.Node.{Node, NumbersAscend};
 ghost use Rattle.mrpc_table.specs.Normal.{IsNormal};
 ghost use Rattle.mrpc_table.specs.declared.table.Table.{Table};
-ghost use Rattle.mrpc_table.specs.PathTrees.{IsAscending, HoldsAscending};
+ghost use Rattle.mrpc_table.specs.PathTrees.{IsAscending};
 
 /// The fields of a normal tree ascend, and so in the messages inside it.
 pub fn normal_ascends()
@@ -14,9 +14,4 @@ pub fn normal_ascends()
 /// A tree that ascends in the messages inside it ascends itself, as finding a field in it asks.
 pub fn numbers_ascend()
     ensures { (t : Node) → IsAscending t → NumbersAscend 0 t }
-{}
-
-/// What a tree has under a number ascends inside as the tree does.
-pub fn content_ascends()
-    ensures { (t : Node) (number : ℕ) (c : Content) → IsAscending t → content_at t number ≡ Some c → HoldsAscending c }
 {}

@@ -76,17 +76,10 @@ impl Tree {
         ensures content { option_map content_of (option_copied result) ≡ content_at self.now number }
         ensures less { IfSome result (λ content. content_weight (content_of content.now) < weight self.now) }
     {
-        content_among(self.fields.as_slice(), number)
+        let fields = self.fields.as_slice();
+        let place = find_content(fields, number)?;
+        Some(&fields[place].1)
     }
-}
-
-fn content_among(fields: &[(u32, FieldValue)], number: u32) -> Option<&FieldValue>
-    requires { NumbersAscend 0 (node_of fields.now) }
-    ensures content { option_map content_of (option_copied result) ≡ content_at (node_of fields.now) number }
-    ensures less { IfSome result (λ content. content_weight (content_of content.now) < weight (node_of fields.now)) }
-{
-    let place = find_content(fields, number)?;
-    Some(&fields[place].1)
 }
 
 /// The place of the field of a number among the fields of a tree: at once where each smaller number has a field in the

@@ -7,25 +7,25 @@ use std::env;
 use std::env::Env;
 use std::io::ErrorKind;
 
-/// What a command line asks the program itself for.
+// What a command line asks the program itself for.
 #[derive(Clone, Copy)]
 pub(crate) enum Asked {
-    /// The usage text.
+    // The usage text.
     Help,
-    /// The version.
+    // The version.
     Version,
 }
 
-/// Why the words couldn't be read.
+// Why the words couldn't be read.
 #[derive(Clone, Copy)]
 pub(crate) enum WordsFault {
-    /// A word isn't UTF-8.
+    // A word isn't UTF-8.
     NotText,
-    /// No memory was found.
+    // No memory was found.
     Memory,
 }
 
-/// The words after the program's name.
+// The words after the program's name.
 pub(crate) fn words<R: Env + AllocGlobal>(rt: &R) -> Result<Vec<String>, WordsFault> {
     let mut args = match env::args(rt) {
         Ok(args) => args,
@@ -42,7 +42,7 @@ pub(crate) fn words<R: Env + AllocGlobal>(rt: &R) -> Result<Vec<String>, WordsFa
     Ok(words)
 }
 
-/// What a command line of `--help` or `--version` alone asks for.
+// What a command line of `--help` or `--version` alone asks for.
 pub(crate) fn asked_alone(words: &[String]) -> Option<Asked>
     ensures asked { IsSome result ↔ AsksAlone words.now }
 {

@@ -19,7 +19,7 @@ Exit status:
   4  standard input could not be read
   5  standard output could not be written";
 
-/// The usage text of the program, with its views and exit statuses.
+// The usage text of the program, with its views and exit statuses.
 pub(crate) fn usage(alloc: Global) -> Result<String, AllocError> {
     let frames = Command::new(alloc, "frames").about(
         "Reads a table and frames, and writes each frame with its message in the text format of Protocol Buffers",
@@ -41,7 +41,7 @@ pub(crate) fn usage(alloc: Global) -> Result<String, AllocError> {
     program.render_help()
 }
 
-/// What failed, for the statuses that say that something did.
+// What failed, for the statuses that say that something did.
 pub(crate) fn failure(status: u8) -> Option<&'static str> {
     match status {
         NO_MEMORY => Some("mrpc-view: out of memory\n"),

@@ -10,7 +10,7 @@ use std::marker::{Brand, Model, PhantomData};
 
 // How many items were taken at least, and a pass that knows them.
 #[derive(Drop)]
-pub struct Credit<T> {
+pub(crate) struct Credit<T> {
     pub(crate) pass: LinePass<T>,
     pub(crate) taken: usize,
     ghost counted: { taken ≤ length (view pass).known },
@@ -23,7 +23,7 @@ pub(crate) type Back<T> = RuledArrayQueue<Credit<T>, Desk, OfOne>;
 pub(crate) type BackPass<T> = Pass<Credit<T>, Desk>;
 
 // Which queue the credits are of. No value of it is made.
-pub struct QueueName {
+pub(crate) struct QueueName {
     number: u64,
 }
 
@@ -38,13 +38,13 @@ impl Model for QueueName {
 
 // What a pass of the queue of credits knows: whether the credits are of a queue yet, and of which. No value of it is
 // made.
-pub struct Desk {
+pub(crate) struct Desk {
     pub named: bool,
     pub queue: QueueName,
 }
 
 // All credits are of one queue.
-pub struct OfOne;
+pub(crate) struct OfOne;
 
 impl<T> Protocol<Credit<T>, Desk> for OfOne {
     ghost use Rattle.one_way_queue.specs.Credits.{AreOfOne, unnamed};
@@ -55,7 +55,7 @@ impl<T> Protocol<Credit<T>, Desk> for OfOne {
 }
 
 // Which queue credits are of. Each opening picks its own.
-pub trait Named {
+pub(crate) trait Named {
     ghost use Rattle.atomic_table.specs.Seated.{TableId};
 
     ghost queue: { TableId };
@@ -68,7 +68,7 @@ impl Named for Brand {
 }
 
 // The first pass is cut in two that know the queue.
-pub struct Names<N> {
+pub(crate) struct Names<N> {
     of: PhantomData<N>,
 }
 
@@ -81,7 +81,7 @@ impl<N: Named> Split<Desk> for Names<N> {
 }
 
 // A credit of the queue goes in, or comes out.
-pub struct Credits;
+pub(crate) struct Credits;
 
 impl<T> Outcome<Credit<T>, Desk> for Credits {
     ghost use Rattle.std.specs.Prelude.{◌≡◌};

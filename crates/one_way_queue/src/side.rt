@@ -11,7 +11,7 @@ pub(crate) type LinePass<T> = Pass<T, Side<T>>;
 
 // What an end may do, what it has put and taken, a beginning of what was put, and one of what was taken. No value of it
 // is made.
-pub struct Side<T> {
+pub(crate) struct Side<T> {
     pub puts: bool,
     pub takes: bool,
     pub put: LinkedList<T>,
@@ -21,7 +21,7 @@ pub struct Side<T> {
 }
 
 // What comes out is what was put, in order.
-pub struct OneWay;
+pub(crate) struct OneWay;
 
 impl<T> Protocol<T, Side<T>> for OneWay {
     ghost use Rattle.one_way_queue.specs.Sides.{both, IsOneWay};
@@ -33,7 +33,7 @@ impl<T> Protocol<T, Side<T>> for OneWay {
 }
 
 // The two ends, apart and together. Together the one that takes is told of all that was put.
-pub struct Ends;
+pub(crate) struct Ends;
 
 impl<T> Split<Side<T>> for Ends {
     ghost use Rattle.one_way_queue.specs.Sides.{putting, taking};
@@ -52,7 +52,7 @@ impl<T> Join<Side<T>> for Ends {
 }
 
 // A pass that may do nothing.
-pub struct Nobody;
+pub(crate) struct Nobody;
 
 impl<T> Split<Side<T>> for Nobody {
     ghost use Rattle.one_way_queue.specs.Sides.{neither};
@@ -63,7 +63,7 @@ impl<T> Split<Side<T>> for Nobody {
 }
 
 // A pass that knows what the end that takes has taken, and the end that puts once it was told so.
-pub struct Taken;
+pub(crate) struct Taken;
 
 impl<T> Split<Side<T>> for Taken {
     ghost use Rattle.one_way_queue.specs.Sides.{knowing};
@@ -81,7 +81,7 @@ impl<T> Join<Side<T>> for Taken {
     ghost spent = { neither };
 }
 
-pub struct Puts;
+pub(crate) struct Puts;
 
 impl<T> Outcome<T, Side<T>> for Puts {
     ghost use Rattle.std.specs.Prelude.{◌≡◌, [], ◌∷◌, ◌++◌};
@@ -98,7 +98,7 @@ impl<T> Lesson<T, Side<T>> for Puts {
 }
 
 // No more are known to have been taken than were put.
-pub struct Behind;
+pub(crate) struct Behind;
 
 impl<T> Lesson<T, Side<T>> for Behind {
     ghost use Rattle.std.specs.Prelude.{◌≤◌, length};
@@ -106,7 +106,7 @@ impl<T> Lesson<T, Side<T>> for Behind {
     ghost fact = { λ v items. length v.known ≤ length v.put };
 }
 
-pub struct Takes;
+pub(crate) struct Takes;
 
 impl<T> Outcome<T, Side<T>> for Takes {
     ghost use Rattle.std.specs.Prelude.{◌≡◌, [], ◌∷◌, ◌++◌};
@@ -124,7 +124,7 @@ impl<T> Lesson<T, Side<T>> for Takes {
 }
 
 // Of both ends together.
-pub struct Compares;
+pub(crate) struct Compares;
 
 impl<T> Lesson<T, Side<T>> for Compares {
     ghost use Rattle.std.specs.Prelude.{◌≡◌, ◌++◌};

@@ -92,9 +92,6 @@ none_earlier T names ended r q p few part name known all lt (by_rule (no_rule_na
 none_earlier T names ended r q p few part name known all lt (by_rule (known_name a w)) = absurd (omega (arith, at_least p reason.Known w, known a))
 none_earlier T names ended r q p few part name known all lt (by_default a w) = absurd (omega (arith, at_least p reason.Default w))
 
-below_none : (p : RuleReason) → order_of p < 0 → ⊥
-below_none p lt = omega arith
-
 same_part : (a : Result About PartReason) (s t : PartReason) → a ≡ Err s → a ≡ Err t → order_of (reason_of s) ≤ order_of (reason_of t)
 same_part a s t e d = let same : s ≡ t = cc in omega (arith, ap (λ u. order_of (reason_of u)) same)
 

@@ -21,12 +21,6 @@ by_items a b = slice_cmp nat_cmp a.items b.items
 abbrev pub is_in : {X : Type 0} → List ℕ → List (Vec ℕ × X) → Bool
 is_in name es = is_some (lookup (is_at (λ (key : Vec ℕ). slice_cmp nat_cmp name key.items)) es)
 
-either_way : (a b : Bool) → (a || b) ≡ (b || a)
-either_way true true = refl
-either_way true false = refl
-either_way false true = refl
-either_way false false = refl
-
 pub same_bytes : (xs ys : List ℕ) → bytes_eq xs ys ≡ true → xs ≡ ys
 same_bytes xs ys e = (bytes_eq-Decides xs ys).0 e
 

@@ -144,14 +144,6 @@ is_line : (T : Table) (names : List (List ℕ)) (s : Said) (l : Option Line) →
 is_line T names s None e = absurd cc
 is_line T names s (Some k) e = (k, refl)
 
-order_most : (q : RuleReason) → order_of q ≤ 5
-order_most reason.Word = omega arith
-order_most reason.Number = omega arith
-order_most reason.Name = omega arith
-order_most reason.Known = omega arith
-order_most reason.Path = omega arith
-order_most reason.Default = omega arith
-
 behind-first : (T : Table) (names : List (List ℕ)) (line : List ℕ) (r : Result Said RuleReason) → said_in T names (line_of line) ≡ r
     → (IsAgainst T names true line (reason_behind r)) × ((p : RuleReason) → order_of p < order_of (reason_behind r) → IsAgainst T names true line p → ⊥)
 behind-first T names line (Err q) e = let f = refused_line T names line q (line_of line) refl e in (f.against true, f.first true)

@@ -133,17 +133,17 @@ fn is_one_of(calls: &Calls, call: &Call) -> bool
     }
 }
 
-/// The place of the first rule that matches.
-pub fn first_match(rules: &[Rule], call: &Call) -> Option<usize>
+// The place of the first rule that matches.
+pub(crate) fn first_match(rules: &[Rule], call: &Call) -> Option<usize>
     requires { IsAscending call.now.tree }
     ensures { result ≡ position (λ rule. matches rule call.now) rules.now }
 {
     rules.iter().position(|rule| matches(rule, call))
 }
 
-/// Whether the rule is about the call, in time in proportion to its path and to the bytes that are
-/// compared.
-pub fn matches(rule: &Rule, call: &Call) -> bool
+// Whether the rule is about the call, in time in proportion to its path and to the bytes that are
+// compared.
+pub(crate) fn matches(rule: &Rule, call: &Call) -> bool
     requires { IsAscending call.now.tree }
     ensures { result ≡ matches rule.now call.now }
 {

@@ -7,8 +7,8 @@ use mrpc_table::{Memory, Sequence};
 use std::alloc::Global;
 
 impl Rule {
-    /// An equal rule.
-    pub fn copied(&self, alloc: Global) -> Result<Rule, Memory>
+    // An equal rule.
+    pub(crate) fn copied(&self, alloc: Global) -> Result<Rule, Memory>
         ensures { IfOk result (λ r. r ≡ self.now) }
     {
         Ok(Rule {
@@ -81,8 +81,8 @@ impl Operand {
     }
 }
 
-/// Equal rules, in order.
-pub fn copied_rules(alloc: Global, rules: &[Rule]) -> Result<Sequence<Rule>, Memory>
+// Equal rules, in order.
+pub(crate) fn copied_rules(alloc: Global, rules: &[Rule]) -> Result<Sequence<Rule>, Memory>
     ensures { IfOk result (λ r. r ≡ rules.now) }
 {
     let mut copies = Vec::with_capacity(alloc, rules.len())?;

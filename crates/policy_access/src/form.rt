@@ -231,9 +231,9 @@ fn default_line(line: &[u8]) -> Option<bool>
     }
 }
 
-/// What a line says, or `None` where it is out of form.
+// What a line says, or `None` where it is out of form.
 #[tactic(auto, unfolding(crate::specs::Lines::line_of))]
-pub fn line_of(alloc: Global, line: &[u8]) -> Result<Option<Line>, Memory>
+pub(crate) fn line_of(alloc: Global, line: &[u8]) -> Result<Option<Line>, Memory>
     ensures { IfOk result (λ l. l ≡ line_of line.now) }
 {
     let Some((first, rest)) = next_word(line) else {

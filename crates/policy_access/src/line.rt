@@ -6,18 +6,18 @@ ghost use Rattle.policy_access.specs.Texts.{with_about};
 use crate::rule::{About, Comparison, Rule};
 use mrpc_table::{Bytes, Decimal, PathWord, Sort};
 
-/// A line in form.
+// A line in form.
 #[derive(Drop)]
-pub enum Line {
-    /// `rule NAME allow|deny ..`
+pub(crate) enum Line {
+    // `rule NAME allow|deny ..`
     Rule(RuleLine),
-    /// `default allow|deny`, and whether it allows.
+    // `default allow|deny`, and whether it allows.
     Default(bool),
 }
 
-/// `rule NAME allow|deny [method INDEX [reply] [where ..]]`
-pub struct RuleLine {
-    /// The word in the name's place.
+// `rule NAME allow|deny [method INDEX [reply] [where ..]]`
+pub(crate) struct RuleLine {
+    // The word in the name's place.
     pub name: Bytes,
     pub allow: bool,
     pub about: AboutLine,
@@ -35,8 +35,8 @@ impl Drop for RuleLine {
 }
 
 impl RuleLine {
-    /// The rule of the line, which is about this.
-    pub fn with_about(self, about: About) -> Rule
+    // The rule of the line, which is about this.
+    pub(crate) fn with_about(self, about: About) -> Rule
         ensures { result ≡ with_about self about }
     {
         let RuleLine {
@@ -48,17 +48,17 @@ impl RuleLine {
     }
 }
 
-/// What a rule is about, as its line says it.
+// What a rule is about, as its line says it.
 #[derive(Drop)]
-pub enum AboutLine {
-    /// Nothing follows: every call.
+pub(crate) enum AboutLine {
+    // Nothing follows: every call.
     Every,
-    /// `method INDEX [reply] [where ..]`
+    // `method INDEX [reply] [where ..]`
     Calls(CallsLine),
 }
 
-/// `method INDEX [reply] [where ..]`
-pub struct CallsLine {
+// `method INDEX [reply] [where ..]`
+pub(crate) struct CallsLine {
     pub index: Decimal,
     pub sort: Sort,
     pub test: Option<TestLine>,
@@ -75,8 +75,8 @@ impl Drop for CallsLine {
     }
 }
 
-/// `where PATH OP [VALUE]`
-pub struct TestLine {
+// `where PATH OP [VALUE]`
+pub(crate) struct TestLine {
     pub path: PathWord,
     pub condition: ConditionLine,
 }
@@ -91,11 +91,11 @@ impl Drop for TestLine {
     }
 }
 
-/// `OP [VALUE]`
+// `OP [VALUE]`
 #[derive(Drop)]
-pub enum ConditionLine {
-    /// `present`
+pub(crate) enum ConditionLine {
+    // `present`
     Present,
-    /// Another OP, and the bytes of VALUE.
+    // Another OP, and the bytes of VALUE.
     Compares(Comparison, Bytes),
 }

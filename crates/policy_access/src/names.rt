@@ -8,15 +8,15 @@ use mrpc_table::Memory;
 use std::alloc::Global;
 use std::collections::BTreeMap;
 
-/// Names, found by an ordered map.
+// Names, found by an ordered map.
 #[derive(Drop)]
-pub struct SeenNames {
+pub(crate) struct SeenNames {
     names: BTreeMap<Vec<u8>, ()>,
 }
 
 impl SeenNames {
-    /// No names.
-    pub fn new(alloc: Global) -> SeenNames
+    // No names.
+    pub(crate) fn new(alloc: Global) -> SeenNames
         ensures { Holds result [] }
     {
         SeenNames {
@@ -24,15 +24,15 @@ impl SeenNames {
         }
     }
 
-    /// Whether the name is among these.
-    pub fn contains(&self, name: &[u8]) -> bool
+    // Whether the name is among these.
+    pub(crate) fn contains(&self, name: &[u8]) -> bool
         ensures { (names : List (List ℕ)) → Holds self.now names → result ≡ is_among name.now names }
     {
         self.names.contains_key(name)
     }
 
-    /// Adds a name.
-    pub fn add(&mut self, alloc: Global, name: &[u8]) -> Result<(), Memory>
+    // Adds a name.
+    pub(crate) fn add(&mut self, alloc: Global, name: &[u8]) -> Result<(), Memory>
         ensures { (names : List (List ℕ)) → Holds self.old names
             → OnOk result (Holds self.new (names ++ name.now ∷ [])) }
     {

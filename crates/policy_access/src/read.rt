@@ -27,12 +27,12 @@ use mrpc_table::{
 };
 use std::alloc::Global;
 
-/// What a line without a fault says.
+// What a line without a fault says.
 #[derive(Drop)]
-pub enum Said {
-    /// A rule.
+pub(crate) enum Said {
+    // A rule.
     Rule(Rule),
-    /// The default, and whether it allows.
+    // The default, and whether it allows.
     Default(bool),
 }
 
@@ -103,8 +103,8 @@ fn first_reason(reason: PartReason, named: bool, known: bool) -> RuleReason
     }
 }
 
-/// What a line says behind `count` rules of these names, or its first reason.
-pub fn said_in(
+// What a line says behind `count` rules of these names, or its first reason.
+pub(crate) fn said_in(
     alloc: Global,
     table: &Table,
     names: &SeenNames,

@@ -175,10 +175,10 @@ fn calls_in(
     }
 }
 
-/// What a rule is about in the table: `Number` for an index of more than 16 bits or a value out of range,
-/// `Path` for a method or a field that the table lacks or an operation that doesn't go with it, `Word` for
-/// a value out of form. Where the method isn't known, a value of no form at all counts before it.
-pub fn about_in(
+// What a rule is about in the table: `Number` for an index of more than 16 bits or a value out of range,
+// `Path` for a method or a field that the table lacks or an operation that doesn't go with it, `Word` for
+// a value out of form. Where the method isn't known, a value of no form at all counts before it.
+pub(crate) fn about_in(
     alloc: Global,
     table: &Table,
     about: &AboutLine,

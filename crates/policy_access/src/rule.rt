@@ -2,10 +2,10 @@
 
 use mrpc_table::{Bytes, Name, Path, Sort};
 
-/// One rule of a policy.
-pub struct Rule {
+// One rule of a policy.
+pub(crate) struct Rule {
     pub name: Name,
-    /// Whether a call that matches is allowed, or else denied.
+    // Whether a call that matches is allowed, or else denied.
     pub allow: bool,
     pub about: About,
 }
@@ -21,11 +21,11 @@ impl Drop for Rule {
     }
 }
 
-/// Which calls a rule matches.
-pub enum About {
-    /// Every call.
+// Which calls a rule matches.
+pub(crate) enum About {
+    // Every call.
     Every,
-    /// The requests, or the replies, of a method.
+    // The requests, or the replies, of a method.
     Calls(Calls),
 }
 
@@ -39,11 +39,11 @@ impl Drop for About {
     }
 }
 
-/// The requests, or the replies, of a method, or those of them that meet a test.
-pub struct Calls {
-    /// The index of the method in the table.
+// The requests, or the replies, of a method, or those of them that meet a test.
+pub(crate) struct Calls {
+    // The index of the method in the table.
     pub method: u16,
-    /// Whether the rule is about requests or about replies.
+    // Whether the rule is about requests or about replies.
     pub sort: Sort,
     pub test: Option<Test>,
 }
@@ -59,8 +59,8 @@ impl Drop for Calls {
     }
 }
 
-/// What a call's tree must be for a rule to match.
-pub struct Test {
+// What a call's tree must be for a rule to match.
+pub(crate) struct Test {
     pub path: Path,
     pub condition: Condition,
 }
@@ -75,11 +75,11 @@ impl Drop for Test {
     }
 }
 
-/// What is asked of the field at the end of a path.
-pub enum Condition {
-    /// `present`: the tree has the field.
+// What is asked of the field at the end of a path.
+pub(crate) enum Condition {
+    // `present`: the tree has the field.
     Present,
-    /// There is a value, and it compares so with this one.
+    // There is a value, and it compares so with this one.
     Compares(Comparison, Operand),
 }
 
@@ -93,26 +93,26 @@ impl Drop for Condition {
     }
 }
 
-/// How a value compares with that of a rule.
+// How a value compares with that of a rule.
 #[derive(Clone, Copy, PartialEq, Eq)]
-pub enum Comparison {
-    /// `eq`: it is the same.
+pub(crate) enum Comparison {
+    // `eq`: it is the same.
     Equal,
-    /// `ne`: it is another.
+    // `ne`: it is another.
     NotEqual,
-    /// `lt`: it is a smaller number.
+    // `lt`: it is a smaller number.
     Less,
-    /// `gt`: it is a greater number.
+    // `gt`: it is a greater number.
     Greater,
-    /// `starts`: its bytes begin with those of the rule.
+    // `starts`: its bytes begin with those of the rule.
     Starts,
 }
 
-/// A value that a rule compares with.
-pub enum Operand {
-    /// A number, a truth value or an enum's value, in the word form of its kind.
+// A value that a rule compares with.
+pub(crate) enum Operand {
+    // A number, a truth value or an enum's value, in the word form of its kind.
     Number(u64),
-    /// The bytes of a string or of bytes.
+    // The bytes of a string or of bytes.
     Run(Bytes),
 }
 

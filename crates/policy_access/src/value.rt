@@ -156,10 +156,10 @@ fn bytes_value(alloc: Global, word: &[u8]) -> Result<Result<Operand, PartReason>
     }
 }
 
-/// What a value says of a field of the kind: `Word` where it is out of form, `Number` where it is out of
-/// range. Numbers are digits, behind a `-` or not; a text stands in quotes; bytes are lower-case
-/// hexadecimal digits behind an `x`.
-pub fn operand_of(
+// What a value says of a field of the kind: `Word` where it is out of form, `Number` where it is out of
+// range. Numbers are digits, behind a `-` or not; a text stands in quotes; bytes are lower-case
+// hexadecimal digits behind an `x`.
+pub(crate) fn operand_of(
     alloc: Global,
     kind: Kind,
     word: &[u8],
@@ -197,8 +197,8 @@ fn is_out_of_form(alloc: Global, kind: Kind, word: &[u8]) -> Result<bool, Memory
     }
 }
 
-/// Whether a value has none of the three forms: it is neither a number, nor a text, nor bytes.
-pub fn has_no_form(alloc: Global, word: &[u8]) -> Result<bool, Memory>
+// Whether a value has none of the three forms: it is neither a number, nor a text, nor bytes.
+pub(crate) fn has_no_form(alloc: Global, word: &[u8]) -> Result<bool, Memory>
     ensures { IfOk result (λ none. none ≡ has_no_form word.now) }
 {
     Ok(

@@ -39,17 +39,7 @@ pub inner_step : (text line behind : List ℕ) (b : Bool) → pieces_of text ≡
     → bytes_eq line end_line ≡ b → inner_lines text ≡ cond b [] (line ∷ inner_lines behind)
 inner_step text line behind b cut is = let p = has_piece behind in ap inner_of cut ∙ inner_step_by line (pieces_of behind) p.0 p.1 b p.2 is
 
-pub inner_last : (text : List ℕ) → pieces_of text ≡ text ∷ [] → inner_lines text ≡ []
-inner_last text last = ap inner_of last
-
 -- ---- where a kept line stands
-
-pub at_end : (skips : Bool) (text line behind : List ℕ) (number : ℕ) → pieces_of text ≡ line ∷ pieces_of behind
-    → bytes_eq line end_line ≡ true → line_at skips (inner_lines text) number ≡ 1
-at_end skips text line behind number cut is = ap (λ (ls : List (List ℕ)). line_at skips ls number) (inner_step text line behind true cut is)
-
-pub at_last : (skips : Bool) (text : List ℕ) (number : ℕ) → pieces_of text ≡ text ∷ [] → line_at skips (inner_lines text) number ≡ 1
-at_last skips text number last = ap (λ (ls : List (List ℕ)). line_at skips ls number) (inner_last text last)
 
 at_line : (skips : Bool) (text line behind : List ℕ) (number : ℕ) (kept first : Bool)
     → pieces_of text ≡ line ∷ pieces_of behind → bytes_eq line end_line ≡ false → is_kept skips line ≡ kept
@@ -60,20 +50,10 @@ at_line skips text line behind number kept first cut is k f =
     ∙ ap (λ (b : Bool). cond b (cond (number == 1) 1 (1 + line_at skips (inner_lines behind) (number - 1))) (1 + line_at skips (inner_lines behind) number)) k
     ∙ ap (λ (b : Bool). cond kept (cond b 1 (1 + line_at skips (inner_lines behind) (number - 1))) (1 + line_at skips (inner_lines behind) number)) f
 
-pub at_first_kept : (skips : Bool) (text line behind : List ℕ) (number : ℕ) → pieces_of text ≡ line ∷ pieces_of behind
-    → bytes_eq line end_line ≡ false → is_kept skips line ≡ true → (number == 1) ≡ true
-    → line_at skips (inner_lines text) number ≡ 1
-at_first_kept skips text line behind number cut is k f = at_line skips text line behind number true true cut is k f
-
 pub at_kept_other : (skips : Bool) (text line behind : List ℕ) (number : ℕ) → pieces_of text ≡ line ∷ pieces_of behind
     → bytes_eq line end_line ≡ false → is_kept skips line ≡ true → (number ≡ 1 → ⊥)
     → line_at skips (inner_lines text) number ≡ 1 + line_at skips (inner_lines behind) (number - 1)
 at_kept_other skips text line behind number cut is k f = at_line skips text line behind number true false cut is k (ne_eqb number 1 f)
-
-pub at_kept : (skips : Bool) (text line behind : List ℕ) (number : ℕ) → pieces_of text ≡ line ∷ pieces_of behind
-    → bytes_eq line end_line ≡ false → is_kept skips line ≡ true → (number == 1) ≡ false
-    → line_at skips (inner_lines text) number ≡ 1 + line_at skips (inner_lines behind) (number - 1)
-at_kept skips text line behind number cut is k f = at_line skips text line behind number true false cut is k f
 
 pub at_skipped : (skips : Bool) (text line behind : List ℕ) (number : ℕ) → pieces_of text ≡ line ∷ pieces_of behind
     → bytes_eq line end_line ≡ false → is_kept skips line ≡ false
@@ -86,9 +66,6 @@ at_skipped skips text line behind number cut is k = at_line skips text line behi
 pub record AreDone (text : List ℕ) (done : List (List ℕ)) (rest : List ℕ) : Type 0 where
   pub pieces : pieces_of text ≡ done ++ pieces_of rest
   pub none : Contains done end_line → ⊥
-
-pub none_done : (text : List ℕ) → AreDone text [] text
-none_done text = record { pieces = refl; none = λ h. omega (arith, h.1) }
 
 pub done_more : (text : List ℕ) (done : List (List ℕ)) (rest line behind : List ℕ) → AreDone text done rest
     → pieces_of rest ≡ line ∷ pieces_of behind → bytes_eq line end_line ≡ false

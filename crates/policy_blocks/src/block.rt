@@ -13,7 +13,7 @@ use std::alloc::Global;
 // The line behind the last one of a policy.
 const END: &[u8] = b"end";
 
-/// The lines of a policy that say something of it, and what stands behind its `end`; none where it has no `end`.
+// The lines of a policy that say something of it, and what stands behind its `end`; none where it has no `end`.
 #[derive(Drop)]
 pub(crate) struct Block<'a> {
     pub lines: Lines,
@@ -41,8 +41,8 @@ fn is_kept(skips: bool, line: &[u8]) -> bool
     !(skips && is_skipped(line))
 }
 
-/// The lines at the front of a text up to a line `end`, or all of them. Where such lines are skipped, empty ones and
-/// those that begin with `#` are left out.
+// The lines at the front of a text up to a line `end`, or all of them. Where such lines are skipped, empty ones and
+// those that begin with `#` are left out.
 pub(crate) fn read_block<'a>(
     alloc: Global,
     text: &'a [u8],
@@ -92,8 +92,8 @@ fn line_of(text: &[u8], skips: bool, number: u64) -> u64
     line
 }
 
-/// The fault of an item, by that of the lines of its policy, which stand at the front of this text behind its first
-/// line.
+// The fault of an item, by that of the lines of its policy, which stand at the front of this text behind its first
+// line.
 pub(crate) fn item_fault(
     block: &Block<'_>,
     text: &[u8],
@@ -119,7 +119,7 @@ pub(crate) fn item_fault(
     }
 }
 
-/// The fault of an item that lacks its `end`, behind whose first line this text stands.
+// The fault of an item that lacks its `end`, behind whose first line this text stands.
 pub(crate) fn endless_fault(text: &[u8]) -> ScriptFault
     ensures { result ≡ ScriptFault.At (length (whole_lines text.now) + 2) ScriptReason.Word }
 {

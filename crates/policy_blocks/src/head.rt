@@ -38,7 +38,7 @@ fn lacks_tenant(declared: &Declarations, form: ItemForm, words: &[Said<'_>]) -> 
     matches!(form, ItemForm::Quota) && declared.tenant(name_at(words, 3)).is_none()
 }
 
-/// What the words of an item's first line say, or the first reason against it.
+// What the words of an item's first line say, or the first reason against it.
 pub(crate) fn read_head<'a>(
     declared: &Declarations,
     form: ItemForm,

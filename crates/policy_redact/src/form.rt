@@ -36,9 +36,9 @@ fn behind_index(alloc: Global, index: Decimal, line: &[u8]) -> Result<Option<Cle
     }
 }
 
-/// What a line says, or `None` where it is out of form.
+// What a line says, or `None` where it is out of form.
 #[tactic(auto, unfolding(crate::specs::Lines::line_of))]
-pub fn line_of(alloc: Global, line: &[u8]) -> Result<Option<ClearLine>, Memory>
+pub(crate) fn line_of(alloc: Global, line: &[u8]) -> Result<Option<ClearLine>, Memory>
     ensures { IfOk result (λ l. l ≡ line_of line.now) }
 {
     let Some((first, rest)) = cut(line, b' ') else {

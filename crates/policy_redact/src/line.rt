@@ -2,8 +2,8 @@
 
 use mrpc_table::{Decimal, PathWord, Sort};
 
-/// `clear method INDEX [reply] PATH`
-pub struct ClearLine {
+// `clear method INDEX [reply] PATH`
+pub(crate) struct ClearLine {
     pub index: Decimal,
     pub sort: Sort,
     pub path: PathWord,

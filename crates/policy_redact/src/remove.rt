@@ -41,10 +41,10 @@ fn remove_inside(content: &mut FieldValue, way: &[u32], number: u32) -> bool
     }
 }
 
-/// Removes the field of a number from the message behind a way, where each message on the way is set, and answers
-/// whether there was one.
+// Removes the field of a number from the message behind a way, where each message on the way is set, and answers
+// whether there was one.
 #[cycle(remove)]
-pub fn remove_at(tree: &mut Tree, way: &[u32], number: u32) -> bool
+pub(crate) fn remove_at(tree: &mut Tree, way: &[u32], number: u32) -> bool
     requires { IsAscending tree.old }
     ensures left { tree.new ≡ without (bytes_eq (way.now ++ number ∷ [])) tree.old }
     ensures smaller { OnTrue result (weight tree.new < weight tree.old) }

@@ -1,6 +1,6 @@
 -- What holds of files that are resolved together, and were read: which places they keep, which forms their names have,
 -- and in which order their names and numbers start.
-use Rattle.std.specs.Prelude.{◌≡◌, ℕ, ◌<◌, length, List, Option, Some, slice_get, IfSome, All, Contains}
+use Rattle.std.specs.Prelude.{◌≡◌, ℕ, ◌<◌, length, Some, slice_get, IfSome, All, Contains}
 use Rattle.proto_file.specs.Joined.{Joined}
 use Rattle.proto_file.specs.Order.{IsPlaceBelow, HasFullName, IsFormedMessage, IsFormedEnum, IsFormedService, Part, its_name, rank_of, IsOfField, IsOfValue, IsOfRpc}
 use Rattle.proto_file.specs.declared.file.Span.{Span}

@@ -5,13 +5,13 @@ use Rattle.std.specs.Prelude.{Contains, All, Some, slice_get, Result, Ok, Err, I
 use Rattle.std.specs.List.{AllZip}
 use Rattle.std.proofs.lemmas.Bool.{cases_lt, cases_eq}
 use Rattle.std.proofs.lemmas.List.{take_more, take_all, length_push, length-replicate, get_or_append_left}
-use Rattle.std.proofs.lemmas.List.Elements.{All-push, All-contains, Contains-append_left, Contains-push, Contains-push_cases}
+use Rattle.std.proofs.lemmas.List.Elements.{All-push, Contains-append_left, Contains-push, Contains-push_cases}
 use Rattle.std.proofs.lemmas.Option.{slice_get_within, same_Some, slice_get-get_or}
 use Rattle.mrpc_table.specs.Valid.{Ascends}
 use Rattle.proto_imports.specs.Leading.{LeadsPublicly, Sees, itself, imported, publicly}
 use Rattle.proto_imports.specs.Linking.{AreLinks}
 use Rattle.proto_imports.specs.Reaching.{AreSeen}
-use Rattle.proto_imports.specs.Seeing.{IsMarked, unmarked, work_of, MarksMore, IsLinked, IsLinkedPublicly, SeesSoFar}
+use Rattle.proto_imports.specs.Seeing.{IsMarked, unmarked, MarksMore, IsLinked, IsLinkedPublicly, SeesSoFar}
 use Rattle.proto_imports.specs.declared.set.Member.{Member}
 use Rattle.proto_imports.specs.declared.links.Link.{Link}
 use Rattle.proto_imports.specs.declared.seen.Seen.{Seen}
@@ -326,15 +326,6 @@ sees_more set' i j links old popped new own known marks next more h =
           (more.within (subst (λ (m : ℕ). All (λ k. k < m) popped.next.items) (sym (ap length marks ∙ h.count))
           (front_within popped.next.items j (length set') (subst (λ (ks : List ℕ). All (λ k. k < length set') ks) next h.within))));
     }
-
-pub sees_less : (old popped new : Seen) (j : ℕ) (P : ℕ → Type 0) → popped.marks.items ≡ old.marks.items
-    → old.next.items ≡ popped.next.items ++ j ∷ [] → MarksMore P popped new → work_of new < work_of old
-sees_less old popped new j P marks next more =
-    omega (arith, more.less, ap unmarked marks, ap length next, length_push popped.next.items j)
-
-pub next_within : (set' : List Member) (i j : ℕ) (rest : List ℕ) (s : Seen) → SeesSoFar set' i s → s.next.items ≡ rest ++ j ∷ [] → j < length set'
-next_within set' i j rest s h e =
-    All-contains (λ (k : ℕ). k < length set') s.next.items j h.within (subst (λ (ks : List ℕ). Contains ks j) (sym e) (Contains-push rest j))
 
 pub sees_all : (set' : List Member) (i : ℕ) (s : Seen) → SeesSoFar set' i s → s.next.items ≡ [] → (j : ℕ) → Sees set' i j → IsMarked s j
 sees_all set' i s h e j itself = h.start

@@ -9,7 +9,6 @@ use Rattle.std.specs.declared.cmp.Ordering.{Ordering}
 use Rattle.std.specs.declared.cmp.Ordering.TheVariants.{Less, Equal, Greater}
 use Rattle.std.proofs.lemmas.Bool.{false≢true, cases_eq}
 use Rattle.std.proofs.lemmas.Cmp.{tied_itself, nat_list_cmp_total}
-use Rattle.std.proofs.lemmas.List.{get_or_default}
 use Rattle.std.proofs.lemmas.List.Edits.{swapped_from_swap, length-swap}
 use Rattle.std.proofs.lemmas.List.Sorted.{IsPermutation-keeps}
 use Rattle.std.proofs.lemmas.Option.{slice_get-get_or}
@@ -22,20 +21,6 @@ use Rattle.proto_imports.proofs.Walked.{Once}
 abbrev pub AreApart : {X : Type 0} → List X → Type 0
 AreApart {X} xs =
     (i j : ℕ) (d : X) → i < length xs → j < length xs → get_or xs i d ≡ get_or xs j d → i ≡ j
-
-pub distinct_apart : {X : Type 0} (xs : List X) → AreDistinct xs → AreApart xs
-distinct_apart [] h i j d a b e = absurd (omega arith)
-distinct_apart (x ∷ xs) h zero zero d a b e = refl
-distinct_apart {X} (x ∷ xs) h zero (suc j) d a b e =
-    let l : j < length xs = omega arith in
-    let same : get_or xs j x ≡ x = get_or_default xs j x d l ∙ sym e in
-    absurd (h.0 (j, l, same))
-distinct_apart {X} (x ∷ xs) h (suc i) zero d a b e =
-    let l : i < length xs = omega arith in
-    let same : get_or xs i x ≡ x = get_or_default xs i x d l ∙ e in
-    absurd (h.0 (i, l, same))
-distinct_apart (x ∷ xs) h (suc i) (suc j) d a b e =
-    ap suc (distinct_apart xs h.1 i j d (omega arith) (omega arith) e)
 
 pub apart_distinct : {X : Type 0} (xs : List X) → AreApart xs → AreDistinct xs
 apart_distinct [] h = tt

@@ -195,12 +195,6 @@ root_one apart v w = visits_one apart at_root v w
 
 -- ---- a ring is one
 
-abbrev LeadBackFrom : List Member → List ℕ → ℕ → Type 0
-LeadBackFrom set within i = (k : ℕ) → Contains (within ++ i ∷ []) k → Reaches set k i
-
-abbrev IsRing : List Member → ℕ → ℕ → Type 0
-IsRing set i n = Reaches set 0 i × ((j : ℕ) × Leads set i n j × Reaches set j i)
-
 below_reached : {set : List Member} {i n j : ℕ} (visiting : List ℕ) → Leads set i n j
     → ((k : ℕ) → Contains visiting k → Reaches set k i) → (k : ℕ) → Contains (visiting ++ j ∷ []) k → Reaches set k j
 below_reached {set} {i} {n} {j} visiting l from k c = elim (Contains-push_cases visiting j k c) [

@@ -37,8 +37,8 @@ fn by_path<'a>(
     Ok(pairs)
 }
 
-/// The root, and then the other reached files by ascending path.
-pub fn joined(alloc: Global, members: &[Member], marks: &[Mark]) -> Result<Places, Memory>
+// The root, and then the other reached files by ascending path.
+pub(crate) fn joined(alloc: Global, members: &[Member], marks: &[Mark]) -> Result<Places, Memory>
     requires some { 0 < length members.now }
     requires own { HaveOwnPaths members.now }
     requires count { length marks.now ≡ length members.now }

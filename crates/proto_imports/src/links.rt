@@ -15,19 +15,24 @@ use mrpc_table::Sequence;
 use std::alloc::Global;
 use std::marker::Model;
 
-/// Where an import leads.
+// Where an import leads.
 #[derive(Clone, Copy)]
-pub struct Link {
-    /// The file that has its path, by its place in the set.
+pub(crate) struct Link {
+    // The file that has its path, by its place in the set.
     pub file: usize,
     pub public: bool,
 }
 
-/// Where the imports of a file lead, in the order of their statements.
-pub type Links = Sequence<Link>;
+// Where the imports of a file lead, in the order of their statements.
+pub(crate) type Links = Sequence<Link>;
 
-/// The fault of a file's import.
-pub fn fault_at(members: &[Member], reason: ImportReason, file: usize, n: usize) -> ImportFault
+// The fault of a file's import.
+pub(crate) fn fault_at(
+    members: &[Member],
+    reason: ImportReason,
+    file: usize,
+    n: usize,
+) -> ImportFault
     requires { (x : Import) × HasImport members.now file n x }
     ensures { (x : Import) → HasImport members.now file n x → result ≡ ImportFault.At reason file x.span }
 {
@@ -55,8 +60,8 @@ fn judge_missing<'a>(
     Ok(())
 }
 
-/// Looks for an import whose path no file of the set has.
-pub fn judge_all<'a>(members: &'a [Member], paths: &Paths<'a>) -> Result<(), ImportFault>
+// Looks for an import whose path no file of the set has.
+pub(crate) fn judge_all<'a>(members: &'a [Member], paths: &Paths<'a>) -> Result<(), ImportFault>
     requires { KnowsPaths members.now paths.now }
     ensures ok { OnOk result (IsFree members.now ImportReason.Missing) }
     ensures fault { IfErr result (IsFaultOf members.now) }
@@ -105,9 +110,9 @@ fn links_of<'a>(
     Ok(links)
 }
 
-/// Where the imports of each file of a set lead. Clauses see the set.
+// Where the imports of each file of a set lead. Clauses see the set.
 #[derive(Drop)]
-pub struct Graph<'a> {
+pub(crate) struct Graph<'a> {
     members: &'a [Member],
     links: Vec<Links>,
 }
@@ -126,8 +131,8 @@ impl<'a> Model for Graph<'a> {
 }
 
 impl<'a> Graph<'a> {
-    /// The imports of a set, unless one stands twice in its file.
-    pub fn new(
+    // The imports of a set, unless one stands twice in its file.
+    pub(crate) fn new(
         alloc: Global,
         members: &'a [Member],
         paths: &Paths<'a>,
@@ -148,15 +153,15 @@ impl<'a> Graph<'a> {
         Ok(Graph { members, links })
     }
 
-    /// How many files there are.
-    pub fn len(&self) -> usize
+    // How many files there are.
+    pub(crate) fn len(&self) -> usize
         ensures { result ≡ length self.now }
     {
         self.links.len()
     }
 
-    /// Where the imports of a file lead.
-    pub fn links(&self, file: usize) -> &[Link]
+    // Where the imports of a file lead.
+    pub(crate) fn links(&self, file: usize) -> &[Link]
         requires { file < length self.now }
         ensures { AreLinks self.now file result.now }
     {

@@ -8,15 +8,15 @@ use mrpc_table::Memory;
 use std::alloc::Global;
 use std::collections::BTreeMap;
 
-/// The places of a set's files, by their paths.
+// The places of a set's files, by their paths.
 #[derive(Drop)]
-pub struct Paths<'a> {
+pub(crate) struct Paths<'a> {
     by: BTreeMap<&'a [u8], usize>,
 }
 
 impl<'a> Paths<'a> {
-    /// The paths of a set.
-    pub fn new(alloc: Global, members: &'a [Member]) -> Result<Paths<'a>, Memory>
+    // The paths of a set.
+    pub(crate) fn new(alloc: Global, members: &'a [Member]) -> Result<Paths<'a>, Memory>
         ensures { IfOk result (KnowsPaths members.now) }
     {
         let mut by = BTreeMap::new(alloc);
@@ -26,8 +26,8 @@ impl<'a> Paths<'a> {
         Ok(Paths { by })
     }
 
-    /// The place of the file that has a path.
-    pub fn place(&self, path: &'a [u8]) -> Option<usize>
+    // The place of the file that has a path.
+    pub(crate) fn place(&self, path: &'a [u8]) -> Option<usize>
         ensures { result ≡ place_in self.now path.now }
     {
         self.by.get(&path).copied()

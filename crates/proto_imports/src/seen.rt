@@ -11,12 +11,12 @@ use mrpc_table::{Memory, Sequence};
 use proto_file::Places;
 use std::alloc::Global;
 
-/// Files that are seen so far.
+// Files that are seen so far.
 #[derive(Drop)]
-pub struct Seen {
-    /// For each file of the set, whether it is seen.
+pub(crate) struct Seen {
+    // For each file of the set, whether it is seen.
     pub marks: Vec<bool>,
-    /// Seen files whose public imports come next.
+    // Seen files whose public imports come next.
     pub next: Vec<usize>,
 }
 
@@ -106,8 +106,12 @@ fn seen_from(alloc: Global, graph: &Graph, file: usize) -> Result<Places, Memory
     marked(alloc, &seen.marks)
 }
 
-/// What each of some files sees.
-pub fn all_seen(alloc: Global, graph: &Graph, files: &[usize]) -> Result<Sequence<Places>, Memory>
+// What each of some files sees.
+pub(crate) fn all_seen(
+    alloc: Global,
+    graph: &Graph,
+    files: &[usize],
+) -> Result<Sequence<Places>, Memory>
     requires here { All (λ i. i < length graph.now) files.now }
     requires own { HaveOwnPaths graph.now }
     ensures { IfOk result (λ all. AllZip (AreSeen graph.now) files.now all) }

@@ -7,27 +7,27 @@ use crate::links::{Graph, Link};
 use mrpc_table::Memory;
 use std::alloc::Global;
 
-/// Whether a file is being visited.
+// Whether a file is being visited.
 #[derive(Clone, Copy)]
-pub enum Mark {
+pub(crate) enum Mark {
     New,
     Visiting,
     Left,
 }
 
-/// A file that is being visited, and the place of its import that comes next.
+// A file that is being visited, and the place of its import that comes next.
 #[derive(Clone, Copy)]
-pub struct Frame {
+pub(crate) struct Frame {
     pub file: usize,
     pub next: usize,
 }
 
-/// A walk through the files.
+// A walk through the files.
 #[derive(Drop)]
-pub struct Walk {
-    /// The files that are being visited, the innermost last.
+pub(crate) struct Walk {
+    // The files that are being visited, the innermost last.
     pub frames: Vec<Frame>,
-    /// For each file of the set.
+    // For each file of the set.
     pub marks: Vec<Mark>,
 }
 
@@ -88,17 +88,17 @@ impl Walk {
     }
 }
 
-/// What comes of a walk.
+// What comes of a walk.
 #[derive(Drop)]
-pub enum Walked {
-    /// The files with this mark `Left` were left.
+pub(crate) enum Walked {
+    // The files with this mark `Left` were left.
     Left(Vec<Mark>),
-    /// The next import of a file closes a ring.
+    // The next import of a file closes a ring.
     Ring(Frame),
 }
 
-/// Visits the root.
-pub fn visit_root(alloc: Global, graph: &Graph) -> Result<Walked, Memory>
+// Visits the root.
+pub(crate) fn visit_root(alloc: Global, graph: &Graph) -> Result<Walked, Memory>
     requires { 0 < length graph.now }
     ensures { IfOk result (CameOf graph.now) }
 {

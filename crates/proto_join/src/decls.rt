@@ -11,20 +11,20 @@ use crate::shift::{Shift, shift_all};
 use mrpc_table::{Memory, Sequence};
 use proto_file::{EnumDecl, Head, MessageDecl, Places, ServiceDecl, Word};
 
-/// A declaration that can be moved behind other files.
-pub trait Declared: Drop {
+// A declaration that can be moved behind other files.
+pub(crate) trait Declared: Drop {
     ghost placed: { Before → Self → Self };
 
     ghost can_place: { Before → Self → Type 0 };
 
-    /// It, behind other files.
+    // It, behind other files.
     fn placed(self, before: Before) -> Self
         requires { can_place before self }
         ensures { result ≡ placed before self };
 }
 
-/// Appends declarations, each behind other files.
-pub fn append_all<T: Declared>(
+// Appends declarations, each behind other files.
+pub(crate) fn append_all<T: Declared>(
     all: &mut Sequence<T>,
     items: Sequence<T>,
     before: Before,
@@ -38,8 +38,8 @@ pub fn append_all<T: Declared>(
     Ok(())
 }
 
-/// The head of a file, behind other files.
-pub fn placed_head(name: Option<Word>, sees: Places, before: Before) -> Head
+// The head of a file, behind other files.
+pub(crate) fn placed_head(name: Option<Word>, sees: Places, before: Before) -> Head
     requires { IfSome name (IsWordWithin (room_behind before.bytes)) }
     ensures { result ≡ shift_head before (record { «package» = name; sees = sees }) }
 {

@@ -14,14 +14,14 @@ pub struct Part {
     pub size: usize,
 }
 
-/// What stands before a file, among those that are joined.
+// What stands before a file, among those that are joined.
 #[derive(Clone, Copy)]
-pub struct Before {
-    /// How many files.
+pub(crate) struct Before {
+    // How many files.
     pub files: usize,
-    /// How many bytes their texts have.
+    // How many bytes their texts have.
     pub bytes: usize,
-    /// How many messages they declare.
+    // How many messages they declare.
     pub messages: usize,
 }
 
@@ -29,8 +29,8 @@ impl Before {
     ghost use Rattle.std.specs.Prelude.{◌≡◌, ◌+◌, ◌<◌, ◌^◌, length, IfOk};
     ghost use Rattle.proto_join.specs.Joining.{behind};
 
-    /// What stands behind the file; no memory holds more messages than a word of 64 bits counts.
-    pub fn behind(self, part: &Part) -> Result<Before, Memory>
+    // What stands behind the file; no memory holds more messages than a word of 64 bits counts.
+    pub(crate) fn behind(self, part: &Part) -> Result<Before, Memory>
         requires files { self.files + 1 < 2 ^ 64 }
         requires bytes { self.bytes + part.now.size < 2 ^ 64 }
         ensures value { IfOk result (λ b. b ≡ behind self part.now) }

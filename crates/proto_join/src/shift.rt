@@ -7,20 +7,20 @@ ghost use Rattle.proto_file.specs.Within.{IsSpanWithin, IsWordWithin, IsNumberWi
 use mrpc_table::Sequence;
 use proto_file::{FieldDecl, FieldType, Number, Range, RpcDecl, Span, ValueDecl, Word};
 
-/// What stands at a place in a text, and can be moved behind other texts.
-pub trait Shift {
+// What stands at a place in a text, and can be moved behind other texts.
+pub(crate) trait Shift {
     ghost shifted: { ℕ → Self → Self };
 
     ghost is_within: { ℕ → Self → Type 0 };
 
-    /// Moves it behind so many bytes, in place.
+    // Moves it behind so many bytes, in place.
     fn shift(&mut self, bytes: usize)
         requires { is_within (2 ^ 64 - 1 - bytes) self.old }
         ensures { self.new ≡ shifted bytes self.old };
 }
 
-/// Moves each item behind so many bytes, in place.
-pub fn shift_all<T: Shift>(items: Sequence<T>, bytes: usize) -> Sequence<T>
+// Moves each item behind so many bytes, in place.
+pub(crate) fn shift_all<T: Shift>(items: Sequence<T>, bytes: usize) -> Sequence<T>
     requires { All (T.is_within (2 ^ 64 - 1 - bytes)) items }
     ensures { result ≡ map (T.shifted bytes) items }
 {
@@ -42,8 +42,8 @@ fn shifted_span(span: Span, bytes: usize) -> Span
     }
 }
 
-/// A number behind so many bytes.
-pub fn shifted_number(number: Number, bytes: usize) -> Number
+// A number behind so many bytes.
+pub(crate) fn shifted_number(number: Number, bytes: usize) -> Number
     requires { IsNumberWithin (2 ^ 64 - 1 - bytes) number }
     ensures { result ≡ shift_number bytes number }
 {

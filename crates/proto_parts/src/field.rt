@@ -104,8 +104,8 @@ pub enum MapStep {
     Done(FieldType),
 }
 
-/// A token of a type's name that isn't `group`, or behind it.
-pub fn typed_step(
+// A token of a type's name that isn't `group`, or behind it.
+pub(crate) fn typed_step(
     alloc: Global,
     text: &[u8],
     state: NameState,

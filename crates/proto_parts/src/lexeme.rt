@@ -25,8 +25,8 @@ pub fn span_of(token: &Token) -> Span
     }
 }
 
-/// From where a span starts to where a token ends.
-pub fn span_to(span: Span, token: &Token) -> Span
+// From where a span starts to where a token ends.
+pub(crate) fn span_to(span: Span, token: &Token) -> Span
     ensures { result ≡ joined_span span (span_of_token token.now) }
 {
     Span {
@@ -104,8 +104,8 @@ pub fn identifier_of(alloc: Global, text: &[u8], token: &Token) -> Result<Word, 
     Ok(word_of(alloc, text, token)?)
 }
 
-/// The number without a sign that a token is.
-pub fn number_of(token: &Token) -> Result<Number, ProtoFault>
+// The number without a sign that a token is.
+pub(crate) fn number_of(token: &Token) -> Result<Number, ProtoFault>
     ensures { (text : List ℕ)
         → Gives result (if_number (lexeme text token.now) (λ v. number_at false v (span_of_token token.now))) }
 {
@@ -119,8 +119,8 @@ pub fn number_of(token: &Token) -> Result<Number, ProtoFault>
     }
 }
 
-/// The number that a token is behind a `-`.
-pub fn negative_of(minus: Span, token: &Token) -> Result<Number, ProtoFault>
+// The number that a token is behind a `-`.
+pub(crate) fn negative_of(minus: Span, token: &Token) -> Result<Number, ProtoFault>
     ensures { (text : List ℕ) → Gives result (if_number (lexeme text token.now)
         (λ v. number_at true v (joined_span minus (span_of_token token.now)))) }
 {

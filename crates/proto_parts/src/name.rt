@@ -95,9 +95,9 @@ pub fn full_step(
     }
 }
 
-/// A token of a type's name, or behind it.
+// A token of a type's name, or behind it.
 #[tactic(auto, unfolding(crate::specs::Reading::full_step))]
-pub fn type_step(
+pub(crate) fn type_step(
     alloc: Global,
     text: &[u8],
     state: NameState,

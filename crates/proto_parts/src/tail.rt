@@ -45,9 +45,13 @@ fn behind_option(packed: Option<bool>, token: &Token) -> Result<TailStep, ProtoF
     }
 }
 
-/// A token behind the number.
+// A token behind the number.
 #[tactic(auto, unfolding(crate::specs::Reading::tail_step))]
-pub fn tail_step(text: &[u8], state: TailState, token: &Token) -> Result<TailStep, ProtoFault>
+pub(crate) fn tail_step(
+    text: &[u8],
+    state: TailState,
+    token: &Token,
+) -> Result<TailStep, ProtoFault>
     requires lies { Lies text.now token.now }
     requires depth { tail_depth state < 2 ^ 63 }
     ensures { Gives result (tail_reading state (lexeme text.now token.now)) }

@@ -7,7 +7,6 @@ use Rattle.proto_file.specs.Dot.{dot}
 use Rattle.proto_parts.specs.Lexemes.{Meaning, identifier, integer, number, string, mark, the_end, none, Lexeme, span_to, word_at, IsWord, IsMark}
 use Rattle.proto_parts.specs.Grammar.{FullName, one, more}
 use Rattle.proto_parts.specs.Reading.{is_mark, by_name, if_name, part, full_step}
-use Rattle.proto_file.specs.declared.file.Span.{Span}
 use Rattle.proto_file.specs.declared.file.Word.{Word}
 use Rattle.proto_parts.specs.declared.name.NameState.{NameState}
 use Rattle.proto_parts.specs.declared.name.NameState.TheVariants as names
@@ -69,11 +68,6 @@ part_goes : (x : Lexeme) (name : List ℕ) (w : Word) → IsWord x name
     → FullGoes (names.Dot w) x (names.Part (word_at (w.name ++ dot ∷ name) (span_to w.span x.span)))
 unfolding full_step
 part_goes x name w h = is_name x (λ n. part (w.name ++ dot ∷ n) (span_to w.span x.span)) name h
-
-rooted_goes : (x : Lexeme) (name : List ℕ) (s : Span) → IsWord x name
-    → FullGoes (names.Rooted s) x (names.Part (word_at (dot ∷ name) (span_to s x.span)))
-unfolding full_step
-rooted_goes x name s h = is_name x (λ n. part (dot ∷ n) (span_to s x.span)) name h
 
 -- a name behind what is read, with a dot between
 abbrev behind_dot : Word → Word → Word

@@ -9,7 +9,7 @@ use Rattle.proto_tokens.specs.declared.token.Token.{Token}
 use Rattle.proto_parts.specs.Lexemes.{Lexeme, lexeme, lexemes, meaning, says, equals}
 use Rattle.proto_schema.specs.Files.{Draft, nothing_said}
 use Rattle.proto_parts.specs.Reading.{Lies, Fails, is_mark, unexpected}
-use Rattle.proto_schema.specs.Running.{Begins, alone, with_others, Outcome, read, failed, Failed, run, behind}
+use Rattle.proto_schema.specs.Running.{AreTokensFrom, alone, with_others, Outcome, read, failed, Failed, run, behind}
 use Rattle.proto_schema.specs.Running.{behind_step, is_over, statement_step, place_of, depth, behind_word}
 use Rattle.proto_schema.specs.Running.{behind_equals, added, is_too_deep, is_begin, is_end, is_file}
 use Rattle.proto_parts.specs.declared.fault.ProtoFault.{ProtoFault}
@@ -51,7 +51,7 @@ lies_next text place t small h = record { small = small; ordered = ordered text 
 -- one token is next, and so the list begins with it
 pub begins_next : (text : List ℕ) (place : ℕ) (t : Token) (ts : List Token)
     → ((u v : Token) → IsNext text place u → IsNext text place v → u ≡ v) → IsNext text place t
-    → AreTokens text place ts → Begins text t ts
+    → AreTokens text place ts → AreTokensFrom text t ts
 begins_next text place t ts one h (last u e n b) =
     let q = one u t n h in
     alone (e ∙ ap (λ (v : Token). v ∷ []) q) (subst (λ (v : Token). is_last v.kind ≡ true) q b)
@@ -86,14 +86,14 @@ added_shallow d e x xs s n h = rw (not_deep d s n) (rw h refl)
 
 -- what fails behind the next token fails in the list
 pub fails_list : (text : List ℕ) (d : Draft) (s : State) (t : Token) (ts : List Token) (e : ProtoFault)
-    → Begins text t ts → is_over d s (lexeme text t) ≡ false
+    → AreTokensFrom text t ts → is_over d s (lexeme text t) ≡ false
     → ((xs : List Lexeme)
     → Failed e (behind_step d (lexeme text t) xs (statement_step (place_of d) s (lexeme text t))))
     → Failed e (run true d s (lexemes text ts))
 fails_list text d s t ts e (alone h b) o f = rw h (rw (run_step true d s (lexeme text t) [] o) (f []))
 fails_list text d s t ts e (with_others others h b more) o f = rw h (rw (run_step true d s (lexeme text t) (lexemes text others) o) (f (lexemes text others)))
 
-pub over_list : (text : List ℕ) (d : Draft) (s : State) (t : Token) (ts : List Token) → Begins text t ts
+pub over_list : (text : List ℕ) (d : Draft) (s : State) (t : Token) (ts : List Token) → AreTokensFrom text t ts
     → is_over d s (lexeme text t) ≡ true → run true d s (lexemes text ts) ≡ read d.file
 over_list text d s t ts (alone h b) o = rw h (run_over true d s (lexeme text t) [] o)
 over_list text d s t ts (with_others others h b more) o = rw h (run_over true d s (lexeme text t) (lexemes text others) o)
@@ -125,14 +125,14 @@ Goes text from place d s = (ts : List Token) → AreTokens text from ts
     × (run true nothing_said states.Begin (lexemes text ts) ≡ run true d s (lexemes text us))
 
 pub goes_on : (text : List ℕ) (from place : ℕ) (t : Token) (d e : Draft) (s u : State)
-    → ((ts : List Token) → AreTokens text place ts → Begins text t ts) → is_last t.kind ≡ false
+    → ((ts : List Token) → AreTokens text place ts → AreTokensFrom text t ts) → is_last t.kind ≡ false
     → is_over d s (lexeme text t) ≡ false
     → ((xs : List Lexeme)
     → behind_step d (lexeme text t) xs (statement_step (place_of d) s (lexeme text t)) ≡ run true e u xs)
     → Goes text from place d s → Goes text from t.end e u
 goes_on text from place t d e s u b more_follow over step g ts h = let (us, a, r) = g ts h in by us (b us a) r
   where
-    by : (us : List Token) → Begins text t us
+    by : (us : List Token) → AreTokensFrom text t us
         → run true nothing_said states.Begin (lexemes text ts) ≡ run true d s (lexemes text us)
         → (vs : List Token) × AreTokens text t.end vs
         × (run true nothing_said states.Begin (lexemes text ts) ≡ run true e u (lexemes text vs))
@@ -141,7 +141,7 @@ goes_on text from place t d e s u b more_follow over step g ts h = let (us, a, r
         (others, more, r ∙ (ap (λ (z : List Token). run true d s (lexemes text z)) q ∙ (run_step true d s (lexeme text t) (lexemes text others) over ∙ step (lexemes text others))))
 
 pub goes_fail : (text : List ℕ) (from place : ℕ) (t : Token) (d : Draft) (s : State) (e : ProtoFault)
-    → ((ts : List Token) → AreTokens text place ts → Begins text t ts) → is_over d s (lexeme text t) ≡ false
+    → ((ts : List Token) → AreTokens text place ts → AreTokensFrom text t ts) → is_over d s (lexeme text t) ≡ false
     → ((xs : List Lexeme)
     → Failed e (behind_step d (lexeme text t) xs (statement_step (place_of d) s (lexeme text t))))
     → Goes text from place d s
@@ -151,7 +151,7 @@ goes_fail text from place t d s e b over fails g ts h =
     subst (λ (o : Outcome). Failed e o) (sym r) (fails_list text d s t us e (b us a) over fails)
 
 pub goes_over : (text : List ℕ) (from place : ℕ) (t : Token) (d : Draft) (s : State)
-    → ((ts : List Token) → AreTokens text place ts → Begins text t ts) → is_over d s (lexeme text t) ≡ true
+    → ((ts : List Token) → AreTokens text place ts → AreTokensFrom text t ts) → is_over d s (lexeme text t) ≡ true
     → Goes text from place d s
     → (ts : List Token) → AreTokens text from ts → run true nothing_said states.Begin (lexemes text ts) ≡ read d.file
 goes_over text from place t d s b over g ts h = let (us, a, r) = g ts h in r ∙ over_list text d s t us (b us a) over
@@ -189,14 +189,14 @@ string_not_last t h = ap is_last h
 
 -- ---- the tokens of the syntax statement
 
-pub word_list : (text : List ℕ) (w : Lexeme) (t : Token) (ts : List Token) → Begins text t ts
+pub word_list : (text : List ℕ) (w : Lexeme) (t : Token) (ts : List Token) → AreTokensFrom text t ts
     → is_mark (lexeme text t).means equals ≡ true
     → (us : List Token) × AreTokens text t.end us
     × (behind_word true w (lexemes text ts) ≡ behind_equals true w (lexemes text us))
 word_list text w t ts (alone q il) h = absurd (let c : true ≡ false = sym il ∙ mark_not_last text t equals h in cc)
 word_list text w t ts (with_others others q n more) h = (others, more, rw q (rw h refl))
 
-pub no_equals : (text : List ℕ) (w : Lexeme) (t : Token) (ts : List Token) → Begins text t ts
+pub no_equals : (text : List ℕ) (w : Lexeme) (t : Token) (ts : List Token) → AreTokensFrom text t ts
     → is_mark (lexeme text t).means equals ≡ false
     → behind_word true w (lexemes text ts) ≡ failed (unexpected (lexeme text t))
 no_equals text w t ts (alone q il) h = rw q (rw h refl)

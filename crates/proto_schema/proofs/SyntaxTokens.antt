@@ -11,14 +11,14 @@ use Rattle.proto_parts.specs.Lexemes.{Lexeme, lexeme, lexemes, meaning, says, se
 use Rattle.proto_parts.specs.Lexemes.{is_no_token}
 use Rattle.proto_schema.specs.Files.{nothing_said}
 use Rattle.proto_parts.specs.Reading.{fault_at, unexpected, is_mark}
-use Rattle.proto_schema.specs.Running.{Begins, alone, with_others, failed, run, reading, behind_word, behind_equals, behind_value, behind_syntax}
+use Rattle.proto_schema.specs.Running.{AreTokensFrom, alone, with_others, failed, run, reading, behind_word, behind_equals, behind_value, behind_syntax}
 use Rattle.proto_schema.proofs.Next.{mark_not_last, word_not_last, string_not_last, word_list}
 use Rattle.proto_parts.specs.declared.fault.ProtoReason.TheVariants as reasons
 use Rattle.proto_schema.specs.declared.statement.State.TheVariants as states
 
 -- ---- the first token
 
-pub first_list : (text : List ℕ) (t : Token) (ts : List Token) → Begins text t ts
+pub first_list : (text : List ℕ) (t : Token) (ts : List Token) → AreTokensFrom text t ts
     → says (lexeme text t).means (codes "syntax") ≡ true
     → (us : List Token) × AreTokens text t.end us × (reading true (lexemes text ts) ≡ behind_word true (lexeme text t) (lexemes text us))
 first_list text t ts (alone q il) h = absurd (let c : true ≡ false = sym il ∙ word_not_last text t (codes "syntax") h in cc)
@@ -29,7 +29,7 @@ other_first : (w : Lexeme) (zs : List Lexeme) (b : Bool) → says w.means (codes
     → reading true (w ∷ zs) ≡ (if b then failed (unexpected w) else failed (fault_at reasons.Syntax2 w.span))
 other_first w zs b h e = rw (h, e) refl
 
-pub no_syntax : (text : List ℕ) (t : Token) (ts : List Token) (b : Bool) → Begins text t ts
+pub no_syntax : (text : List ℕ) (t : Token) (ts : List Token) (b : Bool) → AreTokensFrom text t ts
     → says (lexeme text t).means (codes "syntax") ≡ false → is_no_token (lexeme text t).means ≡ b
     → reading true (lexemes text ts) ≡ (if b then failed (unexpected (lexeme text t)) else failed (fault_at reasons.Syntax2 (lexeme text t).span))
 no_syntax text t ts b (alone q il) h e = ap (λ (us : List Token). reading true (lexemes text us)) q ∙ other_first (lexeme text t) [] b h e
@@ -48,7 +48,7 @@ other_value w y zs (kinds.Mark c) literal n = refl
 other_value w y zs kinds.End literal n = refl
 other_value w y zs kinds.Bad literal n = refl
 
-no_string : (text : List ℕ) (w : Lexeme) (t : Token) (ts : List Token) → Begins text t ts → (t.kind ≡ kinds.Text → ⊥)
+no_string : (text : List ℕ) (w : Lexeme) (t : Token) (ts : List Token) → AreTokensFrom text t ts → (t.kind ≡ kinds.Text → ⊥)
     → behind_equals true w (lexemes text ts) ≡ failed (unexpected (lexeme text t))
 no_string text w t ts (alone q il) n =
     ap (λ (us : List Token). behind_equals true w (lexemes text us)) q ∙ other_value w (lexeme text t) [] t.kind (literal_of text t) n
@@ -61,14 +61,14 @@ the_value : (w y : Lexeme) (zs : List Lexeme) (k : Kind) (literal : List ℕ) (b
     → behind_value true w y zs (meaning k literal) ≡ (if b then behind_syntax true zs else failed (fault_at reasons.Syntax2 w.span))
 the_value w y zs k literal b e h = ap (λ (k : Kind). behind_value true w y zs (meaning k literal)) e ∙ rw h refl
 
-other_string : (text : List ℕ) (w : Lexeme) (t : Token) (ts : List Token) → Begins text t ts → t.kind ≡ kinds.Text
+other_string : (text : List ℕ) (w : Lexeme) (t : Token) (ts : List Token) → AreTokensFrom text t ts → t.kind ≡ kinds.Text
     → bytes_eq (string_value (literal_of text t)) (codes "proto3") ≡ false
     → behind_equals true w (lexemes text ts) ≡ failed (fault_at reasons.Syntax2 w.span)
 other_string text w t ts (alone q il) k h = absurd (let c : true ≡ false = sym il ∙ string_not_last t k in cc)
 other_string text w t ts (with_others others q l more) k h =
     ap (λ (us : List Token). behind_equals true w (lexemes text us)) q ∙ the_value w (lexeme text t) (lexemes text others) t.kind (literal_of text t) false k h
 
-string_list : (text : List ℕ) (w : Lexeme) (t : Token) (ts : List Token) → Begins text t ts → t.kind ≡ kinds.Text
+string_list : (text : List ℕ) (w : Lexeme) (t : Token) (ts : List Token) → AreTokensFrom text t ts → t.kind ≡ kinds.Text
     → bytes_eq (string_value (literal_of text t)) (codes "proto3") ≡ true
     → (us : List Token) × AreTokens text t.end us × (behind_equals true w (lexemes text ts) ≡ behind_syntax true (lexemes text us))
 string_list text w t ts (alone q il) k h = absurd (let c : true ≡ false = sym il ∙ string_not_last t k in cc)
@@ -77,13 +77,13 @@ string_list text w t ts (with_others others q l more) k h =
 
 -- ---- the semicolon
 
-no_semicolon : (text : List ℕ) (t : Token) (ts : List Token) → Begins text t ts
+no_semicolon : (text : List ℕ) (t : Token) (ts : List Token) → AreTokensFrom text t ts
     → is_mark (lexeme text t).means semicolon ≡ false
     → behind_syntax true (lexemes text ts) ≡ failed (unexpected (lexeme text t))
 no_semicolon text t ts (alone q il) h = rw q (rw h refl)
 no_semicolon text t ts (with_others others q n more) h = rw q (rw h refl)
 
-semicolon_list : (text : List ℕ) (t : Token) (ts : List Token) → Begins text t ts
+semicolon_list : (text : List ℕ) (t : Token) (ts : List Token) → AreTokensFrom text t ts
     → is_mark (lexeme text t).means semicolon ≡ true
     → (us : List Token) × AreTokens text t.end us × (behind_syntax true (lexemes text ts) ≡ run true nothing_said states.Begin (lexemes text us))
 semicolon_list text t ts (alone q il) h = absurd (let c : true ≡ false = sym il ∙ mark_not_last text t semicolon h in cc)
@@ -93,9 +93,9 @@ semicolon_list text t ts (with_others others q n more) h = (others, more, rw q (
 
 -- the tokens behind one, of which this is the first
 abbrev pub Next : List ℕ → Token → Token → Type 0
-Next text t u = (us : List Token) → AreTokens text t.end us → Begins text u us
+Next text t u = (us : List Token) → AreTokens text t.end us → AreTokensFrom text u us
 
-pub no_string_behind : (text : List ℕ) (w : Lexeme) (t u : Token) (ts : List Token) → Begins text t ts
+pub no_string_behind : (text : List ℕ) (w : Lexeme) (t u : Token) (ts : List Token) → AreTokensFrom text t ts
     → is_mark (lexeme text t).means equals ≡ true → Next text t u → (u.kind ≡ kinds.Text → ⊥)
     → behind_word true w (lexemes text ts) ≡ failed (unexpected (lexeme text u))
 no_string_behind text w t u ts b h next n = by (word_list text w t ts b h)
@@ -104,7 +104,7 @@ no_string_behind text w t u ts b h next n = by (word_list text w t ts b h)
         → behind_word true w (lexemes text ts) ≡ failed (unexpected (lexeme text u))
     by (us, a, e) = e ∙ no_string text w u us (next us a) n
 
-pub other_string_behind : (text : List ℕ) (w : Lexeme) (t u : Token) (ts : List Token) → Begins text t ts
+pub other_string_behind : (text : List ℕ) (w : Lexeme) (t u : Token) (ts : List Token) → AreTokensFrom text t ts
     → is_mark (lexeme text t).means equals ≡ true → Next text t u → u.kind ≡ kinds.Text
     → bytes_eq (string_value (literal_of text u)) (codes "proto3") ≡ false
     → behind_word true w (lexemes text ts) ≡ failed (fault_at reasons.Syntax2 w.span)
@@ -118,7 +118,7 @@ other_string_behind text w t u ts b h next k p = by (word_list text w t ts b h)
 abbrev ProtoRead : List ℕ → Lexeme → Token → List Token → Type 0
 ProtoRead text w u ts = (vs : List Token) × AreTokens text u.end vs × (behind_word true w (lexemes text ts) ≡ behind_syntax true (lexemes text vs))
 
-string_behind : (text : List ℕ) (w : Lexeme) (t u : Token) (ts : List Token) → Begins text t ts
+string_behind : (text : List ℕ) (w : Lexeme) (t u : Token) (ts : List Token) → AreTokensFrom text t ts
     → is_mark (lexeme text t).means equals ≡ true → Next text t u → u.kind ≡ kinds.Text
     → bytes_eq (string_value (literal_of text u)) (codes "proto3") ≡ true → ProtoRead text w u ts
 string_behind text w t u ts b h next k p = by (word_list text w t ts b h)
@@ -132,7 +132,7 @@ string_behind text w t u ts b h next k p = by (word_list text w t ts b h)
         → ProtoRead text w u ts
     by (us, a, e) = at us e (string_list text w u us (next us a) k p)
 
-pub no_semicolon_behind : (text : List ℕ) (w : Lexeme) (t u v : Token) (ts : List Token) → Begins text t ts
+pub no_semicolon_behind : (text : List ℕ) (w : Lexeme) (t u v : Token) (ts : List Token) → AreTokensFrom text t ts
     → is_mark (lexeme text t).means equals ≡ true → Next text t u → u.kind ≡ kinds.Text
     → bytes_eq (string_value (literal_of text u)) (codes "proto3") ≡ true → Next text u v
     → is_mark (lexeme text v).means semicolon ≡ false
@@ -142,7 +142,7 @@ no_semicolon_behind text w t u v ts b h next k p further m = by (string_behind t
     by : ProtoRead text w u ts → behind_word true w (lexemes text ts) ≡ failed (unexpected (lexeme text v))
     by (vs, d, f) = f ∙ no_semicolon text v vs (further vs d) m
 
-pub semicolon_behind : (text : List ℕ) (w : Lexeme) (t u v : Token) (ts : List Token) → Begins text t ts
+pub semicolon_behind : (text : List ℕ) (w : Lexeme) (t u v : Token) (ts : List Token) → AreTokensFrom text t ts
     → is_mark (lexeme text t).means equals ≡ true → Next text t u → u.kind ≡ kinds.Text
     → bytes_eq (string_value (literal_of text u)) (codes "proto3") ≡ true → Next text u v
     → is_mark (lexeme text v).means semicolon ≡ true

@@ -389,7 +389,7 @@ abbrev pub behind_step : Draft → Lexeme → List Lexeme → Result Step ProtoF
 behind_step d x xs r = behind (λ c t. run true c t xs) true d x r
 
 -- a list of tokens begins with this one, and the others are those behind it
-pub data Begins (text : List ℕ) (t : Token) : List Token → Type 0 where
-  alone : {ts : List Token} → ts ≡ t ∷ [] → is_last t.kind ≡ true → Begins text t ts
+pub data AreTokensFrom (text : List ℕ) (t : Token) : List Token → Type 0 where
+  alone : {ts : List Token} → ts ≡ t ∷ [] → is_last t.kind ≡ true → AreTokensFrom text t ts
   with_others : {ts : List Token} (others : List Token) → ts ≡ t ∷ others → is_last t.kind ≡ false
-      → AreTokens text t.end others → Begins text t ts
+      → AreTokens text t.end others → AreTokensFrom text t ts

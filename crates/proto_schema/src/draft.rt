@@ -17,21 +17,21 @@ use proto_file::{
 use std::alloc::Global;
 use std::mem;
 
-/// The block that is open in the file, or in the innermost open message.
+// The block that is open in the file, or in the innermost open message.
 #[derive(Clone, Copy)]
-pub enum Block {
+pub(crate) enum Block {
     None,
-    /// A oneof, by its place in its message, and whether it has a field.
+    // A oneof, by its place in its message, and whether it has a field.
     Oneof(usize, bool),
-    /// An enum, and whether it has a value.
+    // An enum, and whether it has a value.
     Enum(bool),
     Service,
-    /// The options of an rpc.
+    // The options of an rpc.
     Rpc,
 }
 
-/// A file while it is read.
-pub struct Draft {
+// A file while it is read.
+pub(crate) struct Draft {
     package: Option<Word>,
     imports: Imports,
     messages: Vec<MessageDecl>,
@@ -183,8 +183,8 @@ fn oneofs_in(messages: &[MessageDecl], place: usize) -> usize
 
 #[tactic(auto, using(crate::proofs::Drafts::draft_lemmas))]
 impl Draft {
-    /// Nothing is said.
-    pub fn new(alloc: Global) -> Draft
+    // Nothing is said.
+    pub(crate) fn new(alloc: Global) -> Draft
         ensures { draft_of result ≡ nothing_said }
     {
         Draft {
@@ -198,8 +198,8 @@ impl Draft {
         }
     }
 
-    /// Where the next statement stands.
-    pub fn place(&self) -> Place
+    // Where the next statement stands.
+    pub(crate) fn place(&self) -> Place
         ensures { result ≡ place_of (draft_of self.now) }
     {
         match self.block {
@@ -214,15 +214,15 @@ impl Draft {
         }
     }
 
-    /// Whether a message can't be opened, since `MAX_OPEN` are open.
-    pub fn is_deep(&self) -> bool
+    // Whether a message can't be opened, since `MAX_OPEN` are open.
+    pub(crate) fn is_deep(&self) -> bool
         ensures { result ≡ nat_le MAX_OPEN (length (draft_of self.now).messages) }
     {
         self.nested.len() >= MAX_OPEN
     }
 
-    /// The file, where nothing is open.
-    pub fn into_file(self) -> File
+    // The file, where nothing is open.
+    pub(crate) fn into_file(self) -> File
         ensures { result ≡ (draft_of self).file }
     {
         let Draft {
@@ -382,8 +382,8 @@ impl Draft {
         }
     }
 
-    /// Opens a block.
-    pub fn open(&mut self, alloc: Global, opening: Opening, name: Word) -> Result<(), Memory>
+    // Opens a block.
+    pub(crate) fn open(&mut self, alloc: Global, opening: Opening, name: Word) -> Result<(), Memory>
         ensures { OnOk result (draft_of self.new ≡ added (draft_of self.old) (said.Open opening name)) }
     {
         match opening {
@@ -394,8 +394,8 @@ impl Draft {
         }
     }
 
-    /// Adds what a statement says.
-    pub fn add(&mut self, alloc: Global, says: Said) -> Result<(), Memory>
+    // Adds what a statement says.
+    pub(crate) fn add(&mut self, alloc: Global, says: Said) -> Result<(), Memory>
         ensures { OnOk result (draft_of self.new ≡ added (draft_of self.old) says) }
     {
         match says {

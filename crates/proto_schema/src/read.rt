@@ -15,7 +15,7 @@ ghost use Rattle.proto_file.specs.declared.file.File.{File};
 ghost use Rattle.proto_file.specs.declared.file.Word.{Word};
 ghost use Rattle.proto_parts.specs.declared.fault.ProtoFault.TheVariants as faults;
 ghost use Rattle.proto_parts.specs.Reading.{Lies};
-ghost use Rattle.proto_schema.specs.Running.{Comes, Failed, Follows, Begins, run, reading, behind_word, behind_step, draft_of};
+ghost use Rattle.proto_schema.specs.Running.{Comes, Failed, Follows, AreTokensFrom, run, reading, behind_word, behind_step, draft_of};
 ghost use Rattle.proto_schema.specs.Running.{place_of, is_over, is_too_deep as too_deep, depth};
 ghost use Rattle.proto_schema.specs.Running.{statement_step as statement_reading};
 ghost use Rattle.proto_parts.specs.Lexemes.{Lexeme};
@@ -43,7 +43,7 @@ fn next(text: &[u8], place: usize, line: u64) -> Token
     ensures lies { Lies text.now result }
     ensures goes_on { is_last result.kind ≡ false → place < result.end }
     ensures same_line { is_last result.kind ≡ false → line_at text.now result.end ≡ result.line }
-    ensures list { (ts : List Token) → AreTokens text.now place ts → Begins text.now result ts }
+    ensures list { (ts : List Token) → AreTokens text.now place ts → AreTokensFrom text.now result ts }
 {
     one_token();
     next_token(text, place, line)

@@ -25,44 +25,44 @@ use proto_parts::{
 use proto_tokens::{Kind, Token, string_value};
 use std::alloc::Global;
 
-/// Where a statement stands.
+// Where a statement stands.
 #[derive(Clone, Copy)]
-pub enum Place {
-    /// In the file, with a package before or not.
+pub(crate) enum Place {
+    // In the file, with a package before or not.
     File { package: bool },
     Message,
-    /// In a oneof, with a field before or not.
+    // In a oneof, with a field before or not.
     Oneof { filled: bool },
-    /// In an enum, with a value before or not.
+    // In an enum, with a value before or not.
     Enum { filled: bool },
     Service,
-    /// In the block of an rpc.
+    // In the block of an rpc.
     Rpc,
 }
 
-/// What opens a block.
+// What opens a block.
 #[derive(Clone, Copy)]
-pub enum Opening {
+pub(crate) enum Opening {
     Message,
     Enum,
     Service,
     Oneof,
 }
 
-/// How far a statement is read.
+// How far a statement is read.
 #[derive(Drop)]
-pub enum State {
-    /// Nothing of it is read.
+pub(crate) enum State {
+    // Nothing of it is read.
     Begin,
     Package(NameState),
-    /// `import`, or `import public`, is read.
+    // `import`, or `import public`, is read.
     Import(bool),
-    /// The path is read.
+    // The path is read.
     Imported(Import),
     Option(OptionState),
-    /// The first word of a block is read.
+    // The first word of a block is read.
     Opening(Opening),
-    /// Its name is read.
+    // Its name is read.
     Opened(Opening, Word),
     Field(FieldState),
     Reserved(ReservedState),
@@ -70,9 +70,9 @@ pub enum State {
     Rpc(RpcState),
 }
 
-/// What a whole statement says.
+// What a whole statement says.
 #[derive(Drop)]
-pub enum Said {
+pub(crate) enum Said {
     Nothing,
     Package(Word),
     Import(Import),
@@ -81,17 +81,17 @@ pub enum Said {
     Ranges(Ranges),
     Names(Words),
     Value(ValueDecl),
-    /// A method, and whether the block of its options is open now.
+    // A method, and whether the block of its options is open now.
     Rpc(RpcDecl, bool),
-    /// The innermost block is closed.
+    // The innermost block is closed.
     Close,
 }
 
-/// What a token does to a statement.
+// What a token does to a statement.
 #[derive(Drop)]
-pub enum Step {
+pub(crate) enum Step {
     More(State),
-    /// It is its last one.
+    // It is its last one.
     Done(Said),
 }
 
@@ -457,9 +457,9 @@ fn of_rpc(alloc: Global, text: &[u8], rpc: RpcState, token: &Token) -> Result<St
     }
 }
 
-/// A token of a statement that stands at this place.
+// A token of a statement that stands at this place.
 #[tactic(auto, unfolding(crate::specs::Running::statement_step))]
-pub fn statement_step(
+pub(crate) fn statement_step(
     alloc: Global,
     text: &[u8],
     place: Place,

@@ -118,12 +118,6 @@ halved entries sorted front back half within sound moved at_front at_back =
       sound = sound;
     }
 
--- the front as it was sorted
-pub front_sorted : (entries sorted front : List Weight) (half : ℕ) → half ≤ length entries
-    → IsPermutation (take half entries) sorted → front ≡ take half (sorted ++ drop half entries) → front ≡ sorted
-front_sorted entries sorted front half within moved at_front =
-    at_front ∙ seam-take sorted (drop half entries) half (length_permutation (take half entries) sorted moved ∙ length-take-le half entries within)
-
 All-behind : (P : Weight → Type 0) (xs ys : List Weight) → All P (xs ++ ys) → All P ys
 All-behind P [] ys all = all
 All-behind P (x ∷ xs) ys all = All-behind P xs ys (All-tail P x (xs ++ ys) all)

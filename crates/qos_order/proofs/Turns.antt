@@ -149,10 +149,6 @@ first_fits wheel visit conn sound first fits =
     let at : seat_of wheel conn ≡ Some found.0 = find-contained (λ (s : Seat). s.conn) wheel.listed conn found.0 sound.listed_once found.1 found.2 in
     rw at (rw (grant_of_first wheel conn (drop 1 wheel.order) found.0 is at) at fits)
 
-pub some_first : (order : List ℕ) (conn : ℕ) → Some conn ≡ slice_get order 0 → 0 < length order
-some_first [] conn first = cc
-some_first (n ∷ ns) conn first = omega arith
-
 -- connections stay by number where their numbers stay
 pub ascends_alike : (seats others : List Seat) → numbers_of others ≡ numbers_of seats → SeatsAscend seats → SeatsAscend others
 ascends_alike seats others same up i j d le within =

@@ -73,9 +73,9 @@ impl Account {
     }
 }
 
-/// How many rounds in a row a connection of this weight gets that kept so many: the weight, and of the
-/// kept ones at most as many again.
-pub fn granted(weight: u64, kept: u64) -> u64
+// How many rounds in a row a connection of this weight gets that kept so many: the weight, and of the
+// kept ones at most as many again.
+pub(crate) fn granted(weight: u64, kept: u64) -> u64
     requires { IsWeight weight }
     ensures value { result ≡ granted weight kept }
     ensures few { result ≤ 200 }

@@ -12,8 +12,8 @@ use crate::weights::Weight;
 use std::alloc::{AllocError, Global};
 use std::collections::VecDeque;
 
-/// Where a connection stands among those that are listed by number.
-pub fn place_of(seats: &[Seat], conn: u32) -> Option<usize>
+// Where a connection stands among those that are listed by number.
+pub(crate) fn place_of(seats: &[Seat], conn: u32) -> Option<usize>
     requires once { IsDistinct nat_eq (numbers_of seats.now) }
     requires ascends { SeatsAscend seats.now }
     ensures seat { option_and_then (slice_get seats.now) result ≡ find (λ s. s.conn == conn) seats.now }
@@ -25,8 +25,8 @@ pub fn place_of(seats: &[Seat], conn: u32) -> Option<usize>
     }
 }
 
-/// Counts a visit in the account of a listed connection.
-pub fn count(seats: &mut [Seat], conn: u32, given: u64, ending: Ending)
+// Counts a visit in the account of a listed connection.
+pub(crate) fn count(seats: &mut [Seat], conn: u32, given: u64, ending: Ending)
     requires once { IsDistinct nat_eq (numbers_of seats.old) }
     requires ascends { SeatsAscend seats.old }
     requires weights { All (λ s. IsWeight s.weight) seats.old }
@@ -43,8 +43,8 @@ pub fn count(seats: &mut [Seat], conn: u32, given: u64, ending: Ending)
     seat.account.visit(weight, given, ending);
 }
 
-/// The connections of a list, in its order.
-pub fn conns(alloc: Global, weights: &[Weight]) -> Result<VecDeque<u32>, AllocError>
+// The connections of a list, in its order.
+pub(crate) fn conns(alloc: Global, weights: &[Weight]) -> Result<VecDeque<u32>, AllocError>
     ensures { IfOk result (λ order. order.items ≡ conns_of weights.now) }
 {
     let mut order = VecDeque::with_capacity(alloc, weights.len())?;
@@ -54,8 +54,8 @@ pub fn conns(alloc: Global, weights: &[Weight]) -> Result<VecDeque<u32>, AllocEr
     Ok(order)
 }
 
-/// The connections of a list, before their first visits.
-pub fn seats(alloc: Global, weights: &[Weight]) -> Result<Vec<Seat>, AllocError>
+// The connections of a list, before their first visits.
+pub(crate) fn seats(alloc: Global, weights: &[Weight]) -> Result<Vec<Seat>, AllocError>
     ensures { IfOk result (λ seats. seats.items ≡ map opened weights.now) }
 {
     let mut seats = Vec::with_capacity(alloc, weights.len())?;

@@ -69,8 +69,8 @@ impl Weights {
     }
 }
 
-/// The weights by ascending number, or their first fault. It takes no memory.
-pub fn by_number(weights: Weights) -> Result<Vec<Weight>, WeightFault>
+// The weights by ascending number, or their first fault. It takes no memory.
+pub(crate) fn by_number(weights: Weights) -> Result<Vec<Weight>, WeightFault>
     ensures sound { OnOk result (IsSound weights) }
     ensures same { IfOk result (λ sorted. IsPermutation weights sorted.items) }
     ensures ascends { IfOk result (λ sorted. Ascends sorted.items) }

@@ -5,7 +5,7 @@ use Rattle.std.specs.Prelude.{◌⊎◌, OnOk, IfErr, IsErrOf, slice_get}
 use Rattle.std.proofs.lemmas.List.Elements.{All-head, All-tail}
 use Rattle.mrpc_table.specs.declared.table.Table.{Table}
 use Rattle.frame_transport.specs.Feed.{Fed, total, Gives, GoesOn, StopsAt}
-use Rattle.frame_transport.specs.Frames.{IsFrame, IsPartial, IsFaultAt, Splits, FaultStays, bytes_of, joined, StandFrom}
+use Rattle.frame_transport.specs.Frames.{IsFrame, IsFaultAt, Splits, FaultStays, bytes_of, joined, StandFrom}
 use Rattle.frame_transport.specs.declared.format.Frame.{Frame}
 use Rattle.frame_transport.specs.declared.fault.FeedFault.{FeedFault}
 use Rattle.frame_transport.specs.declared.fault.FeedFault.TheVariants.{Memory}
@@ -24,11 +24,6 @@ first_is fed (g ∷ frames) rest f s e =
       bytes = s.whole ∙ append_assoc (bytes_of g) (joined frames) rest;
       place = s.places.0;
     })
-
--- without a frame all is the rest
-pub none_is : (fed : Fed) (frames : List Frame) (rest : List ℕ) → Splits fed.place fed.bytes frames rest → slice_get frames 0 ≡ None → IsPartial fed.bytes
-none_is fed [] rest s e = subst IsPartial (sym s.whole) s.partial
-none_is fed (g ∷ frames) rest s e = (let wrong : Some g ≡ None = e in absurd cc)
 
 -- what is known of the bytes of frames
 abbrev pub OneFrame : Type 0

@@ -1,5 +1,5 @@
 -- From what a call of a frame is judged to what a turn tells.
-use Rattle.std.proofs.Common.{◌≡◌, ℕ, ◌<◌, ◌≤◌, ◌↔◌, List, false, Option, Some, None, Result, Ok, Err, refl, sym, ap, subst, ◌∙◌, arith, ⊎_elim}
+use Rattle.std.proofs.Common.{◌≡◌, ℕ, ◌<◌, ◌≤◌, List, false, Option, Some, None, Result, Ok, Err, refl, sym, ap, subst, ◌∙◌, arith, ⊎_elim}
 use Rattle.std.specs.Prelude.{All, IfOk}
 use Rattle.mrpc_table.specs.Node.{Node}
 use Rattle.mrpc_table.specs.Normal.{IsNormal}
@@ -86,14 +86,6 @@ taken_turns T policy old new stores after f o (Arrived kind method number block 
   normal = subst (IsNormal T (message_of_frame T f)) (sym takes.2) normal;
   placed = takes.3;
 }
-
--- a turn tells that no frame waits exactly where none does
-pub none_where_partial : (T : Table) (policy : Option AccessPolicy) (old new : Receiving) (stores after : List (ℕ × ℕ)) (f : Frame) (r : Result Arrival Memory)
-    → IsFirst old.fed f → IfOk r (Turns T policy old new stores after) → (r ≡ Ok NoFrame) ↔ IsPartial old.fed.bytes
-none_where_partial T policy old new stores after f r first turns = (
-  λ none. (subst (λ (s : Result Arrival Memory). IfOk s (Turns T policy old new stores after)) none turns).0,
-  λ partial. absurd (partial f first.rest first.frame first.bytes),
-)
 
 -- what holds of all that was taken in
 pub ok_taken : (T : Table) (policy : Option AccessPolicy) (old new : Receiving) (stores after : List (ℕ × ℕ)) (f : Frame) (o : Opened) (r : Result Arrival Memory)

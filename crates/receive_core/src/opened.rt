@@ -15,15 +15,15 @@ use policy_access::Access;
 use std::alloc::Global;
 use wire_decode::{DecodeFault, decode};
 
-/// The call of a frame, and the words of the block in which its message is placed.
+// The call of a frame, and the words of the block in which its message is placed.
 #[derive(Drop)]
 pub(crate) struct Opened {
     pub call: Call,
-    /// 2^64 - 1 stands for any larger number.
+    // 2^64 - 1 stands for any larger number.
     pub words: u64,
 }
 
-/// What a frame is read as.
+// What a frame is read as.
 pub(crate) enum Reading {
     Call(Opened),
     Dropped(DropCause),
@@ -39,7 +39,7 @@ fn judged_number(frame: &Frame) -> u32
     }
 }
 
-/// Reads a frame that came on a connection.
+// Reads a frame that came on a connection.
 pub(crate) fn read_frame(
     alloc: Global,
     conn: u32,
@@ -75,7 +75,7 @@ pub(crate) fn read_frame(
     }
 }
 
-/// Why the call of a frame doesn't arrive, where the policy denies it or a heap of so many words is too small.
+// Why the call of a frame doesn't arrive, where the policy denies it or a heap of so many words is too small.
 pub(crate) fn refusal(
     opened: &Opened,
     table: &Table,

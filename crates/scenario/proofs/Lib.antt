@@ -2,4 +2,3 @@ mod Refusals
 mod Rows
 mod Texts
 mod SameKeys
-mod FirstReason

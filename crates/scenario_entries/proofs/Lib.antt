@@ -6,4 +6,3 @@ mod Lists
 mod Naming
 mod OneFault
 mod Ranges
-mod Submitting

@@ -12,9 +12,9 @@ use mrpc_table::{Decimal, Memory};
 use scenario::ScenarioReason;
 use std::alloc::Global;
 
-/// An entry, with the policy as the scenario's table reads it.
+// An entry, with the policy as the scenario's table reads it.
 #[derive(Clone, Copy)]
-pub struct ChainEntry<'a> {
+pub(crate) struct ChainEntry<'a> {
     name: &'a [u8],
     policy: &'a Policy,
 }

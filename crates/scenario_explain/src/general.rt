@@ -43,7 +43,7 @@ const WORK: &str =
     ": too much could be loaded: the calls of the clients up to here, each counted twice for its reply, times loads pass \
      16777216";
 
-/// What a reason says, where it isn't known of which part of the entry.
+// What a reason says, where it isn't known of which part of the entry.
 pub(crate) fn general_words(reason: ScenarioReason) -> &'static str {
     words_for(&WORDS, reason, WORK)
 }

@@ -7,7 +7,7 @@ use mrpc_table::{Bytes, is_word};
 use scenario_words::{Part, say};
 use toml::{Table, Value};
 
-/// Says which key of an entry is at fault.
+// Says which key of an entry is at fault.
 pub(crate) fn say_key<'a>(out: &mut Bytes, site: &Site<'a>) -> Said<'a> {
     let keys = keys_of(site.at, site.entry);
     if !keys.is_empty() {

@@ -7,7 +7,7 @@ use scenario::keys::{conn, end_a, end_b};
 use scenario_words::Part;
 use toml::{Table, Value};
 
-/// Says why a connection doesn't stand in a pair.
+// Says why a connection doesn't stand in a pair.
 pub(crate) fn say_pair(out: &mut Bytes, site: &Site<'_>) -> Said<'static> {
     match site.at {
         Entry::App(_) => {

@@ -20,7 +20,7 @@ const FORM: &str =
 // Keys at which a name stands, with how a sentence of each begins.
 const NAMES: [Row; 2] = [("name", ": name is "), ("tenant", ": tenant is ")];
 
-/// Says which name of an entry is none, apart from those in lines.
+// Says which name of an entry is none, apart from those in lines.
 pub(crate) fn say_name(out: &mut Bytes, site: &Site<'_>) -> Said<'static> {
     match site.at {
         Entry::Top => say_service(out, site.entry),
@@ -73,7 +73,7 @@ fn say_formless(
     say_at(out, key, &parts)
 }
 
-/// Says which entry in front of one declares the same.
+// Says which entry in front of one declares the same.
 pub(crate) fn say_known(out: &mut Bytes, site: &Site<'_>) -> Said<'static> {
     match site.at {
         Entry::Tenant(_) | Entry::Policy(_) => say_known_name(out, site),
@@ -150,7 +150,7 @@ fn first_named(entries: &[Value], name: &[u8]) -> Option<u64> {
     None
 }
 
-/// Says which name or connection of an entry is that of nothing, apart from those in lines.
+// Says which name or connection of an entry is that of nothing, apart from those in lines.
 pub(crate) fn say_unknown(alloc: Global, out: &mut Bytes, site: &Site<'_>) -> Said<'static> {
     match site.at {
         Entry::Policy(_) => say_unknown_tenant(out, site),

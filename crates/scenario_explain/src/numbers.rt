@@ -9,7 +9,7 @@ use scenario_values::Range;
 use scenario_words::Part;
 use toml::Table;
 
-/// Says which number of an entry is out of its range, apart from those in lines.
+// Says which number of an entry is out of its range, apart from those in lines.
 pub(crate) fn say_number(out: &mut Bytes, site: &Site<'_>) -> Said<'static> {
     if matches!(site.at, Entry::Tenant(number) if number > MAX_TENANTS as u64) {
         let words = ": a scenario has 16 tenants at the most";

@@ -26,7 +26,7 @@ const COUNTED: &str = " times at the most, a \"spin\" counted twice for each N";
 
 const LAST: &str = ": the one \"reply ADDR\" of a server's program is its last line";
 
-/// Says which line of an application's program a reason is of, or what it says of all lines.
+// Says which line of an application's program a reason is of, or what it says of all lines.
 pub(crate) fn say_program(
     out: &mut Bytes,
     site: &Site<'_>,

@@ -22,7 +22,7 @@ struct LineFault {
     reason: ScenarioReason,
 }
 
-/// Says which line of a policy a reason is of.
+// Says which line of a policy a reason is of.
 pub(crate) fn say_rules(
     alloc: Global,
     out: &mut Bytes,
@@ -35,7 +35,7 @@ pub(crate) fn say_rules(
     }
 }
 
-/// Says which line of which of the policies that an entry names a reason is of, under the schema of an application.
+// Says which line of which of the policies that an entry names a reason is of, under the schema of an application.
 pub(crate) fn say_own_rules(
     alloc: Global,
     out: &mut Bytes,

@@ -22,7 +22,7 @@ struct SchemaFault {
 
 const MORE: &str = ", of which \"mrpc check\" says more where the schema is a file";
 
-/// Says in which line the schema of an entry is at fault.
+// Says in which line the schema of an entry is at fault.
 pub(crate) fn say_schema(alloc: Global, out: &mut Bytes, entry: &Table) -> Said<'static> {
     match fault_of(alloc, word_at(entry, "schema"))? {
         None => Ok(None),

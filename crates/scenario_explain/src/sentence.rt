@@ -15,7 +15,7 @@ use scenario::{Entry, ScenarioReason};
 use scenario_words::{Part, say};
 use std::alloc::Global;
 
-/// Says what a reason says of an entry, and gives the part of the entry that it is of.
+// Says what a reason says of an entry, and gives the part of the entry that it is of.
 pub(crate) fn say_reason<'a>(
     alloc: Global,
     out: &mut Bytes,

@@ -20,7 +20,7 @@ const FORMS: &str =
 
 const LOWER: &str = "its count is lower than that of a line before it";
 
-/// Says which line of an operator a reason of lines is of.
+// Says which line of an operator a reason of lines is of.
 pub(crate) fn say_step(out: &mut Bytes, entry: &Table, reason: ScenarioReason) -> Said<'static> {
     let mut number = 0u64;
     let mut most = 0;
@@ -63,7 +63,7 @@ fn step_words(reason: ScenarioReason) -> &'static str {
     }
 }
 
-/// The policy that a line names, if it names one.
+// The policy that a line names, if it names one.
 pub(crate) fn policy_of(line: &[u8]) -> Option<&[u8]> {
     match read_step(line) {
         Ok(StepText::Attach { policy, .. }) => Some(policy),
@@ -72,7 +72,7 @@ pub(crate) fn policy_of(line: &[u8]) -> Option<&[u8]> {
     }
 }
 
-/// Says which line of an operator names a policy that there isn't.
+// Says which line of an operator names a policy that there isn't.
 pub(crate) fn say_unknown_step(alloc: Global, out: &mut Bytes, site: &Site<'_>) -> Said<'static> {
     match declared_in(alloc, site.all)? {
         Some(declared) => say_undeclared_line(out, &declared, items_at(site.entry, "steps")),
@@ -96,7 +96,7 @@ fn say_undeclared_line(out: &mut Bytes, declared: &Declarations, lines: &[Value]
     Ok(None)
 }
 
-/// Says which line of which policy that an operator names a reason is of, under the schema of its application.
+// Says which line of which policy that an operator names a reason is of, under the schema of its application.
 pub(crate) fn say_step_rules(
     alloc: Global,
     out: &mut Bytes,
@@ -115,7 +115,7 @@ fn app_of<'a>(site: &Site<'a>) -> Option<&'a Table> {
     Some(app)
 }
 
-/// Says which line of an operator the chain of its connection refuses.
+// Says which line of an operator the chain of its connection refuses.
 pub(crate) fn say_refused(
     alloc: Global,
     out: &mut Bytes,
@@ -159,7 +159,7 @@ fn say_which(out: &mut Bytes, refused: &Refused<'_>, reason: ScenarioReason) -> 
     say_in(out, "steps", refused.number, &parts)
 }
 
-/// Says why the chain of an application is none, or which policy can't judge what it is delivered.
+// Says why the chain of an application is none, or which policy can't judge what it is delivered.
 pub(crate) fn say_chain(out: &mut Bytes, entry: &Table, reason: ScenarioReason) -> Said<'static> {
     match reason {
         ScenarioReason::Taken => say_twice(out, items_at(entry, "chain")),

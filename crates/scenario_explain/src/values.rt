@@ -6,7 +6,7 @@ use mrpc_table::Bytes;
 use scenario_words::Part;
 use toml::Value;
 
-/// Whether a value is of a type.
+// Whether a value is of a type.
 pub(crate) fn fits(takes: Takes, value: &Value) -> bool {
     match takes {
         Takes::Text => value.is_str(),
@@ -35,7 +35,7 @@ fn holds_all(value: &Value, tables: bool) -> bool {
     true
 }
 
-/// Says that the value at a key is of another type.
+// Says that the value at a key is of another type.
 pub(crate) fn say_type<'a>(
     out: &mut Bytes,
     name: &'a str,

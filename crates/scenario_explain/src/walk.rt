@@ -11,7 +11,7 @@ use scenario_values::items_at;
 use std::alloc::Global;
 use toml::{Table, Value};
 
-/// Where the first step that is refused stands, from 1, and the name that it tells.
+// Where the first step that is refused stands, from 1, and the name that it tells.
 #[derive(Clone, Copy)]
 pub(crate) struct Refused<'a> {
     pub number: u64,
@@ -19,7 +19,7 @@ pub(crate) struct Refused<'a> {
     pub name: &'a [u8],
 }
 
-/// The first step of an operator that the chain of an application refuses.
+// The first step of an operator that the chain of an application refuses.
 pub(crate) fn refused_on<'a>(
     alloc: Global,
     declared: &'a Declarations,

@@ -1,12 +1,11 @@
 -- A line by the steps of its reading: its form, its words, its place.
-use Rattle.std.proofs.Common.{◌≡◌, ◌≢◌, ℕ, ◌≤◌, List, [], ◌∷◌, length, Some, None, refl, sym, ap, ◌∙◌, subst, arith}
+use Rattle.std.proofs.Common.{◌≡◌, ◌≢◌, ℕ, ◌≤◌, List, [], length, Some, refl, sym, ap, ◌∙◌, subst, arith}
 use Rattle.mrpc_table.specs.Lines.{words_of}
 use Rattle.script_words.specs.Lines.{AreSaid, IsAgainst, in_word, miscounted}
-use Rattle.script_words.specs.Sorts.{Meaning, word, number, unbounded, name}
+use Rattle.script_words.specs.Sorts.{Meaning}
 use Rattle.script_words.specs.declared.fault.ScriptReason.{ScriptReason}
 use Rattle.script_words.specs.declared.fault.ScriptReason.TheVariants as script
 use Rattle.script_words.specs.declared.sort.Sort.{Sort}
-use Rattle.scenario_lines.specs.Deciding.{Fits}
 use Rattle.scenario_lines.specs.Forms.{sorts_of}
 use Rattle.scenario_lines.specs.Lines.{IsLine, IsNoPlace, LineAgainst, WordsAgainst, behind, form_of, in_words, no_form, no_place, place_in}
 use Rattle.scenario_lines.specs.Reasons.{IsFirst, of_words, order_of}
@@ -23,15 +22,6 @@ NotBoth = (sorts : List Sort) (words : List (List ℕ)) (ms : List Meaning) (r :
 
 at_least : (q r : LineReason) (n : ℕ) → q ≡ r → n ≤ order_of r → n ≤ order_of q
 at_least q r n e h = subst (λ (x : LineReason). n ≤ order_of x) (sym e) h
-
--- ---- no form
-
-pub none_first : (r : ProgramRole) (heap : ℕ) (text : List ℕ) → form_of r text ≡ None → IsFirst (LineAgainst r heap text) Word
-none_first r heap text none = record { stands = no_form none refl; first = by } where
-  by : (other : LineReason) → LineAgainst r heap text other → 2 ≤ order_of other
-  by other (no_form e w) = at_least other Word 2 w (omega arith)
-  by other (in_words f e w) = absurd cc
-  by other (no_place f ms is bad w) = let e = is.form in absurd cc
 
 -- ---- words
 
@@ -92,28 +82,3 @@ place_first one r heap text f ms is bad = record { stands = no_place f ms is bad
       absurd (one (sorts_of g) (behind (words_of text)) ms w.0
       (subst (λ (x : LineForm). AreSaid (sorts_of x) (behind (words_of text)) ms) (same_form r text g f e is.form) is.said) w.1)
   by other (no_place g ns again worse w) = at_least other Place 3 w (omega arith)
-
--- ---- numbers
-
-spin_fits : (ws : List (List ℕ)) (ms : List Meaning) → AreSaid (sorts_of line.Spin) ws ms → Fits line.Spin ms
-spin_fits [] ms h = absurd h
-spin_fits (w ∷ ws) [] h = absurd h
-spin_fits (w ∷ ws) (word k ∷ ms) h = absurd h.0
-spin_fits (w ∷ ws) (number n ∷ ms) h = h.0.1.1
-spin_fits (w ∷ ws) (unbounded d ∷ ms) h = absurd h.0
-spin_fits (w ∷ ws) (name x ∷ ms) h = absurd h.0
-
-submit_fits : (ws : List (List ℕ)) (ms : List Meaning) → AreSaid (sorts_of line.Submit) ws ms → Fits line.Submit ms
-submit_fits [] ms h = absurd h
-submit_fits (w ∷ ws) [] h = absurd h
-submit_fits (w ∷ ws) (word k ∷ ms) h = absurd h.0
-submit_fits (w ∷ ws) (number n ∷ ms) h = h.0.1.1
-submit_fits (w ∷ ws) (unbounded d ∷ ms) h = absurd h.0
-submit_fits (w ∷ ws) (name x ∷ ms) h = absurd h.0
-
-pub fits_of : (f : LineForm) (ws : List (List ℕ)) (ms : List Meaning) → AreSaid (sorts_of f) ws ms → Fits f ms
-fits_of line.Store ws ms h = tt
-fits_of line.Spin ws ms h = spin_fits ws ms h
-fits_of line.Submit ws ms h = submit_fits ws ms h
-fits_of line.Reclaim ws ms h = tt
-fits_of line.Reply ws ms h = tt

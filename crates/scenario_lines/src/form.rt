@@ -13,29 +13,29 @@ pub enum ProgramRole {
     Server,
 }
 
-/// A line of a program.
+// A line of a program.
 #[derive(Clone, Copy)]
 pub enum LineForm {
-    /// `store PLACE VALUE`
+    // `store PLACE VALUE`
     Store,
-    /// `spin N PLACE V W`
+    // `spin N PLACE V W`
     Spin,
-    /// `submit METHOD ADDR`
+    // `submit METHOD ADDR`
     Submit,
-    /// `reclaim BLOCK`
+    // `reclaim BLOCK`
     Reclaim,
-    /// `reply ADDR`
+    // `reply ADDR`
     Reply,
 }
 
-/// A line of an operator.
+// A line of an operator.
 #[derive(Clone, Copy)]
 pub enum StepForm {
-    /// `COUNT attach AT NAME POLICY`
+    // `COUNT attach AT NAME POLICY`
     Attach,
-    /// `COUNT detach NAME`
+    // `COUNT detach NAME`
     Detach,
-    /// `COUNT upgrade NAME POLICY`
+    // `COUNT upgrade NAME POLICY`
     Upgrade,
 }
 
@@ -93,7 +93,7 @@ impl LineForm {
         }
     }
 
-    /// The form of a role's line with this first word; none where it has no form.
+    // The form of a role's line with this first word; none where it has no form.
     pub(crate) fn of(role: ProgramRole, word: &[u8]) -> Option<LineForm>
         ensures { result ≡ line_form role word.now }
     {
@@ -103,7 +103,7 @@ impl LineForm {
             .find(|form| word == form.first_word())
     }
 
-    /// The sorts of the words behind the first one.
+    // The sorts of the words behind the first one.
     pub(crate) fn sorts(self) -> &'static [Sort]
         ensures sorts { result.now ≡ sorts_of self }
         ensures few { length result.now ≤ 9 }
@@ -132,7 +132,7 @@ impl StepForm {
         }
     }
 
-    /// The form of a line with this second word; none where it has no form.
+    // The form of a line with this second word; none where it has no form.
     pub(crate) fn of(word: &[u8]) -> Option<StepForm>
         ensures { result ≡ step_form word.now }
     {
@@ -142,7 +142,7 @@ impl StepForm {
             .find(|form| word == form.step_word().spelling())
     }
 
-    /// The sorts of its words.
+    // The sorts of its words.
     pub(crate) fn sorts(self) -> &'static [Sort]
         ensures sorts { result.now ≡ step_sorts self }
         ensures few { length result.now ≤ 9 }

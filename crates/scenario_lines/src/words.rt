@@ -52,8 +52,8 @@ fn ordered(reason: ScriptReason, lacks_name: bool) -> LineReason
     }
 }
 
-/// What the words of a line say, each judged by its sort, or the first reason against them.
-pub fn judge_words<'a>(sorts: &[Sort], line: &'a [u8]) -> Result<Judged<'a>, LineReason>
+// What the words of a line say, each judged by its sort, or the first reason against them.
+pub(crate) fn judge_words<'a>(sorts: &[Sort], line: &'a [u8]) -> Result<Judged<'a>, LineReason>
     requires { length sorts.now ≤ 9 }
     ensures { MatchResult result (λ said. AreSaid sorts.now (words_of line.now) (meanings_of said.items))
         (IsFirst (WordsAgainst sorts.now (words_of line.now))) }

@@ -16,7 +16,7 @@ use Rattle.scenario.specs.Policies.{KindSays, LinesFail}
 use Rattle.scenario.specs.declared.form.Kind.{Kind}
 use Rattle.scenario.specs.declared.form.Kind.TheVariants as kind
 use Rattle.scenario_policies.specs.Firsts.{IsLined, IsRuled}
-use Rattle.scenario_policies.specs.Marking.{AreMarked, IsNamed, IsReadAgain}
+use Rattle.scenario_policies.specs.Marking.{AreMarked, IsNamedPolicy, IsReadAgain}
 use Rattle.scenario_policies.proofs.Declaring.{access_says, redact_says}
 use Rattle.scenario_policies.proofs.Naming as naming
 
@@ -53,7 +53,7 @@ module _ (d : Declared) where
   place_within name place e = (naming.place_is (λ (p : NamedPolicy). p.name) name d.policies place e).within
 
   module _ (names : List (List ℕ)) (name : List ℕ) (marks : List Bool) (so_far : AreMarked d names marks) where
-    still_named : (place : ℕ) → IsNamed d names place → IsNamed d (names ++ name ∷ []) place
+    still_named : (place : ℕ) → IsNamedPolicy d names place → IsNamedPolicy d (names ++ name ∷ []) place
     still_named place h = (h.0, Contains-append_left names (name ∷ []) h.0 h.1, h.2)
 
     pub marks_same : policy_place d name ≡ None → AreMarked d (names ++ name ∷ []) marks

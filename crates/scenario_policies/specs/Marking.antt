@@ -13,14 +13,14 @@ use Rattle.scenario.specs.Reasons.{IsFirstReason, IsSoFar, of_rule}
 use Rattle.scenario.specs.declared.fault.ScenarioReason.{ScenarioReason}
 
 -- the policy at a place is named
-abbrev pub IsNamed : Declared → List (List ℕ) → ℕ → Type 0
-IsNamed d names place = (name : List ℕ) × Contains names name × (policy_place d name ≡ Some place)
+abbrev pub IsNamedPolicy : Declared → List (List ℕ) → ℕ → Type 0
+IsNamedPolicy d names place = (name : List ℕ) × Contains names name × (policy_place d name ≡ Some place)
 
 -- each place is marked where its policy is named
 pub record AreMarked (d : Declared) (names : List (List ℕ)) (marks : List Bool) : Type 0 where
   pub long : length marks ≡ length d.policies
-  pub named : (place : ℕ) → slice_get marks place ≡ Some true → IsNamed d names place
-  pub marked : (place : ℕ) → IsNamed d names place → slice_get marks place ≡ Some true
+  pub named : (place : ℕ) → slice_get marks place ≡ Some true → IsNamedPolicy d names place
+  pub marked : (place : ℕ) → IsNamedPolicy d names place → slice_get marks place ≡ Some true
 
 -- an entry as it is read under another table
 abbrev pub IsReadAgain : Table → List Members → Members → Result Policy RuleReason → Type 0

@@ -31,7 +31,7 @@ fn lines_at(alloc: Global, entry: &Table, key: &str) -> Result<Lines, Memory>
     Ok(lines)
 }
 
-/// The access policy of an entry, or the reason of its first line at fault.
+// The access policy of an entry, or the reason of its first line at fault.
 pub(crate) fn access_in(
     alloc: Global,
     table: &Schema,
@@ -50,7 +50,7 @@ pub(crate) fn access_in(
     }
 }
 
-/// The redacting policy of an entry, or the reason of its first line at fault.
+// The redacting policy of an entry, or the reason of its first line at fault.
 pub(crate) fn redact_in(
     alloc: Global,
     table: &Schema,
@@ -79,8 +79,8 @@ fn lined_by(ruled: Result<Policy, RuleReason>) -> Result<Option<Policy>, RuleRea
     }
 }
 
-/// The policy of an entry as its lines say it under a table, or the reason of the first of them at fault; none where a
-/// policy of its kind has no lines.
+// The policy of an entry as its lines say it under a table, or the reason of the first of them at fault; none where a
+// policy of its kind has no lines.
 pub(crate) fn lined_policy(
     alloc: Global,
     table: &Schema,

@@ -13,7 +13,7 @@ use mrpc_table::is_name;
 use policy_blocks::Declarations;
 use scenario::{ScenarioReason, earlier, reason_if};
 
-/// Whether the word is no name.
+// Whether the word is no name.
 pub(crate) fn is_no_name(word: &[u8]) -> bool
     ensures { result ≡ is_no_name word.now }
 {

@@ -60,16 +60,6 @@ flag P q b d = flagged P q b d.0 d.1
 
 -- ---- what no reason, and a first one, say of the parts
 
-pub none_parts : (x y : Option ScenarioReason) → earlier x y ≡ None → (x ≡ None) × (y ≡ None)
-none_parts None None e = (refl, refl)
-none_parts None (Some y) e = absurd cc
-none_parts (Some x) None e = absurd cc
-none_parts (Some x) (Some y) e = absurd cc
-
-pub none_flag : (b : Bool) (q : ScenarioReason) → reason_if b q ≡ None → b ≡ false
-none_flag true q e = absurd cc
-none_flag false q e = refl
-
 -- a reason before which none can come
 pub alone_first : (C : ScenarioReason → Type 0) (q : ScenarioReason) → C q → ((other : ScenarioReason) → C other → order_of q ≤ order_of other)
     → IsFirstReason C q

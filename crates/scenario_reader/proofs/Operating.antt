@@ -48,10 +48,6 @@ is_none_of : (o : Option ℕ) → is_none o ≡ true → o ≡ None
 is_none_of None e = refl
 is_none_of (Some n) e = absurd cc
 
--- one of the names is that of no policy
-Lacks : Declared → List (List ℕ) → Type 0
-Lacks d names = (name : List ℕ) × Contains names name × (Contains (policy_names d) name → ⊥)
-
 module _ (d : Declared) where
   lacks_one : (name : List ℕ) → Decides (is_none (policy_place d name)) (Contains (policy_names d) name → ⊥)
   lacks_one name = (

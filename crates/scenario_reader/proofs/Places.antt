@@ -54,16 +54,6 @@ module _ {X : Type 0} (p : X → Bool) where
       both_ways (nat_lt (position_or_len p xs) (length xs)) (none_by (nat_lt (position_or_len p xs) (length xs)) (position_or_len p xs) e)
       (lt-ltb (position_or_len p xs) (length xs) (first_within xs y h is))
 
--- of lists that go together, what stands at one place goes together
-pub each_here : {X Y : Type 0} (R : X → Y → Type 0) (xs : List X) (ys : List Y) (i : ℕ) (x : X) (y : Y) → Each R xs ys → slice_get xs i ≡ Some x
-    → slice_get ys i ≡ Some y → R x y
-each_here R [] [] i x y e a b = absurd cc
-each_here R [] (w ∷ ys) i x y e a b = absurd e
-each_here R (w ∷ xs) [] i x y e a b = absurd e
-each_here {X = X} {Y = Y} R (w ∷ xs) (z ∷ ys) zero x y e a b =
-    subst (λ (v : X). R v y) (same_Some w x a) (subst (λ (v : Y). R w v) (same_Some z y b) e.0)
-each_here R (w ∷ xs) (z ∷ ys) (suc i) x y e a b = each_here R xs ys i x y e.1 a b
-
 pub each_to : {X Y : Type 0} (R : X → Y → Type 0) (xs : List X) (ys : List Y) (i : ℕ) (x : X) → Each R xs ys → slice_get xs i ≡ Some x
     → (y : Y) × (slice_get ys i ≡ Some y) × R x y
 each_to R [] [] i x e at = absurd cc

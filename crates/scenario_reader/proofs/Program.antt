@@ -139,6 +139,3 @@ module _ (not : NotBoth) (one : One) (r : ProgramRole) (heap : ℕ) (texts : Lis
       first = λ q h. (let f = fails_of q h in
           subst (λ (x : ScenarioReason). order_of (of_line why) ≤ order_of x) (sym f.2) (line_order why f.0 (is.first f.0 f.1)));
     }
-
-pub echo_free : (heap : ℕ) (texts : List (List ℕ)) (q : ScenarioReason) → ProgramFails role.Echo heap texts q → ⊥
-echo_free heap texts q h = absurd (let e = h.is_of in cc)

@@ -163,9 +163,6 @@ attachments_are d at (name ∷ names) all =
 
 -- ---- the lines of an operator
 
-names_told : List StepText → List (List ℕ)
-names_told told = filter_map policy_in told
-
 module _ (laws : Laws) where
   again : (line : List ℕ) (a b : StepText) → StepSays line a → StepSays line b → Again a b
   again line a b p q =

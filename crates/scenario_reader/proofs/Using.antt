@@ -5,13 +5,13 @@ use Rattle.std.specs.Prelude.{filter_map, map}
 use Rattle.std.proofs.lemmas.List.{map-append}
 use Rattle.std.proofs.lemmas.List.Elements.{Contains-append_left, Contains-push, Contains-push_cases}
 use Rattle.toml.specs.Data.{Members}
-use Rattle.scenario.specs.Applications.{conn_of, names_in}
+use Rattle.scenario.specs.Applications.{conn_of}
 use Rattle.scenario.specs.Lines.{policy_in}
 use Rattle.scenario.specs.Operators.{NamesPolicy, steps_of}
 use Rattle.scenario_lines.specs.declared.step.StepText.{StepText}
 use Rattle.scenario_reader.specs.Owning.{AreStepNames, IsUsedIn}
 use Rattle.scenario_reader.specs.Stepping.{SomeTell}
-use Rattle.scenario_reader.proofs.Lists.{none_in, there_cases, there_first, there_more}
+use Rattle.scenario_reader.proofs.Lists.{there_cases, there_first, there_more}
 use Rattle.scenario_reader.proofs.Stepping.{Laws}
 use Rattle.scenario_reader.proofs.Telling.{named_from, named_to}
 
@@ -45,15 +45,6 @@ append_cases (w ∷ xs) ys x h = elim (there_cases w (xs ++ ys) x h) [
 pub append_right : {X : Type 0} (xs ys : List X) (x : X) → Contains ys x → Contains (xs ++ ys) x
 append_right [] ys x h = h
 append_right (w ∷ xs) ys x h = there_more w (xs ++ ys) x (append_right xs ys x h)
-
-pub used_none : (ms : Members) (name : List ℕ) → Contains (names_in ms) name ↔ IsUsedIn [] ms name
-used_none ms name = (
-  λ h. inl h,
-  λ h. elim h [
-    | inl there ↦ there
-    | inr (operator, there, same, named) ↦ absurd (none_in operator there)
-  ],
-)
 
 module _ (operators : List Members) (operator ms : Members) (name : List ℕ) where
   still_used : IsUsedIn operators ms name → IsUsedIn (operators ++ operator ∷ []) ms name

@@ -6,34 +6,34 @@ use run_plan::Application;
 use scenario_entries::{Chain, Port};
 use toml::Table;
 
-/// What stands above the applications, or beside them.
+// What stands above the applications, or beside them.
 #[derive(Clone, Copy)]
-pub struct Above<'a, 'o, 'e> {
+pub(crate) struct Above<'a, 'o, 'e> {
     pub declared: &'a Declarations,
-    /// The entries of the policies, as many as are declared.
+    // The entries of the policies, as many as are declared.
     pub policies: &'a [&'a Table],
-    /// The entries of the operators, which weren't looked at yet.
+    // The entries of the operators, which weren't looked at yet.
     pub operators: &'o [&'a Table],
-    /// The ends of all links.
+    // The ends of all links.
     pub ends: &'e [u64],
-    /// How many loads one call makes at most.
+    // How many loads one call makes at most.
     pub loads: u64,
 }
 
-/// An application without a fault.
+// An application without a fault.
 #[derive(Drop)]
-pub struct JoinedApplication<'a> {
+pub(crate) struct JoinedApplication<'a> {
     pub port: Port,
     pub app: Application,
-    /// The chain behind its attachments.
+    // The chain behind its attachments.
     pub chain: Chain<'a>,
-    /// How many calls the clients up to this one submit.
+    // How many calls the clients up to this one submit.
     pub submitted: u64,
 }
 
-/// The applications that were read, each at one place of these lists.
+// The applications that were read, each at one place of these lists.
 #[derive(Drop)]
-pub struct Apps<'a> {
+pub(crate) struct Apps<'a> {
     pub ports: Vec<Port>,
     pub applications: Sequence<Application>,
     pub chains: Vec<Chain<'a>>,

@@ -379,7 +379,7 @@ impl<'a> Apps<'a> {
     }
 }
 
-/// The applications of these entries.
+// The applications of these entries.
 pub(crate) fn read_apps<'a>(
     alloc: Global,
     above: Above<'a, '_, '_>,

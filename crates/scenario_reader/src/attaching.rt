@@ -13,9 +13,9 @@ use scenario::ScenarioReason;
 use scenario_entries::Chain;
 use std::alloc::Global;
 
-/// The chain behind the attachments of the declared policies of these names, each under its own name, or why the first
-/// one that is refused is.
-pub fn attach_all<'a>(
+// The chain behind the attachments of the declared policies of these names, each under its own name, or why the first
+// one that is refused is.
+pub(crate) fn attach_all<'a>(
     alloc: Global,
     declared: &'a Declarations,
     names: &[&'a [u8]],

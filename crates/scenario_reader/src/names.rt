@@ -12,8 +12,8 @@ use scenario_values::{text_at, texts_at};
 use std::alloc::Global;
 use toml::Table;
 
-/// The names of its chain, and then that of the policy that judges what it is delivered.
-pub fn names_in<'a>(alloc: Global, entry: &'a Table) -> Result<Vec<&'a [u8]>, Memory>
+// The names of its chain, and then that of the policy that judges what it is delivered.
+pub(crate) fn names_in<'a>(alloc: Global, entry: &'a Table) -> Result<Vec<&'a [u8]>, Memory>
     ensures { IfOk result (λ names. map (λ n. n.now) names.items ≡ names_in (table_view entry.now)) }
 {
     let mut names = texts_at(alloc, entry, "chain")?;
@@ -24,8 +24,8 @@ pub fn names_in<'a>(alloc: Global, entry: &'a Table) -> Result<Vec<&'a [u8]>, Me
     Ok(names)
 }
 
-/// The places of the names that are declared.
-pub fn places_in(
+// The places of the names that are declared.
+pub(crate) fn places_in(
     alloc: Global,
     declared: &Declarations,
     names: &[&[u8]],
@@ -41,8 +41,8 @@ pub fn places_in(
     Ok(places)
 }
 
-/// The place of the policy that judges what an application is delivered, if it names one that is declared.
-pub fn inbound_in(declared: &Declarations, entry: &Table) -> Option<usize>
+// The place of the policy that judges what an application is delivered, if it names one that is declared.
+pub(crate) fn inbound_in(declared: &Declarations, entry: &Table) -> Option<usize>
     ensures { result ≡ option_and_then (policy_place declared.now) (text_at (codes "inbound") (table_view entry.now)) }
 {
     match text_at(entry, "inbound") {

@@ -252,7 +252,7 @@ fn read_operator<'a>(
     judge_operator(alloc, above, apps, before, entry)
 }
 
-/// The operators of these entries.
+// The operators of these entries.
 pub(crate) fn read_operators<'a>(
     alloc: Global,
     above: Above<'a, '_, '_>,

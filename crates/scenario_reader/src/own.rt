@@ -24,7 +24,7 @@ use script_words::one_judgement;
 use std::alloc::Global;
 use toml::Table;
 
-/// The policies that the steps of an operator name.
+// The policies that the steps of an operator name.
 pub(crate) fn step_names<'a>(alloc: Global, entry: &'a Table) -> Result<Vec<&'a [u8]>, Memory>
     ensures { IfOk result (λ names. AreStepNames (table_view entry.now) (map (λ n. n.now) names.items)) }
 {
@@ -95,8 +95,8 @@ fn own_policies(
     Ok(Ok(policies))
 }
 
-/// Its own schema with the policies that are used, or the first reason against it and the policies that the application
-/// names; none where it has no schema.
+// Its own schema with the policies that are used, or the first reason against it and the policies that the application
+// names; none where it has no schema.
 pub(crate) fn own_in(
     alloc: Global,
     above: Above<'_, '_, '_>,

@@ -13,14 +13,14 @@ use scenario_lines::{StepText, read_step};
 use script_words::one_judgement;
 use std::alloc::Global;
 
-/// What the lines of an operator tell so far.
+// What the lines of an operator tell so far.
 #[derive(Drop)]
-pub struct Steps<'a> {
-    /// What the lines without a fault tell, in order.
+pub(crate) struct Steps<'a> {
+    // What the lines without a fault tell, in order.
     pub told: Vec<StepText<'a>>,
-    /// The largest count among it.
+    // The largest count among it.
     pub most: u64,
-    /// The first reason against the lines.
+    // The first reason against the lines.
     pub first: Option<ScenarioReason>,
 }
 
@@ -80,8 +80,8 @@ impl<'a> Steps<'a> {
     }
 }
 
-/// What the lines of an operator tell, and the first reason against them.
-pub fn read_steps<'a>(alloc: Global, lines: &[&'a [u8]]) -> Result<Steps<'a>, Memory>
+// What the lines of an operator tell, and the first reason against them.
+pub(crate) fn read_steps<'a>(alloc: Global, lines: &[&'a [u8]]) -> Result<Steps<'a>, Memory>
     ensures { IfOk result (λ s. HasTold (map (λ l. l.now) lines.now) s.told.items s.most s.first) }
 {
     let mut steps = Steps {
@@ -95,8 +95,8 @@ pub fn read_steps<'a>(alloc: Global, lines: &[&'a [u8]]) -> Result<Steps<'a>, Me
     Ok(steps)
 }
 
-/// Adds the policies that the steps name to names.
-pub fn add_names<'a>(names: &mut Vec<&'a [u8]>, told: &[StepText<'a>]) -> Result<(), Memory>
+// Adds the policies that the steps name to names.
+pub(crate) fn add_names<'a>(names: &mut Vec<&'a [u8]>, told: &[StepText<'a>]) -> Result<(), Memory>
     ensures { OnOk result (map (λ n. n.now) names.new.items
         ≡ map (λ n. n.now) names.old.items ++ filter_map policy_in told.now) }
 {

@@ -21,8 +21,8 @@ use scenario_values::{are_within, word_at};
 use std::alloc::Global;
 use toml::{Table, table_from_slice};
 
-/// The table that a text is as TOML.
-pub fn document_in(alloc: Global, text: &[u8]) -> Result<Table, ScenarioFault>
+// The table that a text is as TOML.
+pub(crate) fn document_in(alloc: Global, text: &[u8]) -> Result<Table, ScenarioFault>
     ensures { MatchResult result (λ t. IsTableText text.now (table_view t)) (IsNoTable text.now) }
 {
     match table_from_slice(alloc, text) {
@@ -57,8 +57,8 @@ fn top_fault(reason: ScenarioReason) -> Result<Schema, ScenarioFault>
     })
 }
 
-/// The table of the schema, or the first reason against the keys of the whole.
-pub fn read_top(alloc: Global, all: &Table) -> Result<Schema, ScenarioFault>
+// The table of the schema, or the first reason against the keys of the whole.
+pub(crate) fn read_top(alloc: Global, all: &Table) -> Result<Schema, ScenarioFault>
     ensures read { MatchResult result (λ T. HasTable (schema_of (table_view all.now)) T
         × ((q : TheReason) → TopAgainst (table_view all.now) q → ⊥)) (IsTopFault (table_view all.now)) }
     ensures valid { IfOk result IsValid }
@@ -79,8 +79,8 @@ pub fn read_top(alloc: Global, all: &Table) -> Result<Schema, ScenarioFault>
     }
 }
 
-/// The ends of these links.
-pub fn ends_of(alloc: Global, entries: &[&Table]) -> Result<Vec<u64>, Memory>
+// The ends of these links.
+pub(crate) fn ends_of(alloc: Global, entries: &[&Table]) -> Result<Vec<u64>, Memory>
     ensures { IfOk result (λ ends. ends.items ≡ all_ends (views entries.now)) }
 {
     let mut ends = Vec::new(alloc);

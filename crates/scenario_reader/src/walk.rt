@@ -20,8 +20,8 @@ use scenario_entries::Chain;
 use scenario_lines::StepText;
 use std::alloc::Global;
 
-/// The declared policy of a name, the first one; none where there is none.
-pub fn named_in<'a>(declared: &'a Declarations, name: &[u8]) -> Option<&'a NamedPolicy>
+// The declared policy of a name, the first one; none where there is none.
+pub(crate) fn named_in<'a>(declared: &'a Declarations, name: &[u8]) -> Option<&'a NamedPolicy>
     ensures { option_copied result ≡ named_in declared.now name.now }
 {
     match declared.policy(name) {
@@ -57,8 +57,8 @@ fn take_step<'a>(
     }
 }
 
-/// Takes the steps in order, or tells why the first one that is refused is.
-pub fn take_all<'a>(
+// Takes the steps in order, or tells why the first one that is refused is.
+pub(crate) fn take_all<'a>(
     chain: &mut Chain<'a>,
     declared: &'a Declarations,
     told: &[StepText<'a>],
@@ -121,8 +121,8 @@ fn line_of(alloc: Global, declared: &Declarations, step: &StepText<'_>) -> Resul
     }
 }
 
-/// The steps as a plan has them.
-pub fn plan_steps(
+// The steps as a plan has them.
+pub(crate) fn plan_steps(
     alloc: Global,
     declared: &Declarations,
     told: &[StepText<'_>],

@@ -8,7 +8,7 @@ ghost use Rattle.scenario_values.specs.Values.{flag_at, text_at, word_at, intege
 
 use toml::{Table, Value};
 
-/// The value at a key.
+// The value at a key.
 pub(crate) fn at<'a>(table: &'a Table, key: &str) -> Option<&'a Value>
     ensures { option_map (λ v. view v.now) result ≡ get_member key.now (table_view table.now) }
 {
@@ -45,7 +45,7 @@ pub fn flag_at(table: &Table, key: &str) -> bool
     }
 }
 
-/// The integer at a key; none where there is none.
+// The integer at a key; none where there is none.
 pub(crate) fn integer_at(table: &Table, key: &str) -> Option<i64>
     ensures { result ≡ integer_at key.now (table_view table.now) }
 {

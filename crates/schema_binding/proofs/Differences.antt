@@ -1,10 +1,9 @@
 -- Where two lists differ first: at one place, which there is unless they're equal.
-use Rattle.std.proofs.Common.{◌≡◌, ◌≢◌, ℕ, zero, suc, ◌<◌, List, [], ◌∷◌, length, get_or, take, min, Option, Some}
+use Rattle.std.proofs.Common.{◌≡◌, ℕ, zero, suc, ◌<◌, List, [], ◌∷◌, take, Option, Some}
 use Rattle.std.proofs.Common.{None, ◌⊎◌, inl, inr, refl, sym, ap, ◌∙◌, arith}
 use Rattle.std.specs.Prelude.{slice_get}
 use Rattle.std.proofs.lemmas.Bool.{cases_order}
-use Rattle.std.proofs.lemmas.List.{take_all}
-use Rattle.std.proofs.lemmas.Option.{slice_get-get_or, slice_get_past, same_Some, none-some}
+use Rattle.std.proofs.lemmas.Option.{same_Some, none-some}
 use Rattle.schema_binding.specs.Agreement.{DifferAt}
 
 -- ---- one place
@@ -54,32 +53,3 @@ differ_or_equal {X} (x ∷ xs) (y ∷ ys) other nowhere = either (x ≡ y) (λ h
       (λ at v w d. nowhere (suc at) v w (record { same = λ i. same i ∷ d.same i; ours = d.ours; theirs = d.theirs; other = d.other }))
   | inr apart ↦ nowhere 0 (Some x) (Some y) (record { same = refl; ours = refl; theirs = refl; other = λ e. apart (same_Some x y e) })
 ])
-
--- ---- a walk over two texts
-
-pub differ_in : (xs ys : List ℕ) (at : ℕ) → at < length xs → at < length ys → take at xs ≡ take at ys → get_or xs at 0 ≢ get_or ys at 0
-    → DifferAt xs ys at (slice_get xs at) (slice_get ys at)
-differ_in xs ys at hx hy same other = record {
-  same = same;
-  ours = refl;
-  theirs = refl;
-  other = λ e. other (same_Some (get_or xs at 0) (get_or ys at 0) (sym (slice_get-get_or xs at 0 hx) ∙ e ∙ slice_get-get_or ys at 0 hy));
-}
-
-pub differ_at_end : (xs ys : List ℕ) (at : ℕ) → at ≡ min (length xs) (length ys) → length xs ≢ length ys → take at xs ≡ take at ys
-    → DifferAt xs ys at (slice_get xs at) (slice_get ys at)
-differ_at_end xs ys at shorter other same = record {
-  same = same;
-  ours = refl;
-  theirs = refl;
-  other = elim (cases_order (length xs) (length ys)) [
-    | inl equal ↦ absurd (other equal)
-    | inr longer ↦ elim longer [
-      | inl below ↦ λ e. none-some (get_or ys at 0) (sym (slice_get_past xs at (omega arith)) ∙ e ∙ slice_get-get_or ys at 0 (omega arith))
-      | inr above ↦ λ e. none-some (get_or xs at 0) (sym (slice_get_past ys at (omega arith)) ∙ sym e ∙ slice_get-get_or xs at 0 (omega arith))
-    ]
-  ];
-}
-
-pub equal_in_all : (xs ys : List ℕ) (at : ℕ) → at ≡ min (length xs) (length ys) → length xs ≡ length ys → take at xs ≡ take at ys → xs ≡ ys
-equal_in_all xs ys at shorter long same = sym (take_all at xs (omega arith)) ∙ same ∙ take_all at ys (omega arith)

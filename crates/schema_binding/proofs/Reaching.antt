@@ -1,18 +1,16 @@
 -- How marks come, and that in the end they're what both tables reach.
-use Rattle.std.proofs.Common.{◌≡◌, ◌≢◌, ℕ, ◌+◌, ◌<◌, ◌≤◌, ◌*◌, cond, List, [], ◌∷◌, ◌++◌, length, get_or, set}
+use Rattle.std.proofs.Common.{◌≡◌, ◌≢◌, ℕ, ◌+◌, ◌<◌, ◌≤◌, cond, List, [], ◌∷◌, ◌++◌, length, get_or, set}
 use Rattle.std.proofs.Common.{replicate, Option, Some, None, inl, inr, refl, sym, ap, subst, ◌∙◌, arith, length-set}
 use Rattle.std.proofs.Common.{get_or-set_same, get_or-set_other, append-nil, append_assoc, length-append}
 use Rattle.std.specs.Prelude.{true, false, All, Contains, slice_get, count_by, is_none, is_some, MatchOption}
 use Rattle.std.proofs.lemmas.Bool.{cases_eq, cases_lt, false≢true, true≢false}
 use Rattle.std.proofs.lemmas.List.{get_or_default, get_or-replicate, get_or_past, length-replicate, get_or_append_left, length_push}
-use Rattle.std.proofs.lemmas.List.Elements.{All-push, All-nil, All-weaker, All-contains, Contains-push, Contains-append_left}
-use Rattle.std.proofs.lemmas.List.Folds.{sum_by-replicate}
+use Rattle.std.proofs.lemmas.List.Elements.{All-push, All-weaker, All-contains, Contains-push, Contains-append_left}
 use Rattle.std.proofs.lemmas.List.Sums.{sum_by-set}
 use Rattle.std.proofs.lemmas.Option.{none-some, same_Some}
 use Rattle.mrpc_table.specs.Text.{message_name}
 use Rattle.mrpc_table.specs.Valid.{IsValid, IsMethod}
 use Rattle.mrpc_table.specs.declared.table.Field.{Field}
-use Rattle.mrpc_table.specs.declared.table.Kind.{Kind}
 use Rattle.mrpc_table.specs.declared.table.Kind.TheVariants.{Message as OfMessage}
 use Rattle.mrpc_table.specs.declared.table.Message.{Message}
 use Rattle.mrpc_table.specs.declared.table.Method.{Method}
@@ -23,7 +21,6 @@ use Rattle.schema_binding.specs.Reach.{partner_of, IsMarked, HasName, HasBoth, I
 use Rattle.schema_binding.specs.Reach.{Grows, Marks, Gains, IsInMethods, HasMethods, HasNext, IsClosed, IsSameIn}
 use Rattle.schema_binding.specs.Reach.{IsLeastIn}
 use Rattle.schema_binding.specs.declared.reach.Reached.{Reached}
-use Rattle.schema_binding.proofs.KindTexts.{IsMessage, message_of_type}
 use Rattle.schema_binding.proofs.Prints.{prints_is, leads_reach, shared_at, StandsIn, stands_in}
 use Rattle.schema_binding.proofs.Signatures.{IsAlso, also, at_index, StandsAt, index_of}
 
@@ -34,24 +31,6 @@ all_none n i = elim (cases_lt i n) [
   | inl below ↦ get_or-replicate n i None None below
   | inr past ↦ get_or_past (replicate n None) i None (let long : length {A = Option ℕ} (replicate n None) ≡ n = length-replicate n None in omega (arith, long))
 ]
-
-pub empty_paired : (T U : Table) (r : Reached) → r.partners.items ≡ replicate (length T.messages) None → r.found.items ≡ [] → IsPaired T U r
-empty_paired T U r no_partners none_found =
-    let unmarked : (i j : ℕ) → partner_of r i ≡ Some j → ⊥ = λ i j e. none-some j (sym (ap (λ ps. get_or ps i None) no_partners ∙ all_none (length T.messages) i) ∙ e) in
-    record {
-      room = ap length no_partners ∙ length-replicate (length T.messages) None;
-      pairs = λ i j e. absurd (unmarked i j e);
-      listed = record {
-        listed = λ i j e. absurd (unmarked i j e);
-        marked = subst (All (λ (p : ℕ × ℕ). partner_of r p.0 ≡ Some p.1)) (sym none_found) (All-nil (λ (p : ℕ × ℕ). partner_of r p.0 ≡ Some p.1));
-        count =
-            let long : length r.partners.items ≡ length T.messages = ap length no_partners ∙ length-replicate (length T.messages) None in
-            let none : length r.found.items ≡ 0 = ap length none_found in
-            let all : count_by is_none r.partners.items ≡ length T.messages * 1 = ap (count_by is_none) no_partners
-            ∙ sum_by-replicate (λ o. cond (is_none o) 1 0) (length T.messages) None in
-            omega (arith, long, none, all);
-      };
-    }
 
 pub grows_itself : (r : Reached) → Grows r r
 grows_itself r = record { same = λ i j e. e; front = ([], sym (append-nil r.found.items)) }
@@ -166,23 +145,8 @@ mark_gains T U old new our their Why paired pair why m = record {
 
 -- ---- kinds
 
--- both kinds are a message type only where they are messages of one name
-pub type_of_both : (T U : Table) (i j : ℕ) (type : List ℕ) → AreOfType T U (OfMessage i) (OfMessage j) type → (message_name T i ≡ type) × (message_name U j ≡ type)
-type_of_both T U i j type h =
-    let ours : IsMessage T (OfMessage i) type = message_of_type T (OfMessage i) type h.ours in
-    let theirs : IsMessage U (OfMessage j) type = message_of_type U (OfMessage j) type h.theirs in
-    let at : i ≡ ours.place = let e : OfMessage i ≡ OfMessage ours.place = ours.kind in cc in
-    let there : j ≡ theirs.place = let e : OfMessage j ≡ OfMessage theirs.place = theirs.kind in cc in
-    (ap (message_name T) at ∙ ours.named, ap (message_name U) there ∙ theirs.named)
-
 pub of_both : (T U : Table) (i j : ℕ) → message_name T i ≡ message_name U j → AreOfType T U (OfMessage i) (OfMessage j) (message_name T i)
 of_both T U i j same = record { ours = refl; theirs = ap of_type (sym same) }
-
-pub not_ours : (T U : Table) (k l : Kind) (type : List ℕ) → ((i : ℕ) → k ≡ OfMessage i → ⊥) → AreOfType T U k l type → ⊥
-not_ours T U k l type other h = let is : IsMessage T k type = message_of_type T k type h.ours in other is.place is.kind
-
-pub not_theirs : (T U : Table) (k l : Kind) (type : List ℕ) → ((j : ℕ) → l ≡ OfMessage j → ⊥) → AreOfType T U k l type → ⊥
-not_theirs T U k l type other h = let is : IsMessage U l type = message_of_type U l type h.theirs in other is.place is.kind
 
 -- ---- methods
 

@@ -8,7 +8,7 @@ ghost use Rattle.schema_binding.specs.Places.{IsLabel};
 
 use mrpc_table::{Field, Kind, Label, Message, Names, Table};
 
-/// The first place, from 0, at which two texts differ or one has ended.
+// The first place, from 0, at which two texts differ or one has ended.
 pub(crate) fn first_byte(ours: &[u8], theirs: &[u8]) -> Option<usize>
     ensures { MatchOption result (ours.now ≡ theirs.now)
         (λ at. DifferAt ours.now theirs.now at (slice_get ours.now at) (slice_get theirs.now at)) }
@@ -26,7 +26,7 @@ pub(crate) fn first_byte(ours: &[u8], theirs: &[u8]) -> Option<usize>
     }
 }
 
-/// Whether two messages have one name.
+// Whether two messages have one name.
 pub(crate) fn is_same_message(ours: &Table, our: u32, theirs: &Table, their: u32) -> bool
     requires our { our < length ours.now.messages }
     requires their { their < length theirs.now.messages }
@@ -96,7 +96,7 @@ fn is_same_label(
     }
 }
 
-/// Whether two fields are printed as one, without their numbers.
+// Whether two fields are printed as one, without their numbers.
 pub(crate) fn is_same_field(
     ours: &Table,
     our_message: &Message,

@@ -10,7 +10,7 @@ ghost use Rattle.schema_binding.specs.Refusals.{DifferFrom};
 use crate::compare::is_same_message;
 use mrpc_table::{Method, Name, Table};
 
-/// How many methods the service has.
+// How many methods the service has.
 pub(crate) fn count_methods(table: &Table, service: &Name) -> u32
     requires { IsValid table.now }
     ensures { result ≡ length (methods_of table.now service.now) }
@@ -22,7 +22,7 @@ pub(crate) fn count_methods(table: &Table, service: &Name) -> u32
     of_service.count() as u32
 }
 
-/// The method of an index, where it is one of the service.
+// The method of an index, where it is one of the service.
 pub(crate) fn method_at<'a>(table: &'a Table, service: &Name, index: usize) -> Option<&'a Method>
     requires { IsValid table.now }
     ensures method { option_copied result ≡ method_at table.now service.now index }
@@ -36,7 +36,7 @@ pub(crate) fn method_at<'a>(table: &'a Table, service: &Name, index: usize) -> O
     }
 }
 
-/// The first place, from 0, at which the methods of the service differ or those of one table have ended.
+// The first place, from 0, at which the methods of the service differ or those of one table have ended.
 pub(crate) fn first_method(ours: &Table, theirs: &Table, service: &Name) -> Option<u32>
     requires ours { IsValid ours.now }
     requires theirs { IsValid theirs.now }

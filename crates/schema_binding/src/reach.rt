@@ -12,7 +12,7 @@ use crate::methods::method_at;
 use mrpc_table::{Field, Kind, Memory, Message, Name, Table};
 use std::alloc::Global;
 
-/// The pairs of messages, one of each table and of one name, that both tables reach. Each is marked once.
+// The pairs of messages, one of each table and of one name, that both tables reach. Each is marked once.
 #[derive(Drop)]
 pub(crate) struct Reached {
     // For each of our messages the place of theirs, where the pair is marked.
@@ -22,8 +22,8 @@ pub(crate) struct Reached {
 }
 
 impl Reached {
-    /// Those that both reach from the methods of the service, which are the same in both tables.
-    pub fn of(
+    // Those that both reach from the methods of the service, which are the same in both tables.
+    pub(crate) fn of(
         alloc: Global,
         ours: &Table,
         theirs: &Table,
@@ -199,8 +199,8 @@ impl Reached {
         Ok(())
     }
 
-    /// The least number that both know and print in two ways, in one of our messages that both reach.
-    pub fn differing_field(&self, ours: &Table, our: usize, theirs: &Table) -> Option<u32>
+    // The least number that both know and print in two ways, in one of our messages that both reach.
+    pub(crate) fn differing_field(&self, ours: &Table, our: usize, theirs: &Table) -> Option<u32>
         requires ours { IsValid ours.now }
         requires theirs { IsValid theirs.now }
         requires paired { IsPaired ours.now theirs.now self.now }

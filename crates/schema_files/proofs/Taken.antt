@@ -14,7 +14,7 @@ use Rattle.proto_imports.specs.Reaching.{IsReach, AreSeen}
 use Rattle.proto_imports.specs.declared.set.Member.{Member}
 use Rattle.proto_imports.specs.declared.set.Reach.{Reach}
 use Rattle.proto_join.specs.declared.part.Part.{Part}
-use Rattle.schema_files.specs.Joined.{ReadsAs, ReadAs, StandsAt, IsPart, AreParts}
+use Rattle.schema_files.specs.Joined.{ReadsAs, ReadAs, StandsAt, IsPart}
 use Rattle.schema_files.specs.Placing.{ArePlaces, ArePlaced}
 use Rattle.schema_files.proofs.Lists.{get_push, get_set_other, held, place_of, all_held, once, zip_all, zip_at, zip_length}
 
@@ -165,11 +165,6 @@ taken_more files members reach k i count places seen f m p left rest parts more 
             (subst (λ (x : Part). IsPart files members reach k x) last.1 this)
       ];
     }))
-
-pub taken_all : (files : List PackedFile) (members : List Member) (reach : Reach) (k : ℕ)
-    (left : List (Option File)) (parts : List Part) → k ≡ length reach.order
-    → TakenSo files members reach k left parts → AreParts files members reach parts
-taken_all files members reach k left parts e h = record { count = h.count ∙ e; each = h.each }
 
 pub file_there : (files : List PackedFile) (members : List Member) (reach : Reach) (k i : ℕ)
     (left : List (Option File)) (parts : List Part) (m : Member) (r : Option File) → slice_get reach.order k ≡ Some i

@@ -71,9 +71,9 @@ fn placed(alloc: Global, some: &[usize], places: &[usize]) -> Result<Places, Mem
     Ok(all)
 }
 
-/// The files that the first one of a set reaches, as they are joined: what each says, what it sees and how long its
-/// text is. What they say is moved.
-pub fn parts_of(
+// The files that the first one of a set reaches, as they are joined: what each says, what it sees and how long its
+// text is. What they say is moved.
+pub(crate) fn parts_of(
     alloc: Global,
     files: &[Packed<'_>],
     members: Vec<Member>,

@@ -38,8 +38,8 @@ fn member(alloc: Global, place: usize, packed: &Packed<'_>) -> Result<Member, Fi
     }
 }
 
-/// What each file says, or the first one that is no proto file.
-pub fn members(alloc: Global, files: &[Packed<'_>]) -> Result<Vec<Member>, FilesFault>
+// What each file says, or the first one that is no proto file.
+pub(crate) fn members(alloc: Global, files: &[Packed<'_>]) -> Result<Vec<Member>, FilesFault>
     ensures read { IfOk result (λ v. ReadAs (files_of files.now) v.items) }
     ensures fault { IfErr result (IsFaultIn (files_of files.now)) }
 {

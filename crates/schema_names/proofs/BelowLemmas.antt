@@ -44,9 +44,6 @@ with_new Several scope = tt
 pub with_several : (b : Below) (scope : ℕ) → b ≡ Several → with_front b scope ≡ Several
 with_several b scope e = ap (λ (q : Below). with_front q scope) e
 
-pub grows_none : (xs : List Below) → Grows xs xs
-grows_none xs = record { same_length = refl; has = λ k s h. h; several = λ k e. e }
-
 pub grows_more : {xs ys zs : List Below} → Grows xs ys → Grows ys zs → Grows xs zs
 grows_more g h = record {
   same_length = h.same_length ∙ g.same_length;

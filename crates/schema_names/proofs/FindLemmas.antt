@@ -87,9 +87,6 @@ not_front some none f =
 
 -- ---- the first declaration
 
-pub first_none : (F : Joined) (file : ℕ) → IsFirstOf F file [] None
-first_none F file = λ d c s. omega (arith, c.1)
-
 pub first_skip : {F : Joined} {file : ℕ} (xs : List Declared) (x : Declared) (r : Option Declared)
     → (Sees F file x.file → ⊥) → IsFirstOf F file xs r → IsFirstOf F file (xs ++ x ∷ []) r
 first_skip {F} {file} xs x None not none = λ d c s.

@@ -1,7 +1,6 @@
 -- Parts of names.
 use Rattle.std.proofs.Common.{◌≡◌, ◌≢◌, ℕ, ◌<◌, true, false, List, [], ◌∷◌, length, get_or, Some, refl, ap, sym, ◌∙◌, arith}
-use Rattle.std.specs.Prelude.{slice_get, ◌==◌, option_map, Bool, cond, not}
-use Rattle.std.specs.List.{onto_first}
+use Rattle.std.specs.Prelude.{slice_get, ◌==◌, option_map, Bool, not}
 use Rattle.std.specs.Str.{bytes_eq}
 use Rattle.std.specs.Borrow.{Bor}
 use Rattle.std.proofs.lemmas.Bool.{eqb-true}
@@ -43,16 +42,6 @@ pub eq_same : (xs ys : List ℕ) → false ≡ not (bytes_eq xs ys) → xs ≡ y
 eq_same xs ys e = (bytes_eq-Decides xs ys).0 (not_false (bytes_eq xs ys) e)
 
 -- ---- first parts
-
-other_start : (c : ℕ) (cs : List ℕ) (others : List (List ℕ)) → ((rest : List ℕ) → c ∷ cs ≢ 46 ∷ rest)
-    → (b : Bool) (ps : List (List ℕ)) → (c == 46) ≡ b → cond b ([] ∷ ps) (onto_first c ps) ≡ [] ∷ others → ⊥
-other_start c cs others not_dot true ps h f = not_dot cs (ap (λ (x : ℕ). x ∷ cs) (eqb-true c 46 h))
-other_start c cs others not_dot false [] h f = absurd cc
-other_start c cs others not_dot false (p ∷ ps) h f = absurd cc
-
-pub relative_part : (name : List ℕ) (others : List (List ℕ)) → ((rest : List ℕ) → name ≢ 46 ∷ rest) → 0 < length name → parts_of name ≢ [] ∷ others
-relative_part [] others not_dot long e = absurd (omega arith)
-relative_part (c ∷ cs) others not_dot long e = other_start c cs others not_dot (c == 46) (parts_of cs) refl e
 
 pub empty_first : (xs : List ℕ) → true ≡ (length xs == 0) → xs ≡ []
 empty_first [] e = refl

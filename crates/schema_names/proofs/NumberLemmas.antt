@@ -135,16 +135,6 @@ root_numbered {F} {x} {y} p known here some items inner = record {
   });
 }
 
-pub none_numbered : {F : Joined} {x : Numbering} → x.numbers.items ≡ [] → ((k : ℕ) (o : List ℕ) → child x.inner k o ≡ None) → IsNumbered F 0 x
-none_numbered {F} {x} items none = record {
-  count = ap length items;
-  numbers = record { each = λ j t l listed. absurd (omega (arith, ap length items)) };
-  inner = record {
-    sound = λ k o v e. absurd (let f : None ≡ Some v = sym (none k o) ∙ e in cc);
-    whole = λ place t o l less. absurd (omega arith);
-  };
-}
-
 -- ---- the fronts of a package
 
 pub front_listed : (F : Joined) (file n : ℕ) → file < length F.heads → n ≤ length (package_at F file) → IsListed F (fronts_before F file + n) (take n (package_at F file))
@@ -172,9 +162,6 @@ depth_next {F} file d depths l short known = record {
       (cases_lt (fronts_before F other + e) (fronts_before F file + d));
 }
 
-pub no_depths : {F : Joined} → AreDepths F 0 []
-no_depths = record { count = refl; each = λ other e there within less. absurd (omega arith) }
-
 -- ---- packages
 
 pub more_packages : {F : Joined} (n : ℕ) (packages : List Package) (p : Package) → ArePackages F n packages → IsPackage F n p → ArePackages F (n + 1) (packages ++ p ∷ [])
@@ -192,9 +179,6 @@ more_packages {F} n packages p known new = record {
       subst (λ (k : ℕ). IsPackage F k q) e (subst (IsPackage F n) same new))
       (cases_lt file (length packages));
 }
-
-pub no_packages : {F : Joined} → ArePackages F 0 []
-no_packages = record { count = refl; each = λ file p at. absurd cc }
 
 -- ---- homes
 

@@ -12,13 +12,13 @@ use mrpc_table::Memory;
 use proto_file::Home;
 use std::alloc::Global;
 
-/// What hangs below a scope.
+// What hangs below a scope.
 #[derive(Clone, Copy)]
-pub enum Below {
+pub(crate) enum Below {
     Nothing,
-    /// Fronts of packages of one full name, whose scope has this number.
+    // Fronts of packages of one full name, whose scope has this number.
     One(usize),
-    /// Fronts of several full names, or types.
+    // Fronts of several full names, or types.
     Several,
 }
 
@@ -106,9 +106,9 @@ fn busy_fronts(
     Ok(busy)
 }
 
-/// For each file, the fronts of its package at which more may begin than its next part, by their number of parts, the
-/// longest first.
-pub fn all_busy_fronts(alloc: Global, places: &Places) -> Result<Vec<Vec<usize>>, Memory>
+// For each file, the fronts of its package at which more may begin than its next part, by their number of parts, the
+// longest first.
+pub(crate) fn all_busy_fronts(alloc: Global, places: &Places) -> Result<Vec<Vec<usize>>, Memory>
     requires { StandBehind places.now }
     ensures { IfOk result (λ v. AreBusy places.now (length places.now.heads) v.items) }
 {

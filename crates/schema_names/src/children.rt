@@ -8,15 +8,15 @@ use mrpc_table::Memory;
 use std::alloc::Global;
 use std::collections::BTreeMap;
 
-/// Values by the numbers of scopes and the names that stand in them.
+// Values by the numbers of scopes and the names that stand in them.
 #[derive(Drop)]
-pub struct Children<'a, V> {
+pub(crate) struct Children<'a, V> {
     by: BTreeMap<(usize, &'a [u8]), V>,
 }
 
 impl<'a, V: Drop> Children<'a, V> {
-    /// No values.
-    pub fn new(alloc: Global) -> Children<'a, V>
+    // No values.
+    pub(crate) fn new(alloc: Global) -> Children<'a, V>
         ensures { (scope : ℕ) (name : List ℕ) → child result scope name ≡ None }
     {
         Children {
@@ -24,15 +24,15 @@ impl<'a, V: Drop> Children<'a, V> {
         }
     }
 
-    /// The value of a name in a scope.
-    pub fn get(&self, scope: usize, name: &'a [u8]) -> Option<&V>
+    // The value of a name in a scope.
+    pub(crate) fn get(&self, scope: usize, name: &'a [u8]) -> Option<&V>
         ensures { option_copied result ≡ child self.now scope name.now }
     {
         self.by.get(&(scope, name))
     }
 
-    /// Gives a name in a scope this value.
-    pub fn insert(&mut self, scope: usize, name: &'a [u8], value: V) -> Result<(), Memory>
+    // Gives a name in a scope this value.
+    pub(crate) fn insert(&mut self, scope: usize, name: &'a [u8], value: V) -> Result<(), Memory>
         ensures { OnOk result ((k : ℕ) (other : List ℕ)
             → child self.new k other ≡ cond (same_child scope name.now k other) (Some value) (child self.old k other)) }
     {
@@ -40,8 +40,8 @@ impl<'a, V: Drop> Children<'a, V> {
         Ok(())
     }
 
-    /// Takes the value of a name in a scope away.
-    pub fn remove(&mut self, scope: usize, name: &'a [u8]) -> Option<V>
+    // Takes the value of a name in a scope away.
+    pub(crate) fn remove(&mut self, scope: usize, name: &'a [u8]) -> Option<V>
         ensures value { result ≡ child self.old scope name.now }
         ensures others { (k : ℕ) (other : List ℕ)
             → child self.new k other ≡ cond (same_child scope name.now k other) None (child self.old k other) }

@@ -13,28 +13,28 @@ use proto_file::{Home, Joined};
 use std::alloc::Global;
 use std::collections::BTreeMap;
 
-/// The numbers of the scopes at the first places, and those of what stands in scopes, by its name.
+// The numbers of the scopes at the first places, and those of what stands in scopes, by its name.
 #[derive(Drop)]
-pub struct Numbering<'a> {
+pub(crate) struct Numbering<'a> {
     pub numbers: Vec<usize>,
     pub inner: Children<'a, usize>,
 }
 
-/// The package of a file.
+// The package of a file.
 #[derive(Drop)]
-pub struct Package<'a> {
+pub(crate) struct Package<'a> {
     pub parts: Vec<&'a [u8]>,
-    /// Where each part stands last.
+    // Where each part stands last.
     pub last_places: BTreeMap<&'a [u8], usize>,
-    /// The place of its first front, which is the root.
+    // The place of its first front, which is the root.
     pub start: usize,
-    /// The number of its scope.
+    // The number of its scope.
     pub number: usize,
 }
 
 impl<'a> Numbering<'a> {
-    /// No numbers.
-    pub fn new(alloc: Global) -> Numbering<'a>
+    // No numbers.
+    pub(crate) fn new(alloc: Global) -> Numbering<'a>
         ensures numbers { result.numbers.items ≡ [] }
         ensures inner { (k : ℕ) (name : List ℕ) → child result.inner k name ≡ None }
     {
@@ -44,8 +44,8 @@ impl<'a> Numbering<'a> {
         }
     }
 
-    /// Gives the next place the root's number.
-    pub fn list_root(&mut self) -> Result<(), Memory>
+    // Gives the next place the root's number.
+    pub(crate) fn list_root(&mut self) -> Result<(), Memory>
         ensures numbers { OnOk result (self.new.numbers.items ≡ self.old.numbers.items ++ 0 ∷ []) }
         ensures inner { OnOk result (self.new.inner ≡ self.old.inner) }
     {
@@ -53,8 +53,8 @@ impl<'a> Numbering<'a> {
         Ok(())
     }
 
-    /// Gives the next place the number that a name in a scope has, or a new one.
-    pub fn list(&mut self, outer: usize, name: &'a [u8]) -> Result<usize, Memory>
+    // Gives the next place the number that a name in a scope has, or a new one.
+    pub(crate) fn list(&mut self, outer: usize, name: &'a [u8]) -> Result<usize, Memory>
         ensures number { IfOk result (λ n. n
             ≡ unwrap_or (child self.old.inner outer name.now) (length self.old.numbers.items)) }
         ensures numbers { IfOk result (λ n. self.new.numbers.items ≡ self.old.numbers.items ++ n ∷ []) }
@@ -69,8 +69,8 @@ impl<'a> Numbering<'a> {
     }
 }
 
-/// The number of the scope of what stands in a file or in a message.
-pub fn number_in(packages: &[Package], fronts: usize, numbers: &[usize], home: Home) -> usize
+// The number of the scope of what stands in a file or in a message.
+pub(crate) fn number_in(packages: &[Package], fronts: usize, numbers: &[usize], home: Home) -> usize
     requires { IsWithin packages.now fronts numbers.now home }
     ensures { result ≡ number_at packages.now fronts numbers.now home }
 {
@@ -114,8 +114,8 @@ fn number_package<'a>(
     })
 }
 
-/// Numbers the fronts of the files' packages. The depths get the number of parts of each front.
-pub fn number_packages<'a>(
+// Numbers the fronts of the files' packages. The depths get the number of parts of each front.
+pub(crate) fn number_packages<'a>(
     alloc: Global,
     files: &Joined<'a>,
     numbering: &mut Numbering<'a>,
@@ -135,8 +135,8 @@ pub fn number_packages<'a>(
     Ok(packages)
 }
 
-/// Numbers the scopes of messages, behind those of packages.
-pub fn number_messages<'a>(
+// Numbers the scopes of messages, behind those of packages.
+pub(crate) fn number_messages<'a>(
     files: &Joined<'a>,
     packages: &[Package],
     numbering: &mut Numbering<'a>,

@@ -10,8 +10,8 @@ use proto_file::Word;
 use std::alloc::Global;
 use std::collections::BTreeMap;
 
-/// What stands behind a dot at the front.
-pub fn after_dot(name: &[u8]) -> Option<&[u8]>
+// What stands behind a dot at the front.
+pub(crate) fn after_dot(name: &[u8]) -> Option<&[u8]>
     ensures { MatchOption result ((rest : List ℕ) → name.now ≢ 46 ∷ rest) (λ r. name.now ≡ 46 ∷ r.now) }
 {
     match name {
@@ -20,8 +20,8 @@ pub fn after_dot(name: &[u8]) -> Option<&[u8]>
     }
 }
 
-/// The first part of a name.
-pub fn first_part(name: &[u8]) -> &[u8]
+// The first part of a name.
+pub(crate) fn first_part(name: &[u8]) -> &[u8]
     ensures { (others : List (List ℕ)) × (parts_of name.now ≡ result.now ∷ others) }
 {
     match cut(name, b'.') {
@@ -44,8 +44,8 @@ fn name_parts(alloc: Global, name: &[u8]) -> Result<Vec<&[u8]>, Memory>
     Ok(parts)
 }
 
-/// The parts of a package.
-pub fn package_parts(alloc: Global, declared: &Option<Word>) -> Result<Vec<&[u8]>, Memory>
+// The parts of a package.
+pub(crate) fn package_parts(alloc: Global, declared: &Option<Word>) -> Result<Vec<&[u8]>, Memory>
     ensures { IfOk result (λ v. values_of v.items ≡ package_parts declared.now) }
 {
     match declared {
@@ -67,8 +67,8 @@ fn put_last<'a>(
     Ok(())
 }
 
-/// Where each of some parts stands last.
-pub fn last_places<'a>(
+// Where each of some parts stands last.
+pub(crate) fn last_places<'a>(
     alloc: Global,
     parts: &[&'a [u8]],
 ) -> Result<BTreeMap<&'a [u8], usize>, Memory>

@@ -17,9 +17,9 @@ use std::marker::Model;
 // More scopes than memory has room for.
 const TOO_MANY: usize = 1 << 62;
 
-/// The scopes of files that are resolved together. Clauses see the files.
+// The scopes of files that are resolved together. Clauses see the files.
 #[derive(Drop)]
-pub struct Places<'a> {
+pub(crate) struct Places<'a> {
     files: Joined<'a>,
     numbering: Numbering<'a>,
     // Of each front, the number of its parts.
@@ -52,8 +52,8 @@ fn same_files<'a>(files: &Joined<'a>) -> Joined<'a>
 }
 
 impl<'a> Places<'a> {
-    /// The scopes of files.
-    pub fn new(alloc: Global, files: &Joined<'a>) -> Result<Places<'a>, Memory>
+    // The scopes of files.
+    pub(crate) fn new(alloc: Global, files: &Joined<'a>) -> Result<Places<'a>, Memory>
         requires { StandBehind files.now }
         ensures { IfOk result (λ p. p ≡ files.now) }
     {
@@ -72,37 +72,37 @@ impl<'a> Places<'a> {
         })
     }
 
-    /// The heads of the files.
-    pub fn heads(&self) -> &'a [Head]
+    // The heads of the files.
+    pub(crate) fn heads(&self) -> &'a [Head]
         ensures { result.now ≡ self.now.heads }
     {
         self.files.heads()
     }
 
-    /// The messages of all files.
-    pub fn messages(&self) -> &'a [MessageDecl]
+    // The messages of all files.
+    pub(crate) fn messages(&self) -> &'a [MessageDecl]
         ensures { result.now ≡ self.now.messages }
     {
         self.files.messages()
     }
 
-    /// The enums of all files.
-    pub fn enums(&self) -> &'a [EnumDecl]
+    // The enums of all files.
+    pub(crate) fn enums(&self) -> &'a [EnumDecl]
         ensures { result.now ≡ self.now.enums }
     {
         self.files.enums()
     }
 
-    /// How many numbers there are.
-    pub fn count(&self) -> usize
+    // How many numbers there are.
+    pub(crate) fn count(&self) -> usize
         ensures is { result ≡ scope_count self.now }
         ensures few { result < 2 ^ 62 }
     {
         self.numbering.numbers.len()
     }
 
-    /// The number of the scope of what stands in a file or in a message.
-    pub fn number(&self, home: Home) -> usize
+    // The number of the scope of what stands in a file or in a message.
+    pub(crate) fn number(&self, home: Home) -> usize
         requires { IsPlace self.now home }
         ensures number { (scope : List (List ℕ)) → IsScope self.now home scope → IsNumber self.now scope result }
         ensures small { result < scope_count self.now }
@@ -115,8 +115,8 @@ impl<'a> Places<'a> {
         )
     }
 
-    /// The number of a name's scope in a scope.
-    pub fn inner(&self, scope: usize, name: &'a [u8]) -> Option<usize>
+    // The number of a name's scope in a scope.
+    pub(crate) fn inner(&self, scope: usize, name: &'a [u8]) -> Option<usize>
         ensures { (outer : List (List ℕ)) → IsNumber self.now outer scope
             → MatchOption result ((place : ℕ) → IsListed self.now place (outer ++ name.now ∷ []) → ⊥)
             (IsNumber self.now (outer ++ name.now ∷ [])) }
@@ -124,8 +124,8 @@ impl<'a> Places<'a> {
         self.numbering.inner.get(scope, name).copied()
     }
 
-    /// How many parts the package of a file has.
-    pub fn depth(&self, file: usize) -> usize
+    // How many parts the package of a file has.
+    pub(crate) fn depth(&self, file: usize) -> usize
         requires { file < length self.now.heads }
         ensures is { result ≡ length (package_at self.now file) }
         ensures few { result < 2 ^ 62 }
@@ -133,8 +133,8 @@ impl<'a> Places<'a> {
         self.packages[file].parts.len()
     }
 
-    /// A part of the package of a file.
-    pub fn part(&self, file: usize, place: usize) -> &'a [u8]
+    // A part of the package of a file.
+    pub(crate) fn part(&self, file: usize, place: usize) -> &'a [u8]
         requires file { file < length self.now.heads }
         requires place { place < length (package_at self.now file) }
         ensures { slice_get (package_at self.now file) place ≡ Some result.now }
@@ -142,8 +142,8 @@ impl<'a> Places<'a> {
         self.packages[file].parts[place]
     }
 
-    /// The last place at which the package of a file has a part.
-    pub fn last_place(&self, file: usize, part: &'a [u8]) -> Option<usize>
+    // The last place at which the package of a file has a part.
+    pub(crate) fn last_place(&self, file: usize, part: &'a [u8]) -> Option<usize>
         requires { file < length self.now.heads }
         ensures last { MatchOption result ((i : ℕ) → slice_get (package_at self.now file) i ≢ Some part.now)
             (IsLast (package_at self.now file) part.now) }
@@ -152,8 +152,8 @@ impl<'a> Places<'a> {
         self.packages[file].last_places.get(&part).copied()
     }
 
-    /// The number of the front of a file's package that has this many parts.
-    pub fn front(&self, file: usize, depth: usize) -> usize
+    // The number of the front of a file's package that has this many parts.
+    pub(crate) fn front(&self, file: usize, depth: usize) -> usize
         requires file { file < length self.now.heads }
         requires depth { depth ≤ length (package_at self.now file) }
         ensures number { IsNumber self.now (take depth (package_at self.now file)) result }
@@ -162,8 +162,8 @@ impl<'a> Places<'a> {
         self.numbering.numbers[self.packages[file].start + depth]
     }
 
-    /// Whether a scope is that of a package, or of a front of one.
-    pub fn is_front(&self, scope: usize) -> bool
+    // Whether a scope is that of a package, or of a front of one.
+    pub(crate) fn is_front(&self, scope: usize) -> bool
         ensures { (full : List (List ℕ)) → 0 < length full → IsNumber self.now full scope
             → IsTrue result ↔ IsFront self.now full }
     {
@@ -182,8 +182,8 @@ impl<'a> Places<'a> {
         depth <= package.parts.len() && self.numbering.numbers[package.start + depth] == scope
     }
 
-    /// Whether a file sees one whose package begins with a scope.
-    pub fn sees_front(&self, file: usize, scope: usize) -> bool
+    // Whether a file sees one whose package begins with a scope.
+    pub(crate) fn sees_front(&self, file: usize, scope: usize) -> bool
         requires { file < length self.now.heads }
         ensures { (full : List (List ℕ)) → 0 < length full → IsNumber self.now full scope
             → IsTrue result ↔ SeesFront self.now file full }
@@ -200,8 +200,8 @@ impl<'a> Places<'a> {
         false
     }
 
-    /// Whether the references of one file may name types of the other.
-    pub fn sees(&self, file: usize, other: usize) -> bool
+    // Whether the references of one file may name types of the other.
+    pub(crate) fn sees(&self, file: usize, other: usize) -> bool
         requires { file < length self.now.heads }
         ensures { IsTrue result ↔ Sees self.now file other }
     {

@@ -10,9 +10,9 @@ use crate::places::Places;
 use mrpc_table::Memory;
 use std::alloc::Global;
 
-/// Of each name in a scope, the first declaration of each file that declares a type of it.
+// Of each name in a scope, the first declaration of each file that declares a type of it.
 #[derive(Drop)]
-pub struct Types<'a> {
+pub(crate) struct Types<'a> {
     by: Children<'a, Vec<Declared>>,
 }
 
@@ -34,8 +34,8 @@ fn keep_first(all: &mut Vec<Declared>, declared: Declared) -> Result<(), Memory>
 }
 
 impl<'a> Types<'a> {
-    /// No types.
-    pub fn new(alloc: Global) -> Types<'a>
+    // No types.
+    pub(crate) fn new(alloc: Global) -> Types<'a>
         ensures { (scope : ℕ) (name : List ℕ) → declared_in result scope name ≡ [] }
     {
         Types {
@@ -43,8 +43,8 @@ impl<'a> Types<'a> {
         }
     }
 
-    /// The first declarations of a name in a scope, one for each file that has some.
-    pub fn get(&self, scope: usize, name: &'a [u8]) -> &[Declared]
+    // The first declarations of a name in a scope, one for each file that has some.
+    pub(crate) fn get(&self, scope: usize, name: &'a [u8]) -> &[Declared]
         ensures { result.now ≡ declared_in self.now scope name.now }
     {
         match self.by.get(scope, name) {
@@ -53,8 +53,8 @@ impl<'a> Types<'a> {
         }
     }
 
-    /// Adds a declaration of a name in a scope.
-    pub fn add(
+    // Adds a declaration of a name in a scope.
+    pub(crate) fn add(
         &mut self,
         alloc: Global,
         scope: usize,
@@ -69,8 +69,8 @@ impl<'a> Types<'a> {
     }
 }
 
-/// Adds the messages of files to their types.
-pub fn add_messages<'a>(
+// Adds the messages of files to their types.
+pub(crate) fn add_messages<'a>(
     alloc: Global,
     places: &Places<'a>,
     types: &mut Types<'a>,
@@ -93,8 +93,8 @@ pub fn add_messages<'a>(
     Ok(())
 }
 
-/// Adds the enums of files to their types.
-pub fn add_enums<'a>(
+// Adds the enums of files to their types.
+pub(crate) fn add_enums<'a>(
     alloc: Global,
     places: &Places<'a>,
     types: &mut Types<'a>,

@@ -69,12 +69,6 @@ adds_then P Q R a b c p q to from = record {
   ];
 }
 
-pub adds_start : {X : Type 0} (xs : List X) (of : ℕ → X → Entry → Type 0) (a : List Entry) → Adds (EntryOfFirst 0 xs of) a a
-adds_start xs of a = record {
-  one = λ e h. inl h;
-  each = λ e h. elim h [ inl x ↦ x | inr x ↦ let l : x.place < 0 = x.below in absurd (omega arith) ];
-}
-
 first_to : {X : Type 0} (xs : List X) (of : ℕ → X → Entry → Type 0) (i : ℕ) (x : X) → slice_get xs i ≡ Some x
     → (e : Entry) → (EntryOfFirst i xs of e ⊎ of i x e) → EntryOfFirst (i + 1) xs of e
 first_to xs of i x at e (inl o) =
@@ -211,9 +205,6 @@ module _ (F : Joined) (i : ℕ) (x : ServiceDecl) (k l : ℕ) (outer : IsTheNumb
       service_to service_from
 
 -- ---- numbers
-
-pub numbers_none : {X : Type 0} (F : Joined) (xs : List X) (stands_in : X → Home) → HaveNumbers F 0 xs stands_in
-numbers_none F xs stands_in j y l e = absurd (omega arith)
 
 pub numbers_next : {X : Type 0} (F : Joined) (xs : List X) (stands_in : X → Home) (i : ℕ) (x : X)
     → slice_get xs i ≡ Some x → HaveNumbers F i xs stands_in → ((k : ℕ) × HasNumber F (stands_in x) k)

@@ -132,17 +132,6 @@ module _ (F : Joined) (messages enums : ℕ) (kept : Lengths) (k : KeepsLengths 
 
 -- ---- lengths that are kept
 
-pub keeps_none : (F : Joined) (kept : Lengths)
-    → kept.fronts.items ≡ map (λ h. capped (front_length (package_parts h.package))) F.heads
-    → kept.messages.items ≡ [] → kept.enums.items ≡ [] → KeepsLengths F 0 0 kept
-keeps_none F kept fronts ms es = record {
-  fronts = fronts;
-  all_messages = ap length ms;
-  all_enums = ap length es;
-  of_message = λ i full s l st. absurd (omega arith);
-  of_enum = λ i full s l st. absurd (omega arith);
-}
-
 at_end : (xs : List ℕ) (x j : ℕ) → j ≡ length xs → get_or (xs ++ x ∷ []) j 0 ≡ x
 at_end xs x j e = ap (λ (i : ℕ). get_or (xs ++ x ∷ []) i 0) e ∙ get_or-append_seam xs x [] 0
 

@@ -72,9 +72,6 @@ six_words a b c d e f =
 
 -- ---- cut sums
 
-cut_one : (a b n : ℕ) → a ≡ capped b → min (a + n) (2 ^ 64 - 1) ≡ capped (b + n)
-cut_one a b n e = omega arith
-
 cut_three : (front label word name l t r : ℕ) → l ≡ capped label → capped t ≡ capped word
     → r ≡ capped (capped (capped (front + l) + t) + name)
     → r ≡ capped (front + label + word + name)

@@ -167,20 +167,6 @@ apart_push (z ∷ zs) x a h = (
 
 -- ---- lines that were added
 
-nothing_before : (d : Declaration) → IsBefore 0 0 0 d → ⊥
-nothing_before d (inl l) = omega arith
-nothing_before d (inr p) = elim p.1 [
-  | inl l ↦ omega arith
-  | inr q ↦ let l : part_of d < 0 = q.1 in omega arith
-]
-
-pub covers_none : (F : Joined) → Covers F 0 0 0 []
-covers_none F = record {
-  sound = λ x c. absurd (none_in x c);
-  whole = λ d s text b at. absurd (nothing_before d b);
-  once = tt;
-}
-
 module _ (F : Joined) (c i j : ℕ) (lines : List (Span × ℕ)) where
   -- the same lines up to another declaration
   covers_as : (a b e : ℕ) → Covers F c i j lines → ((d : Declaration) → IsBefore c i j d → IsBefore a b e d)

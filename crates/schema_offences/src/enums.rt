@@ -68,8 +68,8 @@ fn note_enum(alloc: Global, i: usize, choices: &EnumDecl, first: &mut First) -> 
     Ok(())
 }
 
-/// Meets what stands against the enums, but for names that stand twice and names that are long in full.
-pub fn note_enums(alloc: Global, files: &Joined<'_>, first: &mut First) -> Result<(), Memory>
+// Meets what stands against the enums, but for names that stand twice and names that are long in full.
+pub(crate) fn note_enums(alloc: Global, files: &Joined<'_>, first: &mut First) -> Result<(), Memory>
     ensures { OnOk result (Meets (AtSome (OfElement files.now.enums EnumOffends)) first.old first.new) }
 {
     let enums = files.enums();

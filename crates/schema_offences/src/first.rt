@@ -14,9 +14,9 @@ pub struct Offence {
     pub span: Span,
 }
 
-/// The first of some offences.
+// The first of some offences.
 #[derive(Drop)]
-pub struct First {
+pub(crate) struct First {
     pub found: Option<Offence>,
 }
 
@@ -61,22 +61,22 @@ fn first_of(found: Option<Offence>, other: Offence) -> Offence
 }
 
 impl First {
-    /// None was met.
-    pub fn new() -> First
+    // None was met.
+    pub(crate) fn new() -> First
         ensures { result.found ≡ None }
     {
         First { found: None }
     }
 
-    /// Meets an offence.
-    pub fn note(&mut self, reason: ResolveReason, span: Span)
+    // Meets an offence.
+    pub(crate) fn note(&mut self, reason: ResolveReason, span: Span)
         ensures { self.new.found ≡ Some (first_of self.old.found (record { reason = reason; span = span })) }
     {
         self.found = Some(first_of(self.found, Offence { reason, span }));
     }
 
-    /// Meets an offence where something holds.
-    pub fn note_if(&mut self, holds: bool, reason: ResolveReason, span: Span)
+    // Meets an offence where something holds.
+    pub(crate) fn note_if(&mut self, holds: bool, reason: ResolveReason, span: Span)
         ensures { self.new.found ≡ (if holds
             then Some (first_of self.old.found (record { reason = reason; span = span })) else self.old.found) }
     {

@@ -27,9 +27,9 @@ use proto_file::{
 use schema_names::{Named, Scopes, one_name, one_scope};
 use std::alloc::Global;
 
-/// The lengths of full names.
+// The lengths of full names.
 #[derive(Drop)]
-pub struct Lengths {
+pub(crate) struct Lengths {
     // Of each file's package and the dot behind it.
     fronts: Vec<usize>,
     messages: Vec<usize>,
@@ -59,8 +59,8 @@ fn package_fronts(alloc: Global, heads: &[Head]) -> Result<Vec<usize>, Memory>
 }
 
 impl Lengths {
-    /// The lengths of the full names of messages and enums.
-    pub fn new(alloc: Global, files: &Joined<'_>) -> Result<Lengths, Memory>
+    // The lengths of the full names of messages and enums.
+    pub(crate) fn new(alloc: Global, files: &Joined<'_>) -> Result<Lengths, Memory>
         requires { IsFormed files.now }
         ensures { IfOk result (AreLengths files.now) }
     {
@@ -115,8 +115,8 @@ impl Lengths {
         front.saturating_add(word.name.len())
     }
 
-    /// Meets each message, enum or service whose full name is too long.
-    pub fn note_long(&self, files: &Joined<'_>, first: &mut First)
+    // Meets each message, enum or service whose full name is too long.
+    pub(crate) fn note_long(&self, files: &Joined<'_>, first: &mut First)
         requires formed { IsFormed files.now }
         requires lengths { AreLengths files.now self.now }
         ensures { Meets (LongIn files.now) first.old first.new }
@@ -465,8 +465,8 @@ fn note_lines(lines: &[(Span, usize)], first: &mut First)
     }
 }
 
-/// Meets the first name with whose line the lines, in the order of the text, are too long together.
-pub fn note_text<'a>(
+// Meets the first name with whose line the lines, in the order of the text, are too long together.
+pub(crate) fn note_text<'a>(
     alloc: Global,
     files: &Joined<'a>,
     scopes: &Scopes<'a>,

@@ -171,8 +171,8 @@ fn note_message<'a>(
     Ok(())
 }
 
-/// Meets what stands against the messages, but for names that stand twice and names that are long in full.
-pub fn note_messages<'a>(
+// Meets what stands against the messages, but for names that stand twice and names that are long in full.
+pub(crate) fn note_messages<'a>(
     alloc: Global,
     files: &Joined<'a>,
     scopes: &Scopes<'a>,

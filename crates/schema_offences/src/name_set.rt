@@ -13,15 +13,15 @@ use proto_file::{Word, Words};
 use std::alloc::Global;
 use std::collections::BTreeMap;
 
-/// Names as a set.
+// Names as a set.
 #[derive(Drop)]
-pub struct NameSet<'a> {
+pub(crate) struct NameSet<'a> {
     names: BTreeMap<&'a [u8], ()>,
 }
 
 impl<'a> NameSet<'a> {
-    /// The names of these words.
-    pub fn new(alloc: Global, words: &'a Words) -> Result<NameSet<'a>, Memory>
+    // The names of these words.
+    pub(crate) fn new(alloc: Global, words: &'a Words) -> Result<NameSet<'a>, Memory>
         ensures { IfOk result (KeepsNames words.now) }
     {
         let mut names = BTreeMap::new(alloc);
@@ -38,8 +38,8 @@ impl<'a> NameSet<'a> {
         self.names.get(&name).is_some()
     }
 
-    /// Meets what stands against a name of a list with a limit.
-    pub fn note_name(&self, i: usize, limit: usize, word: &'a Word, first: &mut First)
+    // Meets what stands against a name of a list with a limit.
+    pub(crate) fn note_name(&self, i: usize, limit: usize, word: &'a Word, first: &mut First)
         ensures { (words : List Word) → KeepsNames words self.now
             → Meets (NameOffends words limit i word.now) first.old first.new }
     {
@@ -50,8 +50,8 @@ impl<'a> NameSet<'a> {
     }
 }
 
-/// Meets a name of more than 64 bytes.
-pub fn note_long(word: &Word, first: &mut First)
+// Meets a name of more than 64 bytes.
+pub(crate) fn note_long(word: &Word, first: &mut First)
     ensures { Meets (IsLong word.now) first.old first.new }
 {
     first.note_if(

@@ -313,8 +313,8 @@ fn note_enum_packages<'a>(files: &Joined<'a>, scopes: &Scopes<'a>, first: &mut F
     }
 }
 
-/// Meets each name that an earlier thing of its scope has, and each type that has the name of a package.
-pub fn note_duplicates<'a>(
+// Meets each name that an earlier thing of its scope has, and each type that has the name of a package.
+pub(crate) fn note_duplicates<'a>(
     alloc: Global,
     files: &Joined<'a>,
     scopes: &Scopes<'a>,

@@ -16,8 +16,8 @@ use mrpc_table::{Decimal, Memory, is_field_number};
 use proto_file::{Number, Range};
 use std::alloc::Global;
 
-/// The place of 0. All numbers of more than 64 bits stand at the two ends.
-pub const ZERO: u128 = 0x1_0000_0000_0000_0000;
+// The place of 0. All numbers of more than 64 bits stand at the two ends.
+pub(crate) const ZERO: u128 = 0x1_0000_0000_0000_0000;
 
 fn size_of(value: Decimal) -> u128
     ensures is { result ≡ magnitude value }
@@ -29,8 +29,8 @@ fn size_of(value: Decimal) -> u128
     }
 }
 
-/// The place of a number among those from -2^64 on.
-pub fn place_of(number: &Number) -> u128
+// The place of a number among those from -2^64 on.
+pub(crate) fn place_of(number: &Number) -> u128
     ensures is { IsPlaceOf result (value_of number.now) }
     ensures small { result ≤ 2 ^ 65 }
 {
@@ -139,15 +139,15 @@ fn begin_by(ranges: &[(u128, u128)], place: u128) -> usize
     ranges.partition_point(|range| range.0 <= place)
 }
 
-/// Reserved numbers: by ascending first place, each with the largest last one of the ranges up to there.
+// Reserved numbers: by ascending first place, each with the largest last one of the ranges up to there.
 #[derive(Drop)]
-pub struct Reserved {
+pub(crate) struct Reserved {
     ranges: Vec<(u128, u128)>,
 }
 
 impl Reserved {
-    /// The numbers of these ranges.
-    pub fn new(alloc: Global, ranges: &[Range]) -> Result<Reserved, Memory>
+    // The numbers of these ranges.
+    pub(crate) fn new(alloc: Global, ranges: &[Range]) -> Result<Reserved, Memory>
         ensures { IfOk result (KeepsRanges ranges.now) }
     {
         let sorted = sorted_ends(alloc, ranges)?;
@@ -155,8 +155,8 @@ impl Reserved {
         Ok(Reserved { ranges: reached })
     }
 
-    /// Whether a range has the number of a place: one of those that begin at it or below ends at it or above.
-    pub fn has(&self, place: u128) -> bool
+    // Whether a range has the number of a place: one of those that begin at it or below ends at it or above.
+    pub(crate) fn has(&self, place: u128) -> bool
         ensures { (ranges : List Range) (n : ℤ) → KeepsRanges ranges self.now → IsPlaceOf place n → place ≤ 2 ^ 65
             → IsTrue result ↔ IsReserved ranges n }
     {

@@ -54,8 +54,8 @@ fn note_method<'a>(scopes: &Scopes<'a>, file: usize, i: usize, rpc: &'a RpcDecl,
     note_message(scopes, file, &rpc.output, first);
 }
 
-/// Meets what stands against the services, but for names that stand twice and names that are long in full.
-pub fn note_services(files: &Joined<'_>, first: &mut First)
+// Meets what stands against the services, but for names that stand twice and names that are long in full.
+pub(crate) fn note_services(files: &Joined<'_>, first: &mut First)
     ensures { Meets (AtSome (OfElement files.now.services IsLongService)) first.old first.new }
 {
     let services = files.services();
@@ -64,8 +64,8 @@ pub fn note_services(files: &Joined<'_>, first: &mut First)
     }
 }
 
-/// Meets what stands against the methods of all services.
-pub fn note_methods<'a>(files: &Joined<'a>, scopes: &Scopes<'a>, first: &mut First)
+// Meets what stands against the methods of all services.
+pub(crate) fn note_methods<'a>(files: &Joined<'a>, scopes: &Scopes<'a>, first: &mut First)
     requires formed { IsFormed files.now }
     requires ordered { IsOrdered files.now }
     requires scopes { scopes.now ≡ files.now }
@@ -80,8 +80,8 @@ pub fn note_methods<'a>(files: &Joined<'a>, scopes: &Scopes<'a>, first: &mut Fir
     }
 }
 
-/// Meets each package whose name is too long.
-pub fn note_packages(files: &Joined<'_>, first: &mut First)
+// Meets each package whose name is too long.
+pub(crate) fn note_packages(files: &Joined<'_>, first: &mut First)
     ensures { Meets (AtSome (OfElement files.now.heads PackageIn)) first.old first.new }
 {
     let heads = files.heads();

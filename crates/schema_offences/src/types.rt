@@ -30,9 +30,9 @@ pub struct Form {
     pub type_of: TypeOf,
 }
 
-/// What a type's name in a field of a message means, as a file sees it: a scalar's name is that scalar, whatever is
-/// declared.
-pub fn type_of<'a>(
+// What a type's name in a field of a message means, as a file sees it: a scalar's name is that scalar, whatever is
+// declared.
+pub(crate) fn type_of<'a>(
     scopes: &Scopes<'a>,
     file: usize,
     message: usize,
@@ -68,8 +68,8 @@ fn is_packable(type_of: TypeOf) -> bool
     }
 }
 
-/// Whether a map's key may have it.
-pub fn may_be_key(type_of: TypeOf) -> bool
+// Whether a map's key may have it.
+pub(crate) fn may_be_key(type_of: TypeOf) -> bool
     ensures { result ≡ may_be_key type_of }
 {
     match type_of {
@@ -93,8 +93,8 @@ fn single_label(field: &FieldDecl, type_of: TypeOf) -> Label
     }
 }
 
-/// Whether a map stands under a label or in a oneof, or is the value of a map.
-pub fn is_misplaced_map(field: &FieldDecl) -> bool
+// Whether a map stands under a label or in a oneof, or is the value of a map.
+pub(crate) fn is_misplaced_map(field: &FieldDecl) -> bool
     ensures { IsTrue result ↔ IsMisplaced field.now }
 {
     match field.kind {

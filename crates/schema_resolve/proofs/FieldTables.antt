@@ -135,12 +135,6 @@ module _ (F : Joined) (i : ℕ) (m : MessageDecl) (scope : List (List ℕ)) (f :
 
 -- ---- fields in the order of the text
 
-pub judged_none : (F : Joined) (file place : ℕ) (js : List Judged) → js ≡ [] → AreJudgedInOrder F file place [] js
-judged_none F file place js e = subst (AreJudgedInOrder F file place []) (sym e) (record {
-  decls = refl;
-  each = λ j c. absurd (omega (arith, c.1));
-})
-
 pub judged_more : (F : Joined) (file place i : ℕ) (fs : List FieldDecl) (f : FieldDecl) (js more : List Judged) (j : Judged)
     → slice_get fs i ≡ Some f → IsJudged F file place f j → more ≡ js ++ j ∷ [] → AreJudgedInOrder F file place (take i fs) js
     → AreJudgedInOrder F file place (take (i + 1) fs) more
@@ -165,9 +159,6 @@ judged_more F file place i fs f js more j at is e h =
 
 same_field : (i j k : ℕ) → field_decl i j ≡ field_decl i k → j ≡ k
 same_field i j k e = cc
-
-same_pos : (m n : ℕ) → pos m ≡ pos n → m ≡ n
-same_pos m n e = cc
 
 met_twice : (F : Joined) (place : ℕ) (m : MessageDecl) (scope : List (List ℕ)) (j k : ℕ) (f g : FieldDecl) → IsClean F
     → slice_get F.messages place ≡ Some m → IsScope F (home.Message place) scope → slice_get m.fields j ≡ Some f

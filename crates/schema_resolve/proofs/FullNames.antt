@@ -145,10 +145,6 @@ scope_names {F} formed (of_message i m {outer} at up) =
 
 -- ---- the names of packages
 
-pub no_package : (word : Option Word) (name : List ℕ) → word ≡ None → name ≡ [] → name ≡ text_of (package_parts word)
-no_package None name e f = f
-no_package (Some w) name e f = absurd cc
-
 pub a_package : (word : Option Word) (w : Word) (name : List ℕ) → word ≡ Some w → name ≡ w.name
     → name ≡ text_of (package_parts word)
 a_package word w name e f =

@@ -62,8 +62,8 @@ fn copied(alloc: Global, values: &[(i32, &[u8])]) -> Result<ChoiceValues, Memory
     Ok(copies)
 }
 
-/// The enum at a place of files against which nothing stands.
-pub fn enum_in(
+// The enum at a place of files against which nothing stands.
+pub(crate) fn enum_in(
     alloc: Global,
     files: &Joined<'_>,
     plan: &Plan,

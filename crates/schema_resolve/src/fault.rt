@@ -48,8 +48,8 @@ impl<T: Drop> From<AllocFailed<T>> for ResolveFault {
     }
 }
 
-/// An offence as a fault.
-pub fn fault_of(offence: Offence) -> ResolveFault
+// An offence as a fault.
+pub(crate) fn fault_of(offence: Offence) -> ResolveFault
     ensures { result ≡ At offence.reason offence.span.start offence.span.end offence.span.line }
 {
     let Offence { reason, span } = offence;

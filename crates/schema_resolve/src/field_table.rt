@@ -11,9 +11,9 @@ use schema_names::Scopes;
 use schema_offences::{Form, field_number, form_of};
 use std::alloc::Global;
 
-/// A field with its number and its form.
+// A field with its number and its form.
 #[derive(Clone, Copy)]
-pub struct Judged<'a> {
+pub(crate) struct Judged<'a> {
     pub number: u32,
     pub form: Form,
     pub decl: &'a FieldDecl,
@@ -60,8 +60,8 @@ fn fields_of<'a>(
     Ok(fields)
 }
 
-/// The fields of the message at a place by ascending number.
-pub fn by_number<'a>(
+// The fields of the message at a place by ascending number.
+pub(crate) fn by_number<'a>(
     alloc: Global,
     scopes: &Scopes<'a>,
     place: usize,

@@ -22,8 +22,8 @@ fn package_of(alloc: Global, file: &File) -> Result<Option<Word>, Memory>
     }
 }
 
-/// The head of a file alone, which sees itself.
-pub fn head_of(alloc: Global, file: &File) -> Result<Heads, Memory>
+// The head of a file alone, which sees itself.
+pub(crate) fn head_of(alloc: Global, file: &File) -> Result<Heads, Memory>
     ensures { IfOk result (λ heads. heads ≡ (alone file.now).heads) }
 {
     let mut sees = Sequence::new(alloc);

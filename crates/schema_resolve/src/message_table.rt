@@ -70,8 +70,8 @@ fn field_in<'a>(
     })
 }
 
-/// The message at a place of files against which nothing stands.
-pub fn message_in<'a>(
+// The message at a place of files against which nothing stands.
+pub(crate) fn message_in<'a>(
     alloc: Global,
     files: &Joined<'a>,
     scopes: &Scopes<'a>,

@@ -86,8 +86,8 @@ fn add_methods<'a>(
     Ok(())
 }
 
-/// The methods of files against which nothing stands.
-pub fn methods_in<'a>(
+// The methods of files against which nothing stands.
+pub(crate) fn methods_in<'a>(
     alloc: Global,
     files: &Joined<'a>,
     scopes: &Scopes<'a>,

@@ -7,9 +7,9 @@ use mrpc_table::{Memory, Names};
 use proto_file::Word;
 use std::alloc::Global;
 
-/// The oneofs of a message in the order in which they are met, and their places by those in the text's message.
+// The oneofs of a message in the order in which they are met, and their places by those in the text's message.
 #[derive(Drop)]
-pub struct Oneofs {
+pub(crate) struct Oneofs {
     pub names: Names,
     pub places: Vec<Option<u32>>,
 }
@@ -26,8 +26,8 @@ fn unplaced(alloc: Global, count: usize) -> Result<Vec<Option<u32>>, Memory>
 }
 
 impl Oneofs {
-    /// None was met yet.
-    pub fn new(alloc: Global, words: &[Word]) -> Result<Oneofs, Memory>
+    // None was met yet.
+    pub(crate) fn new(alloc: Global, words: &[Word]) -> Result<Oneofs, Memory>
         ensures keeps { IfOk result (KeepsOneofs words.now) }
         ensures none { IfOk result (λ o. o.names ≡ []) }
     {
@@ -37,8 +37,13 @@ impl Oneofs {
         })
     }
 
-    /// The place of a oneof, which is the next one where it wasn't met yet.
-    pub fn place_of(&mut self, alloc: Global, words: &[Word], i: usize) -> Result<u32, Memory>
+    // The place of a oneof, which is the next one where it wasn't met yet.
+    pub(crate) fn place_of(
+        &mut self,
+        alloc: Global,
+        words: &[Word],
+        i: usize,
+    ) -> Result<u32, Memory>
         requires keeps { KeepsOneofs words.now self.old }
         requires within { i < length words.now }
         requires few { length self.old.names < 2 ^ 32 }

@@ -7,13 +7,13 @@ ghost use Rattle.schema_resolve.specs.Placing.{IsOrder, AreAll, ArePlaces, IsPla
 use mrpc_table::{Memory, Name};
 use std::alloc::Global;
 
-/// Names, and the places that they have by ascending name.
+// Names, and the places that they have by ascending name.
 #[derive(Drop)]
-pub struct PlacedNames {
+pub(crate) struct PlacedNames {
     pub names: Vec<Name>,
-    /// What stands at each place.
+    // What stands at each place.
     pub order: Vec<usize>,
-    /// At which place each one stands.
+    // At which place each one stands.
     pub places: Vec<u32>,
 }
 
@@ -63,8 +63,8 @@ fn places(alloc: Global, order: &[usize]) -> Result<Vec<u32>, Memory>
 }
 
 impl PlacedNames {
-    /// Names with their order and their places in it.
-    pub fn new(alloc: Global, names: Vec<Name>) -> Result<PlacedNames, Memory>
+    // Names with their order and their places in it.
+    pub(crate) fn new(alloc: Global, names: Vec<Name>) -> Result<PlacedNames, Memory>
         requires few { length names.items < 2 ^ 32 }
         requires distinct { AreDistinct names.items }
         ensures { IfOk result (IsPlaced names.items) }

@@ -12,17 +12,17 @@ use mrpc_table::{Memory, Name};
 use proto_file::{Head, Home, Joined, Word};
 use std::alloc::Global;
 
-/// The full names of messages and enums, and their places in the table.
+// The full names of messages and enums, and their places in the table.
 #[derive(Drop)]
-pub struct Plan {
-    /// The names of the files' packages.
+pub(crate) struct Plan {
+    // The names of the files' packages.
     pub fronts: Vec<Name>,
     pub messages: PlacedNames,
     pub enums: PlacedNames,
 }
 
-/// A name behind what stands in front of it.
-pub fn behind(alloc: Global, front: &Name, word: &Word) -> Result<Name, Memory>
+// A name behind what stands in front of it.
+pub(crate) fn behind(alloc: Global, front: &Name, word: &Word) -> Result<Name, Memory>
     ensures { IfOk result (λ name. name ≡ behind front.now word.now.name) }
 {
     let mut name = front.copied(alloc)?;
@@ -110,8 +110,8 @@ fn enum_names(
     Ok(enums)
 }
 
-/// The plan of files against which nothing stands.
-pub fn plan_of(alloc: Global, files: &Joined<'_>) -> Result<Plan, Memory>
+// The plan of files against which nothing stands.
+pub(crate) fn plan_of(alloc: Global, files: &Joined<'_>) -> Result<Plan, Memory>
     requires formed { IsFormed files.now }
     requires ordered { IsOrdered files.now }
     requires clean { IsClean files.now }

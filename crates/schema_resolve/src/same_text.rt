@@ -9,8 +9,8 @@ ghost use Rattle.schema_resolve.specs.Tables.{IsTableOf};
 
 use schema_names::one_name;
 
-/// Two tables of the same files have one text.
-pub fn one_table_text()
+// Two tables of the same files have one text.
+pub(crate) fn one_table_text()
     ensures { (F : Joined) (T U : Table) → IsOrdered F → IsTableOf F T → IsTableOf F U → table_text T ≡ table_text U }
 {
     one_name();

@@ -77,8 +77,12 @@ fn made_table<'a>(alloc: Global, files: &Joined<'a>, scopes: &Scopes<'a>) -> Res
     })
 }
 
-/// The table of files against which nothing stands.
-pub fn table_of<'a>(alloc: Global, files: &Joined<'a>, scopes: &Scopes<'a>) -> Result<Table, Memory>
+// The table of files against which nothing stands.
+pub(crate) fn table_of<'a>(
+    alloc: Global,
+    files: &Joined<'a>,
+    scopes: &Scopes<'a>,
+) -> Result<Table, Memory>
     requires formed { IsFormed files.now }
     requires ordered { IsOrdered files.now }
     requires scopes { scopes.now ≡ files.now }

@@ -14,18 +14,18 @@ const TABLE_LINE: &[u8] = b"table\n";
 // The line that says how many words are loaded for a call at most, up to that number.
 const LOADS: &[u8] = b"loads ";
 
-/// What stands in front of the table's text.
+// What stands in front of the table's text.
 #[derive(Clone, Copy)]
 pub(crate) struct ScriptHead<'a> {
-    /// How many words are loaded for a call at most.
+    // How many words are loaded for a call at most.
     pub loads: u64,
-    /// These lines.
+    // These lines.
     pub front: &'a [u8],
-    /// What stands behind them.
+    // What stands behind them.
     pub behind: &'a [u8],
 }
 
-/// The lines in front of the text of the table, the first of which is this one, with its line feed.
+// The lines in front of the text of the table, the first of which is this one, with its line feed.
 pub(crate) fn read_head<'a>(text: &'a [u8], first: &[u8]) -> Result<ScriptHead<'a>, ScriptFault>
     ensures head { IfOk result (λ h. IsHead first.now h.front.now h.loads
         × (text.now ≡ h.front.now ++ h.behind.now)) }

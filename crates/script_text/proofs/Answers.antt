@@ -11,9 +11,8 @@ use Rattle.script_head.specs.Fronts as fronts
 use Rattle.script_words.specs.declared.fault.ScriptFault.{ScriptFault}
 use Rattle.script_words.specs.declared.fault.ScriptFault.TheVariants as fault
 use Rattle.script_words.specs.declared.fault.ScriptReason.{ScriptReason}
-use Rattle.script_text.specs.Changes.{IsStopOf, end_of}
-use Rattle.script_text.specs.Stopping.{IsStopped, IsStopIn, stopped}
-use Rattle.script_text.specs.Offences.{Before}
+use Rattle.script_text.specs.Changes.{end_of}
+use Rattle.script_text.specs.Stopping.{IsStopped}
 use Rattle.script_text.specs.Known.{Laws}
 use Rattle.script_text.specs.Texts.{first_line, Reaches, Spells, IsFault, in_front, in_lines, IsFaultOf}
 use Rattle.script_text.specs.declared.script.Line.{Line}
@@ -74,9 +73,3 @@ module _ (laws : Laws) (text : List ℕ) (loads : ℕ) (T : Table) (behind : Lis
 
   pub spelled : (d : Declared) (lines : List Line) → Reaches loads T behind (end_of d lines) [] → Spells text (record { loads = loads; table = T; declared = d; lines = lines })
   spelled d lines reaches = record { behind = behind; front = front; reaches = reaches }
-
--- a fault of what is left stops the reading
-pub stop_is : (loads : ℕ) (T : Table) (text : List ℕ) (b : Before) (rest : List ℕ) (e : ScriptFault)
-    → Reaches loads T text b rest → IsStopOf loads T b rest e → IsStopIn loads T text (stopped rest e)
-stop_is loads T text b rest (fault.At at r) reaches h = record { before = b; rest = rest; reaches = reaches; left_is = refl; stops = h }
-stop_is loads T text b rest fault.Memory reaches h = tt

@@ -1,5 +1,5 @@
 -- The numbers and names of a line are in the ranges of their words.
-use Rattle.std.proofs.Common.{◌≡◌, ◌≢◌, ℕ, zero, suc, ◌+◌, ◌-◌, ◌^◌, ◌<◌, ◌≤◌, Bool, true, false, cond, List, [], ◌∷◌}
+use Rattle.std.proofs.Common.{◌≡◌, ◌≢◌, ℕ, zero, suc, ◌-◌, ◌^◌, ◌<◌, ◌≤◌, Bool, true, false, cond, List, [], ◌∷◌}
 use Rattle.std.proofs.Common.{length, Option, Some, None, refl, sym, subst, arith}
 use Rattle.std.specs.Prelude.{slice_get, nat_lt, nat_le, option_map}
 use Rattle.std.specs.List.{list_all, position_or_len}
@@ -118,9 +118,6 @@ pub record IsRanged (policies : ℕ) (l : Line) : Type 0 where
 
 ranged_is : (policies : ℕ) (k l : Line) → k ≡ l → IsRanged policies k → IsRanged policies l
 ranged_is policies k l e h = subst (IsRanged policies) e h
-
-below : (n most : ℕ) → n ≤ most → n < most + 1
-below n most h = omega (arith, h)
 
 pub conn_said : (f : Form) (text : List ℕ) (m : List Meaning) → IsSaid f text m → slice_get (sorts_of f) 1 ≡ Some (sort.Number 1 16) → IsIn 1 16 (number_at m 1)
 conn_said f text m said at = number_said (sorts_of f) (words_of text) m 1 1 16 at said.said

@@ -20,22 +20,22 @@ use policy_blocks::Declarations;
 use script_words::{Form, Said, ScriptReason, name_at, number_at, unbounded_at};
 use std::alloc::Global;
 
-/// The lines so far that do something, and what is kept of them.
+// The lines so far that do something, and what is kept of them.
 #[derive(Drop)]
 pub(crate) struct Body {
     pub lines: Lines,
     pub connections: Connections,
-    /// How many calls were submitted.
+    // How many calls were submitted.
     pub submissions: u64,
     pub closed: bool,
 }
 
-/// Why no line was made of its words.
+// Why no line was made of its words.
 #[derive(Clone, Copy)]
 pub(crate) enum Flaw {
-    /// This stands against it.
+    // This stands against it.
     Reason(ScriptReason),
-    /// No memory was found.
+    // No memory was found.
     Memory,
 }
 
@@ -138,7 +138,7 @@ impl Body {
         }
     }
 
-    /// The line that stores a word, where the connection is open and its heap has the place.
+    // The line that stores a word, where the connection is open and its heap has the place.
     #[inline(always)]
     #[tactic(auto, unfolding(crate::specs::Keeping::store_said))]
     pub(crate) fn stored(&self, store: Store) -> Result<Line, ScriptReason>
@@ -196,8 +196,8 @@ impl Body {
         }
     }
 
-    /// The line that submits a call, a request where the number is 0, where the connection is open and calls may load
-    /// as much.
+    // The line that submits a call, a request where the number is 0, where the connection is open and calls may load
+    // as much.
     #[tactic(auto, unfolding(crate::specs::Keeping::submit_said))]
     pub(crate) fn submitted(
         &self,
@@ -331,7 +331,7 @@ impl Body {
         })
     }
 
-    /// The line of a turn, where the connection is open and an engine stands at the position.
+    // The line of a turn, where the connection is open and an engine stands at the position.
     #[tactic(auto, unfolding(crate::specs::Keeping::turn_said))]
     pub(crate) fn turned(&self, turn: Turn) -> Result<Line, ScriptReason>
         requires { IsIn 1 16 turn.conn }
@@ -379,7 +379,7 @@ impl Body {
         Ok(Line::Send { conn: conn as u32 })
     }
 
-    /// The line that drains a connection, where it is open.
+    // The line that drains a connection, where it is open.
     #[tactic(auto, unfolding(crate::specs::Keeping::used_said))]
     pub(crate) fn drained(&self, conn: u64) -> Result<Line, ScriptReason>
         requires { IsIn 1 16 conn }
@@ -397,8 +397,8 @@ impl Body {
         self.drained(number_at(words, 1))
     }
 
-    /// The line that words of a form say, of which none declares anything or closes the script, or what stands against
-    /// it.
+    // The line that words of a form say, of which none declares anything or closes the script, or what stands against
+    // it.
     pub(crate) fn line_of(
         &self,
         alloc: Global,
@@ -435,7 +435,7 @@ impl Body {
         }
     }
 
-    /// Nothing yet, with room for so many lines.
+    // Nothing yet, with room for so many lines.
     pub(crate) fn with_room(alloc: Global, room: usize) -> Result<Body, Memory>
         ensures { IfOk result IsFreshBody }
     {
@@ -447,7 +447,7 @@ impl Body {
         })
     }
 
-    /// Adds a line that may stand behind these.
+    // Adds a line that may stand behind these.
     // Inlined for the lines that store a word, of which nothing is kept: nearly all lines of a long script.
     #[inline(always)]
     pub(crate) fn add(

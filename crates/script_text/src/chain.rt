@@ -9,7 +9,7 @@ use script_words::ScriptReason;
 use std::alloc::Global;
 use std::marker::Model;
 
-/// The kind of a policy; the tenant of a quota belongs to it.
+// The kind of a policy; the tenant of a quota belongs to it.
 #[derive(Clone, Copy)]
 pub(crate) enum Kind {
     Access,
@@ -19,14 +19,14 @@ pub(crate) enum Kind {
     Redact,
 }
 
-/// An entry of a chain.
+// An entry of a chain.
 #[derive(Drop)]
 pub(crate) struct Link {
     pub name: Name,
     pub kind: Kind,
 }
 
-/// The entries of a chain, in order, eight at most.
+// The entries of a chain, in order, eight at most.
 #[derive(Drop)]
 pub(crate) struct Links {
     links: Vec<Link>,
@@ -44,7 +44,7 @@ impl Model for Links {
 }
 
 impl Kind {
-    /// The kind of a policy.
+    // The kind of a policy.
     pub(crate) fn of(policy: &Policy) -> Kind
         ensures { result ≡ kind_of policy.now }
     {
@@ -73,7 +73,7 @@ impl Kind {
 }
 
 impl Links {
-    /// A chain without an entry.
+    // A chain without an entry.
     pub(crate) fn new(alloc: Global) -> Links
         ensures { result ≡ [] }
     {
@@ -98,7 +98,7 @@ impl Links {
             .any(|link| link.name.as_slice() == name && !link.kind.is(kind))
     }
 
-    /// The position at which a policy is attached, or why it can't be.
+    // The position at which a policy is attached, or why it can't be.
     pub(crate) fn attach_against(&self, at: Decimal, name: &[u8]) -> Result<u32, ScriptReason>
         ensures { result ≡ attach_against self.now at name.now }
     {
@@ -118,7 +118,7 @@ impl Links {
         }
     }
 
-    /// Why the entry of a name can't be taken from the chain, if it can't.
+    // Why the entry of a name can't be taken from the chain, if it can't.
     pub(crate) fn detach_against(&self, name: &[u8]) -> Result<(), ScriptReason>
         ensures { result ≡ detach_against self.now name.now }
     {
@@ -129,7 +129,7 @@ impl Links {
         }
     }
 
-    /// Why the entry of a name can't have a policy of a kind, if it can't.
+    // Why the entry of a name can't have a policy of a kind, if it can't.
     pub(crate) fn upgrade_against(&self, name: &[u8], kind: Kind) -> Result<(), ScriptReason>
         ensures { result ≡ upgrade_against self.now name.now kind }
     {
@@ -142,7 +142,7 @@ impl Links {
         }
     }
 
-    /// The position, where an engine stands there.
+    // The position, where an engine stands there.
     pub(crate) fn engine(&self, at: Decimal) -> Result<u32, ScriptReason>
         ensures { result ≡ engine_in self.now at }
     {
@@ -152,7 +152,7 @@ impl Links {
         }
     }
 
-    /// An entry stands at a position, in front of those that stood there and behind.
+    // An entry stands at a position, in front of those that stood there and behind.
     pub(crate) fn attach(&mut self, at: usize, link: Link) -> Result<(), Memory>
         requires place { at ≤ length self.old }
         requires room { length self.old < 8 }
@@ -162,7 +162,7 @@ impl Links {
         Ok(())
     }
 
-    /// Takes the entries of a name away.
+    // Takes the entries of a name away.
     pub(crate) fn detach(&mut self, name: &[u8])
         ensures { self.new ≡ without name.now self.old }
     {

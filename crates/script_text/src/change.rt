@@ -26,16 +26,16 @@ use policy_blocks::{Declarations, Item, ItemForm, ItemLines, is_skipped, read_it
 use script_words::{Form, Said, ScriptFault, ScriptReason, form_of, judge};
 use std::alloc::Global;
 
-/// What a line says.
+// What a line says.
 #[derive(Drop)]
 pub(crate) enum Change {
-    /// Nothing: it is empty, or a comment.
+    // Nothing: it is empty, or a comment.
     Nothing,
-    /// With the lines of its block, a tenant or a policy.
+    // With the lines of its block, a tenant or a policy.
     Item(Item),
-    /// Something that is done.
+    // Something that is done.
     Line(Line),
-    /// It closes the script.
+    // It closes the script.
     Close,
 }
 
@@ -242,8 +242,8 @@ fn drained(loads: u64, declared: &Declarations, body: &Body, conn: u64) -> Optio
     }
 }
 
-/// The line that a text begins with, and what stands behind it, where that line stores a word, its numbers are short, and
-/// nothing stands against it. None for each other line.
+// The line that a text begins with, and what stands behind it, where that line stores a word, its numbers are short, and
+// nothing stands against it. None for each other line.
 // Inlined, as is what it asks, so that such a line is made where it is kept: nearly all lines of a long script are such.
 #[inline(always)]
 pub(crate) fn front_stored<'a>(
@@ -262,7 +262,7 @@ pub(crate) fn front_stored<'a>(
     Some((made, behind))
 }
 
-/// The same where that line submits a request, gives an engine a turn or drains a connection.
+// The same where that line submits a request, gives an engine a turn or drains a connection.
 pub(crate) fn front_line<'a>(
     loads: u64,
     declared: &Declarations,
@@ -319,8 +319,8 @@ fn item<'a>(
     }
 }
 
-/// What the first line of a text says behind these, with the lines of its block where it has one, and what is left
-/// behind them; or what is wrong with it. Lines of a fault are counted from 1 at that line.
+// What the first line of a text says behind these, with the lines of its block where it has one, and what is left
+// behind them; or what is wrong with it. Lines of a fault are counted from 1 at that line.
 pub(crate) fn first_change<'a>(
     alloc: Global,
     loads: u64,

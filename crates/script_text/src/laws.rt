@@ -27,7 +27,7 @@ pub fn one_script()
     one_laws();
 }
 
-/// The laws of words and of items.
+// The laws of words and of items.
 pub(crate) fn one_laws()
     ensures { Laws }
 {

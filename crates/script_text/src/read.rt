@@ -31,13 +31,13 @@ const SHORTEST_STORE: usize = 12;
 // Why the lines of a text weren't read to their end.
 #[derive(Clone, Copy)]
 enum Stop {
-    /// Of the lines from which on so many bytes are left this one is at fault, counted from 1.
+    // Of the lines from which on so many bytes are left this one is at fault, counted from 1.
     At {
         left: usize,
         line: u64,
         reason: ScriptReason,
     },
-    /// No memory was found.
+    // No memory was found.
     Memory,
 }
 

@@ -8,7 +8,7 @@ ghost use Rattle.script_text.specs.Stores.{drain_words, submit_words, turn_words
 use crate::store::{behind_feed, behind_space, front_number};
 use mrpc_table::Decimal;
 
-/// What the words of a `submit` line say, but for the number of a request.
+// What the words of a `submit` line say, but for the number of a request.
 #[derive(Clone, Copy)]
 pub(crate) struct Submit {
     pub conn: u64,
@@ -16,7 +16,7 @@ pub(crate) struct Submit {
     pub addr: u64,
 }
 
-/// What the words of a `turn` line say.
+// What the words of a `turn` line say.
 #[derive(Clone, Copy)]
 pub(crate) struct Turn {
     pub conn: u64,
@@ -53,8 +53,8 @@ fn behind_drain(text: &[u8]) -> Option<&[u8]>
     }
 }
 
-/// What a `submit` line of a request with which a text begins says, where its numbers are short, and what stands behind
-/// the line. None for each other line, which is to be read word by word.
+// What a `submit` line of a request with which a text begins says, where its numbers are short, and what stands behind
+// the line. None for each other line, which is to be read word by word.
 pub(crate) fn front_submit(text: &[u8]) -> Option<(Submit, &[u8])>
     ensures { IfSome result (λ r. SaysInFront SubmitForm text.now (submit_words r.0) r.1.now) }
 {
@@ -72,8 +72,8 @@ pub(crate) fn front_submit(text: &[u8]) -> Option<(Submit, &[u8])>
     Some((Submit { conn, method, addr }, left))
 }
 
-/// What a `turn` line with which a text begins says, where its numbers are short, and what stands behind the line. None
-/// for each other line, which is to be read word by word.
+// What a `turn` line with which a text begins says, where its numbers are short, and what stands behind the line. None
+// for each other line, which is to be read word by word.
 pub(crate) fn front_turn(text: &[u8]) -> Option<(Turn, &[u8])>
     ensures { IfSome result (λ r. SaysInFront TurnForm text.now (turn_words r.0) r.1.now) }
 {
@@ -91,8 +91,8 @@ pub(crate) fn front_turn(text: &[u8]) -> Option<(Turn, &[u8])>
     Some((turn, left))
 }
 
-/// The number of the connection in a `drain` line with which a text begins, where it is short, and what stands behind
-/// the line. None for each other line, which is to be read word by word.
+// The number of the connection in a `drain` line with which a text begins, where it is short, and what stands behind
+// the line. None for each other line, which is to be read word by word.
 pub(crate) fn front_drain(text: &[u8]) -> Option<(u64, &[u8])>
     ensures { IfSome result (λ r. SaysInFront DrainForm text.now (drain_words r.0) r.1.now) }
 {

@@ -13,7 +13,7 @@ use mrpc_table::Decimal;
 // So many digits spell a number of 64 bits, whichever they are.
 const FEW_DIGITS: usize = 19;
 
-/// What the words of a `store` line say.
+// What the words of a `store` line say.
 #[derive(Clone, Copy)]
 pub(crate) struct Store {
     pub conn: u64,
@@ -21,8 +21,8 @@ pub(crate) struct Store {
     pub value: u64,
 }
 
-/// The number that the first digits of a text spell, and what stands behind them; none where a text doesn't begin with
-/// a number. Of more digits than surely fit, the last ones are left.
+// The number that the first digits of a text spell, and what stands behind them; none where a text doesn't begin with
+// a number. Of more digits than surely fit, the last ones are left.
 // Inlined, since a call costs as much as some digits, and a long script has three numbers in nearly every line.
 #[inline(always)]
 pub(crate) fn front_number(text: &[u8]) -> Option<(u64, &[u8])>
@@ -49,7 +49,7 @@ pub(crate) fn front_number(text: &[u8]) -> Option<(u64, &[u8])>
     Some((number, &text[count..]))
 }
 
-/// What stands behind the space with which a text begins.
+// What stands behind the space with which a text begins.
 pub(crate) fn behind_space(text: &[u8]) -> Option<&[u8]>
     ensures { IfSome result (λ r. text.now ≡ 32 ∷ r.now) }
 {
@@ -59,7 +59,7 @@ pub(crate) fn behind_space(text: &[u8]) -> Option<&[u8]>
     }
 }
 
-/// What stands behind the line feed with which a text begins.
+// What stands behind the line feed with which a text begins.
 pub(crate) fn behind_feed(text: &[u8]) -> Option<&[u8]>
     ensures { IfSome result (λ r. text.now ≡ 10 ∷ r.now) }
 {
@@ -79,8 +79,8 @@ fn behind_store(text: &[u8]) -> Option<&[u8]>
     }
 }
 
-/// What a `store` line with which a text begins says, where its numbers are decimal, and short, and what stands behind
-/// the line. None for each other line, which is to be read word by word.
+// What a `store` line with which a text begins says, where its numbers are decimal, and short, and what stands behind
+// the line. None for each other line, which is to be read word by word.
 #[inline(always)]
 pub(crate) fn front_store(text: &[u8]) -> Option<(Store, &[u8])>
     ensures { IfSome result (λ r. SaysInFront StoreForm text.now (store_words r.0) r.1.now) }

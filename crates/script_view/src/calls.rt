@@ -5,14 +5,14 @@ ghost use Rattle.script_text.specs.declared.limits.TheConstants.{MAX_CONNECTIONS
 
 use script_text::{MAX_CONNECTIONS, MAX_WORK};
 
-/// The calls of a script so far.
+// The calls of a script so far.
 #[derive(Drop)]
 pub(crate) struct Calls {
-    /// The number of the last call of each connection, 0 where it has none. No connection has the place 0.
+    // The number of the last call of each connection, 0 where it has none. No connection has the place 0.
     pub counts: [u64; 17],
-    /// How many calls there are together.
+    // How many calls there are together.
     pub total: u64,
-    /// The most loads that one of them takes, at least 1.
+    // The most loads that one of them takes, at least 1.
     pub loads: u64,
     ghost few: { total ≤ MAX_WORK },
     ghost work: { total * loads ≤ MAX_WORK },
@@ -21,7 +21,7 @@ pub(crate) struct Calls {
 }
 
 impl Calls {
-    /// No call yet.
+    // No call yet.
     pub(crate) fn new() -> Calls
         ensures counts { result.counts ≡ replicate 17 0 }
         ensures total { result.total ≡ 0 }
@@ -34,7 +34,7 @@ impl Calls {
         }
     }
 
-    /// The number of the last call of a connection.
+    // The number of the last call of a connection.
     pub(crate) fn last(&self, conn: u32) -> u64
         requires { conn ≤ MAX_CONNECTIONS }
         ensures { result ≡ slice_index self.now.counts conn }
@@ -42,8 +42,8 @@ impl Calls {
         self.counts[conn as usize]
     }
 
-    /// Takes a call of a connection, behind so many others without a message, which takes so many loads; answers whether
-    /// all calls together are as many as a script may have, by the loads that each may take. If not, nothing changes.
+    // Takes a call of a connection, behind so many others without a message, which takes so many loads; answers whether
+    // all calls together are as many as a script may have, by the loads that each may take. If not, nothing changes.
     pub(crate) fn take(&mut self, conn: u32, blanks: u64, loads: u64) -> bool
         requires conn { conn ≤ MAX_CONNECTIONS }
         requires blanks { blanks < 2 ^ 32 }
@@ -75,7 +75,7 @@ fn is_work(calls: u64, loads: u64) -> bool
     }
 }
 
-/// Whether a script may have a connection of this number.
+// Whether a script may have a connection of this number.
 pub(crate) fn is_conn(conn: u32) -> bool
     ensures { IsTrue result ↔ ((1 ≤ conn) × (conn ≤ MAX_CONNECTIONS)) }
 {

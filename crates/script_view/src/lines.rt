@@ -11,14 +11,14 @@ use crate::limits::{FIRST_PLACE, MAX_REPLAY_WORDS};
 use frame_transport::{FrameRef, REQUEST};
 use mrpc_table::{Bytes, Memory};
 
-/// Appends a comment in place of a hello.
+// Appends a comment in place of a hello.
 pub(crate) fn put_hello(out: &mut Bytes) -> Result<(), Memory>
     ensures { OnOk result (out.new ≡ out.old ++ hello_line) }
 {
     out.append(b"# a hello, which isn't replayed\n")
 }
 
-/// Appends a line of a word and numbers.
+// Appends a line of a word and numbers.
 pub(crate) fn put_line(out: &mut Bytes, word: &[u8], numbers: &[u64]) -> Result<(), Memory>
     ensures { OnOk result (out.new ≡ out.old ++ line (word.now ∷ map decimal numbers.now)) }
 {
@@ -29,7 +29,7 @@ pub(crate) fn put_line(out: &mut Bytes, word: &[u8], numbers: &[u64]) -> Result<
     out.append(b"\n")
 }
 
-/// Appends parts, one behind another.
+// Appends parts, one behind another.
 pub(crate) fn put_parts(out: &mut Bytes, parts: &[&[u8]]) -> Result<(), Memory>
     ensures { OnOk result (out.new ≡ out.old ++ flat_map (λ part. part.now) parts.now) }
 {
@@ -39,14 +39,14 @@ pub(crate) fn put_parts(out: &mut Bytes, parts: &[&[u8]]) -> Result<(), Memory>
     Ok(())
 }
 
-/// Appends the line that opens a connection.
+// Appends the line that opens a connection.
 pub(crate) fn put_conn(out: &mut Bytes, conn: u32) -> Result<(), Memory>
     ensures { OnOk result (out.new ≡ out.old ++ conn_line conn) }
 {
     put_line(out, b"conn", &[u64::from(conn), MAX_REPLAY_WORDS])
 }
 
-/// Appends so many submissions without a message.
+// Appends so many submissions without a message.
 pub(crate) fn put_blanks(out: &mut Bytes, conn: u32, count: u64) -> Result<(), Memory>
     ensures { OnOk result (out.new ≡ out.old ++ blank_lines conn count) }
 {
@@ -62,7 +62,7 @@ fn put_blank(out: &mut Bytes, conn: u32) -> Result<(), Memory>
     put_line(out, b"submit", &[u64::from(conn), 0, 0])
 }
 
-/// Appends the lines that store words, in order.
+// Appends the lines that store words, in order.
 pub(crate) fn put_stores(out: &mut Bytes, conn: u32, words: &[(u64, u64)]) -> Result<(), Memory>
     ensures { OnOk result (out.new ≡ out.old ++ store_lines conn words.now) }
 {
@@ -72,7 +72,7 @@ pub(crate) fn put_stores(out: &mut Bytes, conn: u32, words: &[(u64, u64)]) -> Re
     Ok(())
 }
 
-/// Appends the submission of a frame's message.
+// Appends the submission of a frame's message.
 pub(crate) fn put_submit(out: &mut Bytes, frame: &FrameRef) -> Result<(), Memory>
     ensures { OnOk result (out.new ≡ out.old ++ submit_line (frame_of frame.now)) }
 {
@@ -89,7 +89,7 @@ pub(crate) fn put_submit(out: &mut Bytes, frame: &FrameRef) -> Result<(), Memory
     }
 }
 
-/// Appends the line that sends what was submitted.
+// Appends the line that sends what was submitted.
 pub(crate) fn put_send(out: &mut Bytes, conn: u32) -> Result<(), Memory>
     ensures { OnOk result (out.new ≡ out.old ++ send_line conn) }
 {

@@ -29,7 +29,7 @@ const CONN_PLACE: u64 = 8;
 
 const NUMBER_PLACE: u64 = 12;
 
-/// Appends what makes the frames of a stream, in order.
+// Appends what makes the frames of a stream, in order.
 pub(crate) fn put_stream(
     alloc: Global,
     table: &Table,

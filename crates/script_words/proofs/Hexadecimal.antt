@@ -1,18 +1,15 @@
 -- Hexadecimal digits, and the number that they spell.
-use Rattle.std.proofs.Common.{◌≡◌, ℕ, zero, suc, Bool, ◌+◌, ◌*◌, ◌^◌, ◌<◌, ◌≤◌, true, false, cond, List, [], ◌∷◌}
-use Rattle.std.proofs.Common.{length, get_or, take, Some, None, refl, sym, ap, arith}
+use Rattle.std.proofs.Common.{◌≡◌, ℕ, zero, suc, Bool, ◌+◌, ◌*◌, ◌^◌, ◌<◌, ◌≤◌, true, List, [], ◌∷◌}
+use Rattle.std.proofs.Common.{length, get_or, take, refl, sym, arith}
 use Rattle.std.specs.List.{list_all}
 use Rattle.std.specs.Char.{digit_value}
 use Rattle.std.specs.Str.Parse.{AllDigits, digits_value}
 use Rattle.std.proofs.Math.Nat.{pow-le-pow_right}
-use Rattle.std.proofs.lemmas.Bool.{and_from, and_parts, and_right}
+use Rattle.std.proofs.lemmas.Bool.{and_from, and_parts}
 use Rattle.std.proofs.lemmas.Grind.{common_steps}
 use Rattle.std.proofs.lemmas.Int.Digits.{digits_value-lt, digits_value_more}
 use Rattle.std.proofs.lemmas.List.{length-take}
-use Rattle.std.proofs.lemmas.List.Recursion.{and_fails_at}
-use Rattle.mrpc_table.specs.declared.words.Decimal.TheVariants.{Small}
 use Rattle.script_words.specs.Values.{is_hexadecimal}
-use Rattle.script_words.specs.Reading.{hexadecimal_in}
 
 pub digit_small : (c : ℕ) → is_hexadecimal c ≡ true → digit_value c < 16
 digit_small c e = grind (arith, common_steps)
@@ -33,12 +30,6 @@ fifteen_digits ds i all few =
 pub word_more : (digits : List ℕ) (i word value : ℕ) → i < length digits → word ≡ digits_value 16 (take i digits)
     → value ≡ digit_value (get_or digits i 0) → word * 16 + value ≡ digits_value 16 (take (i + 1) digits)
 word_more digits i word value within so_far here = rw (so_far, here) (sym (digits_value_more 16 digits i within))
-
--- a byte that is no digit
-pub not_hexadecimal : (digits : List ℕ) (i : ℕ) → i < length digits → is_hexadecimal (get_or digits i 0) ≡ false → None ≡ hexadecimal_in digits
-not_hexadecimal digits i within isnt =
-    let all : list_all is_hexadecimal digits ≡ false = and_fails_at (list_all is_hexadecimal) is_hexadecimal refl (λ x xs. refl) digits i 0 within isnt in
-    sym (ap (λ b. cond b (Some (Small (digits_value 16 digits))) None) (and_right _ (list_all is_hexadecimal digits) all))
 
 -- what holds of the bytes so far and of one more
 pub all_more : (p : ℕ → Bool) (xs : List ℕ) (i : ℕ) → i < length xs → list_all p (take i xs) ≡ true → p (get_or xs i 0) ≡ true → list_all p (take (i + 1) xs) ≡ true

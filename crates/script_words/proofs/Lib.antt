@@ -1,6 +1,5 @@
 mod Deciding
 mod Hexadecimal
-mod Numbers
 mod OneKeyword
 mod Rows
 mod Stored

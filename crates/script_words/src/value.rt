@@ -45,8 +45,8 @@ fn hexadecimal(digits: &[u8]) -> Option<Decimal>
     Some(Decimal::Small(word))
 }
 
-/// What a word stores: a number of 64 bits, or a larger one where it is out of range; none where it has no such form.
-pub fn value_of(word: &[u8]) -> Option<Decimal>
+// What a word stores: a number of 64 bits, or a larger one where it is out of range; none where it has no such form.
+pub(crate) fn value_of(word: &[u8]) -> Option<Decimal>
     ensures { result ≡ value_in word.now }
 {
     match word {

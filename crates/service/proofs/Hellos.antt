@@ -1,19 +1,17 @@
 -- What comes of the hellos of an end of a link.
 use Rattle.std.proofs.Common.{◌≡◌, ◌≢◌, ℕ, ◌≤◌, ◌⊎◌, inl, inr, Bool, true, false, List, [], ◌∷◌, ◌++◌, Option, Some}
 use Rattle.std.proofs.Common.{None, Result, Ok, Err, refl, sym, ap, subst, ◌∙◌, arith}
-use Rattle.std.specs.Prelude.{IfOk, IfSome, OnOk}
+use Rattle.std.specs.Prelude.{IfSome, OnOk}
 use Rattle.std.specs.Io.KnownBytes.{Appends}
 use Rattle.std.specs.Option.{option_copied}
-use Rattle.std.proofs.KnownBytes.{Appends-nil}
 use Rattle.mrpc_base.specs.Faults.{HasCause, Rose}
 use Rattle.mrpc_base.specs.declared.link.Link.{Ghosts as LinkMembers}
 use Rattle.mrpc_table.specs.declared.table.Table.{Table}
 use Rattle.deliveries.specs.declared.arrivals.Arrivals.{Arrivals}
 use Rattle.deliveries.specs.declared.arrivals.Stream.{Stream}
 use Rattle.deliveries.specs.declared.arrivals.Stream.TheVariants.{Failed}
-use Rattle.link_greeting.specs.Greeting.{HasBound, HasRefused, IsBound, IsUnbound, failed}
+use Rattle.link_greeting.specs.Greeting.{HasBound, IsBound, IsUnbound, failed}
 use Rattle.link_greeting.specs.declared.unbound.Unbound.{Unbound}
-use Rattle.link_greeting.specs.declared.unbound.Unbound.TheVariants.{Transport}
 use Rattle.run_plan.specs.Chains.{inbound_of, table_of}
 use Rattle.run_plan.specs.declared.application.Application.{Application}
 use Rattle.run_plan.specs.declared.plan.Plan.{Plan}
@@ -26,44 +24,6 @@ use Rattle.service.specs.Served.{IsNewLink, WasRefused, hello_in}
 -- it can't be that a hello is said and isn't
 both : {P : Type 0} (said : Bool) → said ≡ true → said ≡ false → P
 both said agreed unsaid = absurd (let wrong : true ≡ false = sym agreed ∙ unsaid in cc)
-
-pub if-left : {U E : Type 0} (P Q : U → Type 0) → ((u : U) → P u → Q u) → (r : Result (Option U) E)
-    → IfOk r (λ a. IfSome a P) → IfOk r (λ a. IfSome a Q)
-if-left P Q each (Ok None) h = tt
-if-left P Q each (Ok (Some u)) h = each u h
-if-left P Q each (Err e) h = tt
-
--- a link that failed at its hello leaves its connection unbound
-pub left-unsaid : (service : List ℕ) (T : Table) (given : Option (List ℕ)) (faults : ℕ) (said : Bool) → said ≡ false
-    → WasLeft service T given given faults faults said Transport
-left-unsaid service T given faults said unsaid = record {
-  stream = [];
-  fault = None;
-  state = Failed;
-  came = Appends-nil given;
-  unbound = failed refl refl;
-  says = tt;
-  cause = λ agreed. both said agreed unsaid;
-  failed = λ _. refl;
-  stays = λ _. refl;
-  transport = λ _. refl;
-}
-
-pub left-heard : (service : List ℕ) (given given' : Option (List ℕ)) (faults faults' : ℕ) (said : Bool) (a : Arrivals)
-    (why : Unbound) → said ≡ true → HasCause (a.stream ≡ Failed) faults faults' → (a.stream ≡ Failed → why ≡ Transport)
-    → HasRefused service given given' a why → WasLeft service a.table.now given given' faults faults' said why
-left-heard service given given' faults faults' said a why agreed cause transport h = record {
-  stream = h.stream;
-  fault = h.fault;
-  state = a.stream;
-  came = h.came;
-  unbound = h.unbound;
-  says = h.says;
-  cause = λ _. cause;
-  failed = λ unsaid. both said agreed unsaid;
-  stays = λ unsaid. both said agreed unsaid;
-  transport = transport;
-}
 
 -- ---- how it was greeted
 

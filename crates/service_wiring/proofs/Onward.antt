@@ -10,9 +10,9 @@ use Rattle.call_history.specs.Tickets.{tickets_behind}
 use Rattle.receive_core.specs.Life.{Life}
 use Rattle.conn_core.specs.Connections.{Connection, IsSame as IsSameConn, behind}
 use Rattle.conn_core.specs.Steps.{Draws, DrawsTickets, Hands}
-use Rattle.service_loop.specs.Delivering.{AreSame, DeliversOn, HaveDelivered, HaveGoneOn}
+use Rattle.service_loop.specs.Delivering.{AreSameDeliveries, DeliversOn, HaveDelivered, HaveGoneOn}
 use Rattle.service_loop.specs.Rounds.{GoesOn, IsSame}
-use Rattle.service_loop.specs.Serving.{AreSame as AreSameCalls}
+use Rattle.service_loop.specs.Serving.{AreSameSubmissions}
 use Rattle.service_loop.specs.declared.delivering.Deliveries.{Deliveries}
 use Rattle.service_loop.specs.declared.endpoint.Endpoint.{Endpoint}
 use Rattle.service_loop.specs.declared.submissions.Submissions.{Submissions}
@@ -107,7 +107,7 @@ cause-then false false c x y z kept stays first second = record {
 pub same-conn : (a b c : Connection) → IsSameConn a b → IsSameConn b c → IsSameConn a c
 same-conn a b c ab bc = record { conn = bc.conn ∙ ab.conn; table = bc.table ∙ ab.table; limit = bc.limit ∙ ab.limit }
 
-pub same-calls : (s : Submissions) → AreSameCalls s s
+pub same-calls : (s : Submissions) → AreSameSubmissions s s
 same-calls s = record {
   conn = record { conn = refl; table = refl; limit = refl };
   heap = refl;
@@ -116,7 +116,7 @@ same-calls s = record {
   steps = refl;
 }
 
-pub calls-then : (a b c : Submissions) → AreSameCalls a b → AreSameCalls b c → AreSameCalls a c
+pub calls-then : (a b c : Submissions) → AreSameSubmissions a b → AreSameSubmissions b c → AreSameSubmissions a c
 calls-then a b c ab bc = record {
   conn = same-conn a.conn b.conn c.conn ab.conn bc.conn;
   heap = bc.heap ∙ ab.heap;
@@ -154,7 +154,7 @@ gone-nowhere life numbers back known d h = record {
   delivered = same-numbers life numbers back d h;
 }
 
-pub same-deliveries : (d : Deliveries) → AreSame d d
+pub same-deliveries : (d : Deliveries) → AreSameDeliveries d d
 same-deliveries d = record {
   arrivals = record { table = refl; policy = refl; conn = refl; words = refl; heap = refl };
   notices = record { notices = refl; numbers = refl };
@@ -162,7 +162,7 @@ same-deliveries d = record {
   programmed = refl;
 }
 
-pub deliveries-then : (a b c : Deliveries) → AreSame a b → AreSame b c → AreSame a c
+pub deliveries-then : (a b c : Deliveries) → AreSameDeliveries a b → AreSameDeliveries b c → AreSameDeliveries a c
 deliveries-then a b c ab bc = record {
   arrivals = record {
     table = bc.arrivals.table ∙ ab.arrivals.table;

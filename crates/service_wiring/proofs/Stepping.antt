@@ -66,10 +66,6 @@ some-there {X = X} (x ∷ xs) (f ∷ front) rest o e =
 
 -- ---- listing
 
-pub listed-none : (plan : Plan) (app : Application) → AreListed plan app [] (lines_on plan app)
-    (zero_each app.chain ++ counts_of (steps_on plan.operators app.conn))
-listed-none plan app = record { stand_for = refl; in_order = refl }
-
 pub listed-one : (plan : Plan) (app : Application) (steps : List DueStep) (first : StepLine) (lines : List StepLine)
     (count : ℕ) (counts : List ℕ) (step : Op) → AreListed plan app steps (first ∷ lines) (count ∷ counts)
     → op_of plan app first ≡ Some step

@@ -12,7 +12,7 @@ pub struct Load {
 }
 
 // What one seat knows.
-pub struct View {
+pub(crate) struct View {
     // The first stores, as far as the seat has seen them, and as far as it was told of them.
     pub known: LinkedList<(u64, u64)>,
     pub told: LinkedList<(u64, u64)>,
@@ -24,7 +24,7 @@ pub struct View {
     pub loads: LinkedList<Load>,
 }
 
-pub struct Rule;
+pub(crate) struct Rule;
 
 // Its key is the number of words.
 impl TableRule<(), View, u64> for Rule {
@@ -37,7 +37,7 @@ impl TableRule<(), View, u64> for Rule {
 }
 
 // The writer's store.
-pub struct Store;
+pub(crate) struct Store;
 
 impl Play<(), View> for Store {
     ghost use Rattle.shared_heap.specs.Rule.{Stored};
@@ -46,7 +46,7 @@ impl Play<(), View> for Store {
 }
 
 // The reader's load.
-pub struct LoadOne;
+pub(crate) struct LoadOne;
 
 impl Play<(), View> for LoadOne {
     ghost use Rattle.shared_heap.specs.Rule.{Loaded};
@@ -55,7 +55,7 @@ impl Play<(), View> for LoadOne {
 }
 
 // A load that settles what the reader was told.
-pub struct Settle;
+pub(crate) struct Settle;
 
 impl Play<(), View> for Settle {
     ghost use Rattle.shared_heap.specs.Rule.{Settled};
@@ -64,7 +64,7 @@ impl Play<(), View> for Settle {
 }
 
 // A new seat, which knows what this one knows.
-pub struct Knowing;
+pub(crate) struct Knowing;
 
 impl Split<View> for Knowing {
     ghost use Rattle.shared_heap.specs.Rule.{knowing};
@@ -75,7 +75,7 @@ impl Split<View> for Knowing {
 }
 
 // A new seat that knows what this one knows, after which nobody stores any more.
-pub struct Ending;
+pub(crate) struct Ending;
 
 impl Split<View> for Ending {
     ghost use Rattle.shared_heap.specs.Rule.{ended};
@@ -93,4 +93,4 @@ impl Join<View> for Knowing {
     ghost spent = { nobody };
 }
 
-pub type Table = atomic_table::Table<(), View, u64, Rule, Global>;
+pub(crate) type Table = atomic_table::Table<(), View, u64, Rule, Global>;

@@ -15,8 +15,8 @@ use mrpc_table::{
 };
 use std::alloc::Global;
 
-/// A number without sign or leading zero; behind it `None` where it has more than 32 bits.
-pub fn index_of(word: &[u8]) -> Option<Option<u32>>
+// A number without sign or leading zero; behind it `None` where it has more than 32 bits.
+pub(crate) fn index_of(word: &[u8]) -> Option<Option<u32>>
     ensures { result ≡ option_map in_32_bits (number_of word.now) }
 {
     match number_of(word)? {
@@ -25,8 +25,8 @@ pub fn index_of(word: &[u8]) -> Option<Option<u32>>
     }
 }
 
-/// A number of an enum's value: digits, or digits behind a `-`.
-pub fn whole_of(word: &[u8]) -> Option<Whole>
+// A number of an enum's value: digits, or digits behind a `-`.
+pub(crate) fn whole_of(word: &[u8]) -> Option<Whole>
     ensures { result ≡ whole_of word.now }
 {
     match word {
@@ -64,8 +64,8 @@ pub fn behind<'a>(prefix: &[u8], word: &'a [u8]) -> Option<&'a [u8]>
     word.strip_prefix(prefix)
 }
 
-/// The word, where it is a name.
-pub fn name_of(alloc: Global, word: &[u8]) -> Result<Option<Name>, Memory>
+// The word, where it is a name.
+pub(crate) fn name_of(alloc: Global, word: &[u8]) -> Result<Option<Name>, Memory>
     ensures { IfOk result (λ r. r ≡ name_of word.now) }
 {
     if is_name_form(word) {
@@ -75,8 +75,8 @@ pub fn name_of(alloc: Global, word: &[u8]) -> Result<Option<Name>, Memory>
     }
 }
 
-/// The word, where it is a full name.
-pub fn full_name_of(alloc: Global, word: &[u8]) -> Result<Option<Name>, Memory>
+// The word, where it is a full name.
+pub(crate) fn full_name_of(alloc: Global, word: &[u8]) -> Result<Option<Name>, Memory>
     ensures { IfOk result (λ r. r ≡ full_name_of word.now) }
 {
     if is_full_form(word) {
@@ -112,8 +112,8 @@ fn enum_kind(alloc: Global, word: &[u8]) -> Result<Option<KindWord>, Memory>
     }
 }
 
-/// The kind that a word names.
-pub fn kind_of(alloc: Global, word: &[u8]) -> Result<Option<KindWord>, Memory>
+// The kind that a word names.
+pub(crate) fn kind_of(alloc: Global, word: &[u8]) -> Result<Option<KindWord>, Memory>
     ensures { IfOk result (λ r. r ≡ kind_of word.now) }
 {
     if let Some(kind) = Kind::of_name(word) {
@@ -166,8 +166,8 @@ fn member_label(alloc: Global, word: &[u8]) -> Result<Option<LabelWord>, Memory>
     }
 }
 
-/// The label that a word names.
-pub fn label_of(alloc: Global, word: &[u8]) -> Result<Option<LabelWord>, Memory>
+// The label that a word names.
+pub(crate) fn label_of(alloc: Global, word: &[u8]) -> Result<Option<LabelWord>, Memory>
     ensures { IfOk result (λ r. r ≡ label_of word.now) }
 {
     if let Some(label) = plain_label(word) {

@@ -10,7 +10,7 @@ use Rattle.std.proofs.lemmas.List.Sums.{sum_by-append}
 use Rattle.std.proofs.lemmas.List.Elements.{All-push, All-nil, All-contains, Contains-append_right, Contains-push_cases, filter_map-append}
 use Rattle.mrpc_table.specs.Names.{is_name_form, is_full_form, is_short, is_short_full}
 use Rattle.table_lines.specs.Forms.{Form, enum, value, message, field, method, goes_on, is_method}
-use Rattle.table_text.specs.Judged.{Types, Before, Open, nothing, values, fields, after, with_value, with_field, lacks_value, is_empty, falls, is_within, has_field_number, clashes}
+use Rattle.table_text.specs.Judged.{Types, Before, OpenNames, nothing, values, fields, after, names_with_value, names_with_field, lacks_value, is_empty, falls, is_within, has_field_number, clashes}
 use Rattle.table_lines.specs.Lines.{in_32_bits}
 use Rattle.table_lines.specs.declared.line.KindWord.{KindWord}
 use Rattle.table_lines.specs.declared.line.LabelWord.{LabelWord}
@@ -59,12 +59,12 @@ pub record InNothing (fs : List Form) : Type 0 where
   pub is : fs ≡ front ++ last ∷ []
   pub a_method : is_method last ≡ true
 
-abbrev pub PartIs : List Form → Open → Type 0
+abbrev pub PartIs : List Form → OpenNames → Type 0
 PartIs fs nothing = (fs ≡ []) ⊎ InNothing fs
 PartIs fs (values vs) = InEnum fs vs
 PartIs fs (fields ns) = InMessage fs ns
 
-abbrev pub IsOrdered : Open → List Form → List (List ℕ) → List (List ℕ) → Type 0
+abbrev pub IsOrdered : OpenNames → List Form → List (List ℕ) → List (List ℕ) → Type 0
 IsOrdered nothing fs ms ks = ks ≡ [] → fs ≡ []
 IsOrdered (values vs) fs ms ks = (ms ≡ []) × (ks ≡ [])
 IsOrdered (fields ns) fs ms ks = ks ≡ []
@@ -110,10 +110,10 @@ names_stay h fs ns f none e = names_push h fs ns f e ∙ ap (λ (o : Option (Lis
 formed_push : (fs : List Form) (f : Form) → ((g : Form) → Contains fs g → IsFormed g) → IsFormed f → (g : Form) → Contains (fs ++ f ∷ []) g → IsFormed g
 formed_push fs f all ok g h = elim (Contains-push_cases fs f g h) [ inl old ↦ all g old | inr same ↦ subst IsFormed same ok ]
 
-value_step : (t : Types) (fs : List Form) (es ms ks : List (List ℕ)) (part : Open) (bytes : ℕ) (z : ℤ) (n : List ℕ)
+value_step : (t : Types) (fs : List Form) (es ms ks : List (List ℕ)) (part : OpenNames) (bytes : ℕ) (z : ℤ) (n : List ℕ)
     → Fits fs (record { enums = es; messages = ms; methods = ks; open_part = part })
     → IsClean t (record { enums = es; messages = ms; methods = ks; open_part = part }) bytes (Value (kept_whole z) n)
-    → Fits (fs ++ value z n ∷ []) (record { enums = es; messages = ms; methods = ks; open_part = with_value part (kept_whole z) n })
+    → Fits (fs ++ value z n ∷ []) (record { enums = es; messages = ms; methods = ks; open_part = names_with_value part (kept_whole z) n })
 value_step t fs es ms ks (values vs) bytes z n s h =
     let w = kept_within z (not_no (is_within (kept_whole z)) h.number) in
     let p = s.part in
@@ -121,7 +121,7 @@ value_step t fs es ms ks (values vs) bytes z n s h =
     ap (λ (xs : List Form). xs ++ value z n ∷ []) p.is
     ∙ append_assoc p.front (enum p.name ∷ map value_form vs) (value z n ∷ [])
     ∙ ap (λ (xs : List Form). p.front ++ enum p.name ∷ xs) (sym (map_push value_form vs (z, n))) in
-    subst (λ (x : Whole). Fits (fs ++ value z n ∷ []) (record { enums = es; messages = ms; methods = ks; open_part = with_value (values vs) x n })) (sym w.0) (record {
+    subst (λ (x : Whole). Fits (fs ++ value z n ∷ []) (record { enums = es; messages = ms; methods = ks; open_part = names_with_value (values vs) x n })) (sym w.0) (record {
       enums = names_stay enum_name fs es (value z n) refl s.enums;
       messages = names_stay message_name fs ms (value z n) refl s.messages;
       methods = names_stay method_key_of fs ks (value z n) refl s.methods;
@@ -133,10 +133,10 @@ value_step t fs es ms ks (values vs) bytes z n s h =
 value_step t fs es ms ks (fields ns) bytes z n s h = let clash = h.syntax in absurd cc
 value_step t fs es ms ks nothing bytes z n s h = let clash = h.syntax in absurd cc
 
-field_step : (t : Types) (fs : List Form) (es ms ks : List (List ℕ)) (part : Open) (bytes : ℕ) (p : Parts)
+field_step : (t : Types) (fs : List Form) (es ms ks : List (List ℕ)) (part : OpenNames) (bytes : ℕ) (p : Parts)
     → Fits fs (record { enums = es; messages = ms; methods = ks; open_part = part })
     → IsClean t (record { enums = es; messages = ms; methods = ks; open_part = part }) bytes (kept (field_form p))
-    → Fits (fs ++ field_form p ∷ []) (record { enums = es; messages = ms; methods = ks; open_part = with_field part (in_32_bits p.number) p.name })
+    → Fits (fs ++ field_form p ∷ []) (record { enums = es; messages = ms; methods = ks; open_part = names_with_field part (in_32_bits p.number) p.name })
 field_step t fs es ms ks (fields ns) bytes p s h =
     elim (in_32 p.number) [
       | inl small ↦
@@ -149,7 +149,7 @@ field_step t fs es ms ks (fields ns) bytes p s h =
             enums = es;
             messages = ms;
             methods = ks;
-            open_part = with_field (fields ns) o p.name;
+            open_part = names_with_field (fields ns) o p.name;
           })) (sym small.0) (record {
             enums = names_stay enum_name fs es (field_form p) refl s.enums;
             messages = names_stay message_name fs ms (field_form p) refl s.messages;

@@ -414,9 +414,6 @@ limit_said lines fs b bytes line f s says e = elim (either_true (not (has_short_
 
 -- ---- the reason that is found
 
-some_reason : {r q : TableReason} → Some r ≡ Some q → r ≡ q
-some_reason e = unsome e
-
 pub found_stands : (lines : List (List ℕ)) (fs : List Form) (b : Before) (bytes : ℕ) (line : List ℕ) (f : Form)
     (q : TableReason) → Fits fs b → Says line f → line_fault (types_of lines) b bytes (Some (kept f)) ≡ Some q
     → Offends lines fs line q ⊎ ((65536 < bytes) × (q ≡ Limit))

@@ -12,7 +12,7 @@ use Rattle.std.proofs.lemmas.List.Elements.{All-contains, filter_map-append}
 use Rattle.mrpc_table.specs.Valid.{IsBelow, IsValueBelow}
 use Rattle.table_text.specs.Faults.{IsLast, IsAbove, AreInner, LacksValue, LacksZero}
 use Rattle.table_lines.specs.Forms.{Form, enum, value, message, field, method, is_method, is_of_enum, is_of_message}
-use Rattle.table_text.specs.Judged.{Open, nothing, values, fields, is_below, falls, last_of, is_value_below}
+use Rattle.table_text.specs.Judged.{OpenNames, nothing, values, fields, is_below, falls, last_of, is_value_below}
 use Rattle.table_text.specs.Judged.{value_falls, is_field_below, field_falls, is_index, repeats_number}
 use Rattle.table_text.specs.Judged.{is_value_before, is_field_before, lacks_value, lacks_zero, open_count}
 use Rattle.table_lines.specs.Lines.{in_32_bits}
@@ -29,7 +29,7 @@ use Rattle.table_text.proofs.OrderLemmas.{contains_among, among_contains, int_eq
 -- ---- what may be last
 
 -- right behind a line of an enum, the open part is one
-pub last_of_enum : (fs : List Form) (part : Open) → PartIs fs part → (f : Form) → IsLast fs f → is_of_enum f ≡ true → (vs : List (ℤ × List ℕ)) × (part ≡ values vs)
+pub last_of_enum : (fs : List Form) (part : OpenNames) → PartIs fs part → (f : Form) → IsLast fs f → is_of_enum f ≡ true → (vs : List (ℤ × List ℕ)) × (part ≡ values vs)
 last_of_enum fs (values vs) p f last is = (vs, refl)
 last_of_enum fs (fields ns) p f last is = elim (of_message fs ns p f (is_last_above fs f last)) [
   | the_message same ↦ let other : is_of_enum (message p.name) ≡ true = ap is_of_enum same ∙ is in absurd cc
@@ -44,7 +44,7 @@ last_of_enum fs nothing p f last is = absurd (no_enum f is (of_nothing fs p f (i
     no_enum (field n l k x) e m = absurd cc
     no_enum (method i s n x y) e m = absurd cc
 
-pub last_of_message : (fs : List Form) (part : Open) → PartIs fs part → (f : Form) → IsLast fs f → is_of_message f ≡ true → (ns : List (ℕ × List ℕ)) × (part ≡ fields ns)
+pub last_of_message : (fs : List Form) (part : OpenNames) → PartIs fs part → (f : Form) → IsLast fs f → is_of_message f ≡ true → (ns : List (ℕ × List ℕ)) × (part ≡ fields ns)
 last_of_message fs (fields ns) p f last is = (ns, refl)
 last_of_message fs (values vs) p f last is = elim (of_enum fs vs p f (is_last_above fs f last)) [
   | the_enum same ↦ let other : is_of_message (enum p.name) ≡ true = ap is_of_message same ∙ is in absurd cc
@@ -74,7 +74,7 @@ message_last fs ns p = elim (message_ends fs ns p) [
 
 -- ---- an enum without a value
 
-pub lacks_value_said : (fs : List Form) (part : Open) → PartIs fs part → lacks_value part ≡ true → LacksValue fs
+pub lacks_value_said : (fs : List Form) (part : OpenNames) → PartIs fs part → lacks_value part ≡ true → LacksValue fs
 lacks_value_said fs (values vs) p e = elim (enum_ends fs vs p) [
   | at_enum none last ↦ (p.name, last)
   | at_value v at c last ↦ let none : length vs ≡ 0 = eqb-true (length vs) 0 e in absurd (omega (arith, c.1, none))
@@ -88,10 +88,10 @@ same_enum n m e = cc
 same_message : (n m : List ℕ) → message n ≡ message m → n ≡ m
 same_message n m e = cc
 
-pub said_lacks_value : (fs : List Form) (part : Open) → PartIs fs part → LacksValue fs → lacks_value part ≡ true
+pub said_lacks_value : (fs : List Form) (part : OpenNames) → PartIs fs part → LacksValue fs → lacks_value part ≡ true
 said_lacks_value fs part p h = go part p (last_of_enum fs part p (enum h.0) h.1 refl)
   where
-    go : (part : Open) → PartIs fs part → (vs : List (ℤ × List ℕ)) × (part ≡ values vs) → lacks_value part ≡ true
+    go : (part : OpenNames) → PartIs fs part → (vs : List (ℤ × List ℕ)) × (part ≡ values vs) → lacks_value part ≡ true
     go (values vs) p known = elim (enum_ends fs vs p) [
       | at_enum none last ↦ rw none refl
       | at_value v at c last ↦ let same = same_last fs (value_form v) (enum h.0) last h.1 in absurd cc
@@ -104,7 +104,7 @@ said_lacks_value fs part p h = go part p (last_of_enum fs part p (enum h.0) h.1 
 is_zero_value : (v : ℤ × List ℕ) (n : List ℕ) → value_form v ≡ value (pos 0) n → v.0 ≡ pos 0
 is_zero_value v n e = cc
 
-pub lacks_zero_said : (fs : List Form) (part : Open) → PartIs fs part → lacks_zero part ≡ true → LacksZero fs
+pub lacks_zero_said : (fs : List Form) (part : OpenNames) → PartIs fs part → lacks_zero part ≡ true → LacksZero fs
 lacks_zero_said fs (values vs) p e =
     let last = enum_last fs vs p in
     let none : list_any (λ v. int_eq v.0 (pos 0)) vs ≡ false = is_not (list_any (λ v. int_eq v.0 (pos 0)) vs) e in
@@ -122,7 +122,7 @@ lacks_zero_said fs (values vs) p e =
 lacks_zero_said fs (fields ns) p e = absurd cc
 lacks_zero_said fs nothing p e = absurd cc
 
-pub said_lacks_zero : (fs : List Form) (part : Open) → PartIs fs part → LacksZero fs → lacks_zero part ≡ true
+pub said_lacks_zero : (fs : List Form) (part : OpenNames) → PartIs fs part → LacksZero fs → lacks_zero part ≡ true
 said_lacks_zero fs part p h = go part p (last_of_enum fs part p h.last h.is_last h.of_enum)
   where
     none : (vs : List (ℤ × List ℕ)) → InEnum fs vs → (b : Bool) → list_any (λ v. int_eq v.0 (pos 0)) vs ≡ b → not b ≡ true
@@ -132,7 +132,7 @@ said_lacks_zero fs part p h = go part p (last_of_enum fs part p h.last h.is_last
         let zero : v.0.0 ≡ pos 0 = int_equal v.0.0 (pos 0) v.2 in
         absurd (h.no_zero v.0.1 (subst (λ (z : ℤ). IsAbove fs (value z v.0.1)) zero (value_above fs vs p v.0 v.1)))
 
-    go : (part : Open) → PartIs fs part → (vs : List (ℤ × List ℕ)) × (part ≡ values vs) → lacks_zero part ≡ true
+    go : (part : OpenNames) → PartIs fs part → (vs : List (ℤ × List ℕ)) × (part ≡ values vs) → lacks_zero part ≡ true
     go (values vs) p known = none vs p (list_any (λ v. int_eq v.0 (pos 0)) vs) refl
     go (fields ns) p known = let same = known.1 in absurd cc
     go nothing p known = let same = known.1 in absurd cc
@@ -143,11 +143,11 @@ pub data ValueFalls (fs : List Form) (z : ℤ) (n : List ℕ) : Type 0 where
   outside : ((f : Form) → IsLast fs f → is_of_enum f ≡ true → ⊥) → ValueFalls fs z n
   below : (v : ℤ × List ℕ) → IsLast fs (value_form v) → IsValueBelow (z, n) v → ValueFalls fs z n
 
-not_values : (fs : List Form) (part : Open) → PartIs fs part → ((vs : List (ℤ × List ℕ)) → part ≡ values vs → ⊥)
+not_values : (fs : List Form) (part : OpenNames) → PartIs fs part → ((vs : List (ℤ × List ℕ)) → part ≡ values vs → ⊥)
     → (f : Form) → IsLast fs f → is_of_enum f ≡ true → ⊥
 not_values fs part p other f last is = let known = last_of_enum fs part p f last is in other known.0 known.1
 
-pub value_falls_said : (fs : List Form) (part : Open) (z : ℤ) (n : List ℕ) → PartIs fs part → value_falls part (kept_whole z) n ≡ true → ValueFalls fs z n
+pub value_falls_said : (fs : List Form) (part : OpenNames) (z : ℤ) (n : List ℕ) → PartIs fs part → value_falls part (kept_whole z) n ≡ true → ValueFalls fs z n
 value_falls_said fs (values vs) z n p e = elim (enum_ends fs vs p) [
   | at_enum none last ↦
       let given : false ≡ true = ap (λ (xs : List (ℤ × List ℕ)). option_map_or (is_value_below (kept_whole z) n) (last_of xs) false) (sym none) ∙ e in absurd cc
@@ -158,7 +158,7 @@ value_falls_said fs (values vs) z n p e = elim (enum_ends fs vs p) [
 value_falls_said fs (fields ns) z n p e = outside (not_values fs (fields ns) p (λ vs same. absurd cc))
 value_falls_said fs nothing z n p e = outside (not_values fs nothing p (λ vs same. absurd cc))
 
-pub outside_falls : (fs : List Form) (part : Open) (w : Whole) (n : List ℕ) → PartIs fs part
+pub outside_falls : (fs : List Form) (part : OpenNames) (w : Whole) (n : List ℕ) → PartIs fs part
     → ((f : Form) → IsLast fs f → is_of_enum f ≡ true → ⊥) → value_falls part w n ≡ true
 outside_falls fs (values vs) w n p no_line = let last = enum_last fs vs p in absurd (no_line last.0 last.1 last.2)
 outside_falls fs (fields ns) w n p no_line = refl
@@ -172,7 +172,7 @@ same_value : (u v : ℤ × List ℕ) → value_form u ≡ value_form v → u ≡
 unfolding value_in
 same_value u v e = ap value_in e
 
-pub below_falls : (fs : List Form) (part : Open) (z : ℤ) (n : List ℕ) (v : ℤ × List ℕ) → PartIs fs part
+pub below_falls : (fs : List Form) (part : OpenNames) (z : ℤ) (n : List ℕ) (v : ℤ × List ℕ) → PartIs fs part
     → IsLast fs (value_form v) → IsValueBelow (z, n) v → value_falls part (kept_whole z) n ≡ true
 below_falls fs (values vs) z n v p last is = elim (enum_ends fs vs p) [
   | at_enum none here ↦ let same = same_last fs (enum p.name) (value_form v) here last in absurd cc
@@ -192,7 +192,7 @@ pub data FieldFalls (fs : List Form) (n : ℕ) : Type 0 where
   outside_message : ((f : Form) → IsLast fs f → is_of_message f ≡ true → ⊥) → FieldFalls fs n
   below_field : (q : Parts) → IsLast fs (field_form q) → n < q.number → FieldFalls fs n
 
-not_fields : (fs : List Form) (part : Open) → PartIs fs part → ((ns : List (ℕ × List ℕ)) → part ≡ fields ns → ⊥)
+not_fields : (fs : List Form) (part : OpenNames) → PartIs fs part → ((ns : List (ℕ × List ℕ)) → part ≡ fields ns → ⊥)
     → (f : Form) → IsLast fs f → is_of_message f ≡ true → ⊥
 not_fields fs part p other f last is = let known = last_of_message fs part p f last is in other known.0 known.1
 
@@ -208,7 +208,7 @@ number_below n m name small less = elim (in_32 n) [
   | inr large ↦ absurd (omega (arith, small, less, large.1))
 ]
 
-pub field_falls_said : (fs : List Form) (part : Open) (n : ℕ) → PartIs fs part → field_falls part (in_32_bits n) ≡ true → FieldFalls fs n
+pub field_falls_said : (fs : List Form) (part : OpenNames) (n : ℕ) → PartIs fs part → field_falls part (in_32_bits n) ≡ true → FieldFalls fs n
 field_falls_said fs (fields ns) n p e = elim (message_ends fs ns p) [
   | at_message none last ↦
       let no_keys : ns ≡ [] = sym p.keys ∙ ap (map field_key) none in
@@ -220,7 +220,7 @@ field_falls_said fs (fields ns) n p e = elim (message_ends fs ns p) [
 field_falls_said fs (values vs) n p e = outside_message (not_fields fs (values vs) p (λ ns same. absurd cc))
 field_falls_said fs nothing n p e = outside_message (not_fields fs nothing p (λ ns same. absurd cc))
 
-pub outside_field_falls : (fs : List Form) (part : Open) (o : Option ℕ) → PartIs fs part
+pub outside_field_falls : (fs : List Form) (part : OpenNames) (o : Option ℕ) → PartIs fs part
     → ((f : Form) → IsLast fs f → is_of_message f ≡ true → ⊥) → field_falls part o ≡ true
 outside_field_falls fs (fields ns) o p no_line = let last = message_last fs ns p in absurd (no_line last.0 last.1 last.2)
 outside_field_falls fs (values vs) o p no_line = refl
@@ -229,7 +229,7 @@ outside_field_falls fs nothing o p no_line = refl
 same_number : (q r : Parts) → field_form q ≡ field_form r → q.number ≡ r.number
 same_number q r e = cc
 
-pub below_field_falls : (fs : List Form) (part : Open) (n : ℕ) (r : Parts) → PartIs fs part → IsLast fs (field_form r) → n < r.number → field_falls part (in_32_bits n) ≡ true
+pub below_field_falls : (fs : List Form) (part : OpenNames) (n : ℕ) (r : Parts) → PartIs fs part → IsLast fs (field_form r) → n < r.number → field_falls part (in_32_bits n) ≡ true
 below_field_falls fs (fields ns) n r p last less = elim (message_ends fs ns p) [
   | at_message none here ↦ let same = same_last fs (message p.name) (field_form r) here last in absurd cc
   | at_field q at small here ↦
@@ -241,14 +241,14 @@ below_field_falls fs nothing n r p last less = refl
 
 -- ---- names and numbers that stand twice
 
-pub value_before_said : (fs : List Form) (part : Open) (n : List ℕ) → PartIs fs part → is_value_before part n ≡ true → (z : ℤ) × IsAbove fs (value z n)
+pub value_before_said : (fs : List Form) (part : OpenNames) (n : List ℕ) → PartIs fs part → is_value_before part n ≡ true → (z : ℤ) × IsAbove fs (value z n)
 value_before_said fs (values vs) n p e =
     let v = mapped_in (λ (v : ℤ × List ℕ). v.1) vs n (among_contains n (map (λ v. v.1) vs) e) in
     (v.0.0, subst (λ (m : List ℕ). IsAbove fs (value v.0.0 m)) v.2 (value_above fs vs p v.0 v.1))
 value_before_said fs (fields ns) n p e = absurd cc
 value_before_said fs nothing n p e = absurd cc
 
-pub said_value_before : (fs : List Form) (part : Open) (w : Whole) (z : ℤ) (n : List ℕ) → PartIs fs part
+pub said_value_before : (fs : List Form) (part : OpenNames) (w : Whole) (z : ℤ) (n : List ℕ) → PartIs fs part
     → IsAbove fs (value z n) → (value_falls part w n ≡ true) ⊎ (is_value_before part n ≡ true)
 said_value_before fs (values vs) w z n p above = elim (of_enum fs vs p (value z n) above) [
   | the_enum same ↦ absurd cc
@@ -259,7 +259,7 @@ said_value_before fs (values vs) w z n p above = elim (of_enum fs vs p (value z 
 said_value_before fs (fields ns) w z n p above = inl refl
 said_value_before fs nothing w z n p above = inl refl
 
-pub field_before_said : (fs : List Form) (part : Open) (n : List ℕ) → PartIs fs part → is_field_before part n ≡ true → (q : Parts) × (q.name ≡ n) × IsAbove fs (field_form q)
+pub field_before_said : (fs : List Form) (part : OpenNames) (n : List ℕ) → PartIs fs part → is_field_before part n ≡ true → (q : Parts) × (q.name ≡ n) × IsAbove fs (field_form q)
 field_before_said fs (fields ns) n p e =
     let key = mapped_in (λ (f : ℕ × List ℕ). f.1) ns n (among_contains n (map (λ f. f.1) ns) e) in
     let q = mapped_in field_key p.parts key.0 (subst (λ (xs : List (ℕ × List ℕ)). Contains xs key.0) (sym p.keys) key.1) in
@@ -270,7 +270,7 @@ field_before_said fs nothing n p e = absurd cc
 same_field_name : (q r : Parts) → field_form q ≡ field_form r → q.name ≡ r.name
 same_field_name q r e = cc
 
-pub said_field_before : (fs : List Form) (part : Open) (o : Option ℕ) (r : Parts) → PartIs fs part
+pub said_field_before : (fs : List Form) (part : OpenNames) (o : Option ℕ) (r : Parts) → PartIs fs part
     → IsAbove fs (field_form r) → (field_falls part o ≡ true) ⊎ (is_field_before part r.name ≡ true)
 said_field_before fs (fields ns) o r p above = elim (of_message fs ns p (field_form r) above) [
   | the_message same ↦ absurd cc
@@ -282,7 +282,7 @@ said_field_before fs (fields ns) o r p above = elim (of_message fs ns p (field_f
 said_field_before fs (values vs) o r p above = inl refl
 said_field_before fs nothing o r p above = inl refl
 
-pub repeats_said : (fs : List Form) (part : Open) (n : ℕ) → PartIs fs part → repeats_number part (in_32_bits n) ≡ true → (q : Parts) × (q.number ≡ n) × IsLast fs (field_form q)
+pub repeats_said : (fs : List Form) (part : OpenNames) (n : ℕ) → PartIs fs part → repeats_number part (in_32_bits n) ≡ true → (q : Parts) × (q.number ≡ n) × IsLast fs (field_form q)
 repeats_said fs (fields ns) n p e = elim (message_ends fs ns p) [
   | at_message none last ↦
       let no_keys : ns ≡ [] = sym p.keys ∙ ap (map field_key) none in
@@ -301,10 +301,10 @@ repeats_said fs (fields ns) n p e = elim (message_ends fs ns p) [
 repeats_said fs (values vs) n p e = absurd cc
 repeats_said fs nothing n p e = absurd cc
 
-pub said_repeats : (fs : List Form) (part : Open) (r : Parts) → PartIs fs part → IsLast fs (field_form r) → repeats_number part (in_32_bits r.number) ≡ true
+pub said_repeats : (fs : List Form) (part : OpenNames) (r : Parts) → PartIs fs part → IsLast fs (field_form r) → repeats_number part (in_32_bits r.number) ≡ true
 said_repeats fs part r p last = go part p (last_of_message fs part p (field_form r) last refl)
   where
-    go : (part : Open) → PartIs fs part → (ns : List (ℕ × List ℕ)) × (part ≡ fields ns) → repeats_number part (in_32_bits r.number) ≡ true
+    go : (part : OpenNames) → PartIs fs part → (ns : List (ℕ × List ℕ)) × (part ≡ fields ns) → repeats_number part (in_32_bits r.number) ≡ true
     go (fields ns) p known = elim (message_ends fs ns p) [
       | at_message none here ↦ let same = same_last fs (message p.name) (field_form r) here last in absurd cc
       | at_field q at small here ↦
@@ -321,7 +321,7 @@ said_repeats fs part r p last = go part p (last_of_message fs part p (field_form
 
 -- ---- how many values or fields there are
 
-pub many_said : (fs : List Form) (part : Open) (most : ℕ) → 0 < most → PartIs fs part → nat_le most (open_count part) ≡ true → AreInner fs most
+pub many_said : (fs : List Form) (part : OpenNames) (most : ℕ) → 0 < most → PartIs fs part → nat_le most (open_count part) ≡ true → AreInner fs most
 many_said fs (values vs) most some p e = record {
   front = p.front ++ enum p.name ∷ [];
   inner = map value_form vs;
@@ -338,7 +338,7 @@ many_said fs (fields ns) most some p e = record {
 }
 many_said fs nothing most some p e = let le : most ≤ 0 = leb-true most 0 e in absurd (omega (arith, some, le))
 
-pub said_many : (fs : List Form) (part : Open) (most : ℕ) → 0 < most → PartIs fs part → AreInner fs most → nat_le most (open_count part) ≡ true
+pub said_many : (fs : List Form) (part : OpenNames) (most : ℕ) → 0 < most → PartIs fs part → AreInner fs most → nat_le most (open_count part) ≡ true
 said_many fs (values vs) most some p a =
     let few = no_longer p.front a.front (enum p.name) (map value_form vs) a.inner (sym p.is ∙ a.before_is) refl a.each in
     le-leb most (length vs) (omega (arith, few, a.many, length-map vs value_form))
@@ -370,7 +370,7 @@ messages_end fs ns p =
     ap (filter_map message_name) p.is ∙ filter_map-append message_name p.front (message p.name ∷ map field_form p.parts)
     ∙ ap (λ (ns : List (List ℕ)). filter_map message_name p.front ++ p.name ∷ ns) (no_messages p.parts)
 
-pub enum_falls_said : (fs : List Form) (es ms ks : List (List ℕ)) (part : Open) (n : List ℕ)
+pub enum_falls_said : (fs : List Form) (es ms ks : List (List ℕ)) (part : OpenNames) (n : List ℕ)
     → filter_map enum_name fs ≡ es → filter_map message_name fs ≡ ms → IsOrdered part fs ms ks → PartIs fs part
     → ms ≡ [] → ks ≡ [] → falls n es ≡ true → (other : List ℕ) × IsAbove fs (enum other) × IsBelow n other
 enum_falls_said fs es ms ks (values vs) n enums messages ordered p no_ms no_ks e =
@@ -385,7 +385,7 @@ enum_falls_said fs es ms ks nothing n enums messages ordered p no_ms no_ks e =
     let none : es ≡ [] = sym enums ∙ ap (filter_map enum_name) (ordered no_ks) in
     let given : false ≡ true = ap (falls n) (sym none) ∙ e in absurd cc
 
-pub message_falls_said : (fs : List Form) (ms ks : List (List ℕ)) (part : Open) (n : List ℕ) → filter_map message_name fs ≡ ms → IsOrdered part fs ms ks → PartIs fs part
+pub message_falls_said : (fs : List Form) (ms ks : List (List ℕ)) (part : OpenNames) (n : List ℕ) → filter_map message_name fs ≡ ms → IsOrdered part fs ms ks → PartIs fs part
     → ks ≡ [] → falls n ms ≡ true → (other : List ℕ) × IsAbove fs (message other) × IsBelow n other
 message_falls_said fs ms ks (fields ns) n messages ordered p no_ks e =
     let last : falls n ms ≡ is_below n p.name = falls_at n ms (filter_map message_name p.front) p.name (sym messages ∙ messages_end fs ns p) in (
@@ -398,7 +398,7 @@ message_falls_said fs ms ks nothing n messages ordered p no_ks e =
     let none : ms ≡ [] = sym messages ∙ ap (filter_map message_name) (ordered no_ks) in
     let given : false ≡ true = ap (falls n) (sym none) ∙ e in absurd cc
 
-pub said_enum_falls : (fs : List Form) (es : List (List ℕ)) (part : Open) (n other : List ℕ)
+pub said_enum_falls : (fs : List Form) (es : List (List ℕ)) (part : OpenNames) (n other : List ℕ)
     → filter_map enum_name fs ≡ es → PartIs fs part → IsAbove fs (enum other) → IsBelow n other → falls n es ≡ true
 said_enum_falls fs es (values vs) n other enums p above less = elim (of_enum fs vs p (enum other) above) [
   | the_enum same ↦
@@ -409,7 +409,7 @@ said_enum_falls fs es (values vs) n other enums p above less = elim (of_enum fs 
 said_enum_falls fs es (fields ns) n other enums p above less = elim (of_message fs ns p (enum other) above) [ the_message same ↦ absurd cc | a_field q c same ↦ absurd cc ]
 said_enum_falls fs es nothing n other enums p above less = let wrong : is_method (enum other) ≡ true = of_nothing fs p (enum other) above in absurd cc
 
-pub said_message_falls : (fs : List Form) (ms : List (List ℕ)) (part : Open) (n other : List ℕ)
+pub said_message_falls : (fs : List Form) (ms : List (List ℕ)) (part : OpenNames) (n other : List ℕ)
     → filter_map message_name fs ≡ ms → PartIs fs part → IsAbove fs (message other) → IsBelow n other
     → falls n ms ≡ true
 said_message_falls fs ms (fields ns) n other messages p above less = elim (of_message fs ns p (message other) above) [

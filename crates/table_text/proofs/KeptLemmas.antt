@@ -41,7 +41,7 @@ closed_messages open_parts.Nothing ms = sym (append-nil (map (λ m. m.name) ms))
 value_added : (d : Draft) (o : Open) (z : Whole) (name : List ℕ)
     → before (with_part (with_part d o) (with_value o z name)) ≡ record (before (with_part d o)) {
       open_part =
-          faults.with_value (open_part o) z name;
+          faults.names_with_value (open_part o) z name;
     }
 value_added d (open_parts.Enum c) (Within z) name = refl
 value_added d (open_parts.Enum c) Low name = refl
@@ -59,7 +59,7 @@ numbered f = (f.number, f.name)
 field_added : (t : Types) (d : Draft) (o : Open) (n : Option ℕ) (f : FieldLine)
     → before (with_part (with_part d o) (with_field t o n f)) ≡ record (before (with_part d o)) {
       open_part =
-          faults.with_field (open_part o) n f.name;
+          faults.names_with_field (open_part o) n f.name;
     }
 field_added t d (open_parts.Message m) (Some n) f =
     ap (λ (fs : List (ℕ × List ℕ)). record (before (with_part d (open_parts.Message m))) { open_part = fields fs })

@@ -47,9 +47,6 @@ rest_end text e = ap (λ (ps : List (List ℕ)). unwrap_or (slice_get ps (length
 
 -- ---- lists from a place on
 
-drop_zero : {X : Type 0} (xs : List X) → drop 0 xs ≡ xs
-drop_zero xs = refl
-
 pub get_drop : {X : Type 0} (xs : List X) (k : ℕ) (x : X) (ys : List X) → drop k xs ≡ x ∷ ys → slice_get xs k ≡ Some x
 get_drop [] zero x ys e = absurd cc
 get_drop [] (suc k) x ys e = absurd cc

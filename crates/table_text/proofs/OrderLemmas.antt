@@ -155,10 +155,6 @@ not_falls n ns up = go (last_of ns) refl
 
 -- ---- values in order
 
-and_false : (b : Bool) → (b && false) ≡ false
-and_false true = refl
-and_false false = refl
-
 int_same : (x z : ℤ) → int_lt x z ≡ false → int_lt z x ≡ false → x ≡ z
 int_same x z e f = grind (arith, ints)
 

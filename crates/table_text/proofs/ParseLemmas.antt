@@ -185,12 +185,6 @@ full_is w n e =
     let h = if_true (is_full_form w) w n e in
     (h.1, subst (λ (m : List ℕ). IsTrue (is_full_form m)) h.1 h.0)
 
-pub name_of-form : (n : List ℕ) → IsTrue (is_name_form n) → name_of n ≡ Some n
-name_of-form n form = rw form refl
-
-pub full_name_of-form : (n : List ℕ) → IsTrue (is_full_form n) → full_name_of n ≡ Some n
-full_name_of-form n form = rw form refl
-
 -- ---- kinds and labels
 
 pub behind_is : (prefix w n : List ℕ) → behind prefix w ≡ Some n → w ≡ prefix ++ n

@@ -540,15 +540,15 @@ message_grown t m n f lw kw bytes b part small ok number label kind form h =
     let clash = left_no (clashes f.label f.kind) (field_falls b.open_part f.number) h.syntax in
     let falls : field_falls (fields here) (Some n) ≡ false =
     subst (λ (o : Option ℕ). field_falls (fields here) o ≡ false) number
-    (subst (λ (p : faults.Open). field_falls p f.number ≡ false) part
+    (subst (λ (p : faults.OpenNames). field_falls p f.number ≡ false) part
     (right_no (clashes f.label f.kind) (field_falls b.open_part f.number) h.syntax)) in
     let repeats : repeats_number (fields here) (Some n) ≡ false =
     subst (λ (o : Option ℕ). repeats_number (fields here) o ≡ false) number
-    (subst (λ (p : faults.Open). repeats_number p f.number ≡ false) part
+    (subst (λ (p : faults.OpenNames). repeats_number p f.number ≡ false) part
     (right_no (is_field_before b.open_part f.name) (repeats_number b.open_part f.number) h.duplicate)) in
     let new : is_among f.name (map (λ f. f.name) m.fields) ≡ false =
     subst (λ (ns : List (List ℕ)). is_among f.name ns ≡ false) (names_numbered m.fields)
-    (subst (λ (p : faults.Open). is_field_before p f.name ≡ false) part
+    (subst (λ (p : faults.OpenNames). is_field_before p f.name ≡ false) part
     (left_no (is_field_before b.open_part f.name) (repeats_number b.open_part f.number) h.duplicate)) in
     let in_range : has_field_number (Some n) ≡ true = subst (λ (o : Option ℕ). has_field_number o ≡ true) number (not_no (has_field_number f.number) h.number) in
     let limits = left_no (not ((is_short_label f.label && is_short_kind f.kind) && is_short f.name) || nat_le 128 (open_count b.open_part)) (nat_lt 65536 bytes) h.limit in
@@ -558,7 +558,7 @@ message_grown t m n f lw kw bytes b part small ok number label kind form h =
     let short_label = both_left (is_short_label f.label) (is_short_kind f.kind) (both_left (is_short_label f.label && is_short_kind f.kind) (is_short f.name) shorts) in
     let short = both_right (is_short_label f.label && is_short_kind f.kind) (is_short f.name) shorts in
     let room : length here < 128 =
-    not_le 128 (length here) (subst (λ (p : faults.Open). nat_le 128 (open_count p) ≡ false) part
+    not_le 128 (length here) (subst (λ (p : faults.OpenNames). nat_le 128 (open_count p) ≡ false) part
     (right_no (not ((is_short_label f.label && is_short_kind f.kind) && is_short f.name))
     (nat_le 128 (open_count b.open_part)) limits)) in
     let grow = oneofs_grown t m.oneofs m.fields g f.label lw refl few label short_label ok.oneofs ok.oneof_names ok.oneof_order in

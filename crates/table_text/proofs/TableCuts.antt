@@ -203,9 +203,6 @@ pub record Passed (text rest : List ℕ) : Type 0 where
   pub good : AreTableLines lines
   pub text_is : text ≡ flat_map fed lines ++ rest
 
-pub none_passed : (text : List ℕ) → Passed text text
-none_passed text = record { lines = []; good = tt; text_is = refl }
-
 good_push : (ls : List (List ℕ)) (l : List ℕ) → AreTableLines ls → IsTableLine l → AreTableLines (ls ++ l ∷ [])
 good_push [] l h k = (k, tt)
 good_push (m ∷ ms) l h k = (h.0, good_push ms l h.1 k)

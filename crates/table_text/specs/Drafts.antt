@@ -41,7 +41,7 @@ abbrev pub open_message : Open → List (List ℕ)
 open_message (open_parts.Message m) = m.name ∷ []
 open_message _ = []
 
-abbrev pub open_part : Open → faults.Open
+abbrev pub open_part : Open → faults.OpenNames
 open_part open_parts.Nothing = nothing
 open_part (open_parts.Enum c) = values c.values
 open_part (open_parts.Message m) = fields (map (λ f. (f.number, f.name)) m.fields)
@@ -55,7 +55,7 @@ message_names d = map (λ m. m.name) d.messages ++ open_message d.open_part
 abbrev pub method_names : Draft → List (List ℕ)
 method_names d = map (λ m. m.service ++ 32 ∷ m.name) d.methods
 
-abbrev pub names_in : faults.Open → List (List ℕ)
+abbrev pub names_in : faults.OpenNames → List (List ℕ)
 names_in nothing = []
 names_in (values vs) = map (λ v. v.1) vs
 names_in (fields fs) = map (λ f. f.1) fs

@@ -40,34 +40,34 @@ types_of lines = record {
 
 -- what a line may go on with: the values of the enum, or the numbers and names of the fields of the
 -- message, whose lines stand right before it
-pub data Open : Type 0 where
-  nothing : Open
-  values : List (ℤ × List ℕ) → Open
-  fields : List (ℕ × List ℕ) → Open
+pub data OpenNames : Type 0 where
+  nothing : OpenNames
+  values : List (ℤ × List ℕ) → OpenNames
+  fields : List (ℕ × List ℕ) → OpenNames
 
 -- what the lines before a line name, in order; a method is named by its service and name, with a space between
 pub record Before : Type 0 where
   pub enums : List (List ℕ)
   pub messages : List (List ℕ)
   pub methods : List (List ℕ)
-  pub open_part : Open
+  pub open_part : OpenNames
 
-abbrev pub with_value : Open → Whole → List ℕ → Open
-with_value (values vs) (Within z) name = values (vs ++ (z, name) ∷ [])
-with_value part z name = part
+abbrev pub names_with_value : OpenNames → Whole → List ℕ → OpenNames
+names_with_value (values vs) (Within z) name = values (vs ++ (z, name) ∷ [])
+names_with_value part z name = part
 
-abbrev pub with_field : Open → Option ℕ → List ℕ → Open
-with_field (fields fs) (Some n) name = fields (fs ++ (n, name) ∷ [])
-with_field part n name = part
+abbrev pub names_with_field : OpenNames → Option ℕ → List ℕ → OpenNames
+names_with_field (fields fs) (Some n) name = fields (fs ++ (n, name) ∷ [])
+names_with_field part n name = part
 
 abbrev pub method_key : MethodLine → List ℕ
 method_key m = m.service ++ 32 ∷ m.name
 
 abbrev pub after : Before → Line → Before
 after b (Enum name) = record b { enums = b.enums ++ name ∷ []; open_part = values [] }
-after b (Value z name) = record b { open_part = with_value b.open_part z name }
+after b (Value z name) = record b { open_part = names_with_value b.open_part z name }
 after b (Message name) = record b { messages = b.messages ++ name ∷ []; open_part = fields [] }
-after b (Field f) = record b { open_part = with_field b.open_part f.number f.name }
+after b (Field f) = record b { open_part = names_with_field b.open_part f.number f.name }
 after b (Method m) = record b { methods = b.methods ++ method_key m ∷ []; open_part = nothing }
 
 abbrev pub after_line : Before → Option Line → Before
@@ -104,11 +104,11 @@ is_value_below (Within z) name last = int_lt z last.0 || (int_eq z last.0 && is_
 is_value_below High name last = false
 
 -- the enum whose lines stand right before lacks a value, or a value of number 0
-abbrev pub lacks_value : Open → Bool
+abbrev pub lacks_value : OpenNames → Bool
 lacks_value (values vs) = is_empty vs
 lacks_value _ = false
 
-abbrev pub lacks_zero : Open → Bool
+abbrev pub lacks_zero : OpenNames → Bool
 lacks_zero (values vs) = not (list_any (λ v. int_eq v.0 (pos 0)) vs)
 lacks_zero _ = false
 
@@ -122,7 +122,7 @@ clashes labels.Optional k = is_message_word k
 clashes labels.Packed k = not (is_packable k)
 clashes _ k = false
 
-abbrev pub value_falls : Open → Whole → List ℕ → Bool
+abbrev pub value_falls : OpenNames → Whole → List ℕ → Bool
 value_falls (values vs) z name = option_map_or (is_value_below z name) (last_of vs) false
 value_falls _ z name = true
 
@@ -130,7 +130,7 @@ abbrev pub is_field_below : Option ℕ → ℕ × List ℕ → Bool
 is_field_below (Some n) last = nat_lt n last.0
 is_field_below None last = false
 
-abbrev pub field_falls : Open → Option ℕ → Bool
+abbrev pub field_falls : OpenNames → Option ℕ → Bool
 field_falls (fields fs) n = option_map_or (is_field_below n) (last_of fs) false
 field_falls _ n = true
 
@@ -168,15 +168,15 @@ is_number b (Method m) = lacks_zero b.open_part || not (is_index m.index (length
 abbrev pub is_type_before : Before → List ℕ → Bool
 is_type_before b name = is_among name b.enums || is_among name b.messages
 
-abbrev pub is_value_before : Open → List ℕ → Bool
+abbrev pub is_value_before : OpenNames → List ℕ → Bool
 is_value_before (values vs) name = is_among name (map (λ v. v.1) vs)
 is_value_before _ name = false
 
-abbrev pub is_field_before : Open → List ℕ → Bool
+abbrev pub is_field_before : OpenNames → List ℕ → Bool
 is_field_before (fields fs) name = is_among name (map (λ f. f.1) fs)
 is_field_before _ name = false
 
-abbrev pub repeats_number : Open → Option ℕ → Bool
+abbrev pub repeats_number : OpenNames → Option ℕ → Bool
 repeats_number (fields fs) n = option_map_or (λ last. is_index n last.0) (last_of fs) false
 repeats_number _ n = false
 
@@ -230,7 +230,7 @@ has_short_names (Field f) = (is_short_label f.label && is_short_kind f.kind) && 
 has_short_names (Method m) =
     ((is_short_full m.service && is_short m.name) && is_short_full m.input) && is_short_full m.output
 
-abbrev pub open_count : Open → ℕ
+abbrev pub open_count : OpenNames → ℕ
 open_count nothing = 0
 open_count (values vs) = length vs
 open_count (fields fs) = length fs

@@ -18,15 +18,15 @@ use std::cmp::Ordering;
 use std::mem;
 use table_lines::Whole;
 
-/// The enum or the message to which a line may add.
-pub enum Open {
+// The enum or the message to which a line may add.
+pub(crate) enum Open {
     Nothing,
     Enum(Choices),
     Message(Message),
 }
 
-/// The parts that are whole, and the one that is open.
-pub struct Draft {
+// The parts that are whole, and the one that is open.
+pub(crate) struct Draft {
     pub enums: Enums,
     pub messages: Messages,
     pub methods: Methods,
@@ -113,8 +113,8 @@ fn is_below_last_message(name: &[u8], messages: &[Message]) -> bool
 }
 
 impl Open {
-    /// An enum without a value.
-    pub fn lacks_value(&self) -> bool
+    // An enum without a value.
+    pub(crate) fn lacks_value(&self) -> bool
         ensures { result ≡ lacks_value (open_part self.now) }
     {
         match self {
@@ -123,8 +123,8 @@ impl Open {
         }
     }
 
-    /// An enum without a value 0.
-    pub fn lacks_zero(&self) -> bool
+    // An enum without a value 0.
+    pub(crate) fn lacks_zero(&self) -> bool
         ensures { result ≡ lacks_zero (open_part self.now) }
     {
         match self {
@@ -133,8 +133,8 @@ impl Open {
         }
     }
 
-    /// A value doesn't go on with an enum, or is below its last one.
-    pub fn value_falls(&self, number: Whole, name: &[u8]) -> bool
+    // A value doesn't go on with an enum, or is below its last one.
+    pub(crate) fn value_falls(&self, number: Whole, name: &[u8]) -> bool
         ensures { result ≡ value_falls (open_part self.now) number name.now }
     {
         match self {
@@ -146,8 +146,8 @@ impl Open {
         }
     }
 
-    /// A field doesn't go on with a message, or its number is below that of the last one.
-    pub fn field_falls(&self, number: Option<u32>) -> bool
+    // A field doesn't go on with a message, or its number is below that of the last one.
+    pub(crate) fn field_falls(&self, number: Option<u32>) -> bool
         ensures { result ≡ field_falls (open_part self.now) number }
     {
         match self {
@@ -159,8 +159,8 @@ impl Open {
         }
     }
 
-    /// A field has the number of the last one.
-    pub fn repeats_number(&self, number: Option<u32>) -> bool
+    // A field has the number of the last one.
+    pub(crate) fn repeats_number(&self, number: Option<u32>) -> bool
         ensures { result ≡ repeats_number (open_part self.now) number }
     {
         match self {
@@ -172,8 +172,8 @@ impl Open {
         }
     }
 
-    /// Adds a value to an enum.
-    pub fn add_value(&mut self, number: i32, name: Name) -> Result<(), Memory>
+    // Adds a value to an enum.
+    pub(crate) fn add_value(&mut self, number: i32, name: Name) -> Result<(), Memory>
         ensures { OnOk result (self.new ≡ with_value self.old (Within number) name) }
     {
         match self {
@@ -182,8 +182,8 @@ impl Open {
         }
     }
 
-    /// Adds a field to a message, and its oneof, where that is new.
-    pub fn add_field(&mut self, field: Field, oneof: Option<Name>) -> Result<(), Memory>
+    // Adds a field to a message, and its oneof, where that is new.
+    pub(crate) fn add_field(&mut self, field: Field, oneof: Option<Name>) -> Result<(), Memory>
         ensures { OnOk result (self.new ≡ with_parts self.old field oneof) }
     {
         match self {
@@ -204,8 +204,8 @@ impl Open {
         }
     }
 
-    /// How many values or fields there are.
-    pub fn count(&self) -> usize
+    // How many values or fields there are.
+    pub(crate) fn count(&self) -> usize
         ensures { result ≡ open_count (open_part self.now) }
     {
         match self {
@@ -217,8 +217,8 @@ impl Open {
 }
 
 impl Draft {
-    /// Nothing yet.
-    pub fn new(alloc: Global) -> Draft
+    // Nothing yet.
+    pub(crate) fn new(alloc: Global) -> Draft
         ensures { result ≡ empty_draft }
     {
         Draft {
@@ -229,8 +229,8 @@ impl Draft {
         }
     }
 
-    /// The name is below that of the last enum.
-    pub fn enum_falls(&self, name: &[u8]) -> bool
+    // The name is below that of the last enum.
+    pub(crate) fn enum_falls(&self, name: &[u8]) -> bool
         ensures { result ≡ falls name.now (enum_names self.now) }
     {
         match &self.open_part {
@@ -239,8 +239,8 @@ impl Draft {
         }
     }
 
-    /// The name is below that of the last message.
-    pub fn message_falls(&self, name: &[u8]) -> bool
+    // The name is below that of the last message.
+    pub(crate) fn message_falls(&self, name: &[u8]) -> bool
         ensures { result ≡ falls name.now (message_names self.now) }
     {
         match &self.open_part {
@@ -249,8 +249,8 @@ impl Draft {
         }
     }
 
-    /// There is a message.
-    pub fn has_messages(&self) -> bool
+    // There is a message.
+    pub(crate) fn has_messages(&self) -> bool
         ensures { result ≡ not (is_empty (message_names self.now)) }
     {
         match self.open_part {
@@ -259,8 +259,8 @@ impl Draft {
         }
     }
 
-    /// There are as many enums as a table may have.
-    pub fn is_full_of_enums(&self) -> bool
+    // There are as many enums as a table may have.
+    pub(crate) fn is_full_of_enums(&self) -> bool
         ensures { result ≡ nat_le MAX_ENUMS (length (enum_names self.now)) }
     {
         match self.open_part {
@@ -269,8 +269,8 @@ impl Draft {
         }
     }
 
-    /// There are as many messages as a table may have.
-    pub fn is_full_of_messages(&self) -> bool
+    // There are as many messages as a table may have.
+    pub(crate) fn is_full_of_messages(&self) -> bool
         ensures { result ≡ nat_le MAX_MESSAGES (length (message_names self.now)) }
     {
         match self.open_part {
@@ -279,15 +279,15 @@ impl Draft {
         }
     }
 
-    /// Puts the open part among the whole ones.
-    pub fn close(&mut self) -> Result<(), Memory>
+    // Puts the open part among the whole ones.
+    pub(crate) fn close(&mut self) -> Result<(), Memory>
         ensures { OnOk result (self.new ≡ closed self.old) }
     {
         mem::replace(&mut self.open_part, Open::Nothing).join(&mut self.enums, &mut self.messages)
     }
 
-    /// The table of the parts, the open one among them.
-    pub fn into_table(mut self) -> Result<Table, Memory>
+    // The table of the parts, the open one among them.
+    pub(crate) fn into_table(mut self) -> Result<Table, Memory>
         ensures { IfOk result (λ t. t ≡ table_of self) }
     {
         self.close()?;

@@ -46,8 +46,8 @@ fn is_index(index: Option<u32>, count: usize) -> bool
     }
 }
 
-/// The order of lines, a label that clashes with its kind, an enum without a value.
-pub fn is_syntax(draft: &Draft, line: &Line) -> bool
+// The order of lines, a label that clashes with its kind, an enum without a value.
+pub(crate) fn is_syntax(draft: &Draft, line: &Line) -> bool
     ensures { result ≡ is_syntax (before draft.now) line.now }
 {
     let part = &draft.open_part;
@@ -69,8 +69,8 @@ pub fn is_syntax(draft: &Draft, line: &Line) -> bool
     }
 }
 
-/// A number out of its range, an enum without a value 0, an index out of turn.
-pub fn is_number(draft: &Draft, line: &Line) -> bool
+// A number out of its range, an enum without a value 0, an index out of turn.
+pub(crate) fn is_number(draft: &Draft, line: &Line) -> bool
     ensures { result ≡ is_number (before draft.now) line.now }
 {
     let part = &draft.open_part;
@@ -93,8 +93,8 @@ fn is_key_kind(kind: &KindWord) -> bool
     }
 }
 
-/// A key that is neither integral, nor a bool, nor a string.
-pub fn is_map_key(line: &Line) -> bool
+// A key that is neither integral, nor a bool, nor a string.
+pub(crate) fn is_map_key(line: &Line) -> bool
     ensures { result ≡ is_map_key line.now }
 {
     match line {
@@ -161,8 +161,8 @@ fn is_full(draft: &Draft, line: &Line) -> bool
     }
 }
 
-/// A name that is too long, one part too many, or too many bytes up to the line's end.
-pub fn is_limit(draft: &Draft, bytes: usize, line: &Line) -> bool
+// A name that is too long, one part too many, or too many bytes up to the line's end.
+pub(crate) fn is_limit(draft: &Draft, bytes: usize, line: &Line) -> bool
     ensures { result ≡ is_limit (before draft.now) bytes line.now }
 {
     !has_short_names(line) || is_full(draft, line) || bytes > MAX_TEXT

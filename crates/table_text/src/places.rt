@@ -10,16 +10,16 @@ use mrpc_table::Memory;
 use std::alloc::Global;
 use std::collections::BTreeMap;
 
-/// Names in the order in which they were added, each with the place at which it first stands.
+// Names in the order in which they were added, each with the place at which it first stands.
 #[derive(Drop)]
-pub struct Places {
+pub(crate) struct Places {
     places: BTreeMap<Vec<u8>, u32>,
     count: u32,
 }
 
 impl Places {
-    /// No names.
-    pub fn new(alloc: Global) -> Places
+    // No names.
+    pub(crate) fn new(alloc: Global) -> Places
         ensures { Holds result [] }
     {
         Places {
@@ -28,15 +28,15 @@ impl Places {
         }
     }
 
-    /// Whether there is no name.
-    pub fn is_empty(&self) -> bool
+    // Whether there is no name.
+    pub(crate) fn is_empty(&self) -> bool
         ensures { (names : List (List ℕ)) → Holds self.now names → result ≡ is_empty names }
     {
         self.count == 0
     }
 
-    /// The first place of a name.
-    pub fn place(&self, name: &[u8]) -> Option<u32>
+    // The first place of a name.
+    pub(crate) fn place(&self, name: &[u8]) -> Option<u32>
         ensures { (names : List (List ℕ)) → Holds self.now names
             → result ≡ option_map in_range (place_from 0 name.now names) }
     {
@@ -49,15 +49,15 @@ impl Places {
         self.places.get(name).copied()
     }
 
-    /// Whether the name is among these.
-    pub fn contains(&self, name: &[u8]) -> bool
+    // Whether the name is among these.
+    pub(crate) fn contains(&self, name: &[u8]) -> bool
         ensures { (names : List (List ℕ)) → Holds self.now names → result ≡ is_among name.now names }
     {
         self.place(name).is_some()
     }
 
-    /// The place that a name has or would get.
-    pub fn place_or_next(&self, name: &[u8]) -> u32
+    // The place that a name has or would get.
+    pub(crate) fn place_or_next(&self, name: &[u8]) -> u32
         ensures { (names : List (List ℕ)) → Holds self.now names → result ≡ place name.now names }
     {
         match self.found(name) {
@@ -66,8 +66,8 @@ impl Places {
         }
     }
 
-    /// Adds a name at the end.
-    pub fn add(&mut self, alloc: Global, name: &[u8]) -> Result<(), Memory>
+    // Adds a name at the end.
+    pub(crate) fn add(&mut self, alloc: Global, name: &[u8]) -> Result<(), Memory>
         ensures { (names : List (List ℕ)) → Holds self.old names
             → OnOk result (Holds self.new (names ++ name.now ∷ [])) }
     {

@@ -170,10 +170,10 @@ fn known_near(alloc: Global, near: &[u8], far: &[u8]) -> Result<(Places, Places)
     Ok((enums, messages))
 }
 
-/// The enums and the messages by which the lines of a text are judged. A text that is too long has a fault
-/// at the line that passes the largest size, or before: of the lines behind that one only those types are
-/// held which the lines up to it use.
-pub fn known_types(alloc: Global, text: &[u8]) -> Result<(Places, Places), Memory>
+// The enums and the messages by which the lines of a text are judged. A text that is too long has a fault
+// at the line that passes the largest size, or before: of the lines behind that one only those types are
+// held which the lines up to it use.
+pub(crate) fn known_types(alloc: Global, text: &[u8]) -> Result<(Places, Places), Memory>
     ensures { IfOk result (λ p. AreKnown text.now p.0 p.1) }
 {
     match long_parts(text) {

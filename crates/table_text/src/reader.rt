@@ -18,10 +18,10 @@ use mrpc_table::{
 use std::alloc::Global;
 use table_lines::{FieldLine, KindWord, LabelWord, Line, MethodLine, Whole, line_of};
 
-/// A table while its text is read, with the types that the text names, and the names so far: of enums,
-/// of messages, of methods with their services, of the values or fields of the open part, and of its
-/// oneofs.
-pub struct Reader {
+// A table while its text is read, with the types that the text names, and the names so far: of enums,
+// of messages, of methods with their services, of the values or fields of the open part, and of its
+// oneofs.
+pub(crate) struct Reader {
     pub known_enums: Places,
     pub known_messages: Places,
     pub draft: Draft,
@@ -58,8 +58,8 @@ fn key_of(alloc: Global, method: &MethodLine) -> Result<Bytes, Memory>
 }
 
 impl Reader {
-    /// Nothing read yet, of a text that names these types.
-    pub fn new(alloc: Global, known_enums: Places, known_messages: Places) -> Reader
+    // Nothing read yet, of a text that names these types.
+    pub(crate) fn new(alloc: Global, known_enums: Places, known_messages: Places) -> Reader
         ensures kept { (t : Types) → Holds known_enums t.enums → Holds known_messages t.messages → IsKept t result }
         ensures nothing { result.draft ≡ empty_draft }
     {
@@ -159,8 +159,8 @@ impl Reader {
         }
     }
 
-    /// The first reason that stands against a line, whose end is this far into the text.
-    pub fn fault_of(
+    // The first reason that stands against a line, whose end is this far into the text.
+    pub(crate) fn fault_of(
         &self,
         alloc: Global,
         line: &Line,
@@ -190,8 +190,8 @@ impl Reader {
         Ok(None)
     }
 
-    /// Takes the line of a number, whose end is this far into the text.
-    pub fn take(
+    // Takes the line of a number, whose end is this far into the text.
+    pub(crate) fn take(
         &mut self,
         alloc: Global,
         text: &[u8],
@@ -250,8 +250,8 @@ impl Reader {
         }
     }
 
-    /// The table, where nothing stands against the end of the text, which is the line of a number.
-    pub fn finish(self, rest: &[u8], number: u64) -> Result<Table, TableFault>
+    // The table, where nothing stands against the end of the text, which is the line of a number.
+    pub(crate) fn finish(self, rest: &[u8], number: u64) -> Result<Table, TableFault>
         ensures clean { OnOk result (end_fault (before self.draft) rest.now ≡ None) }
         ensures table { IfOk result (λ t. t ≡ table_of self.draft) }
         ensures fault { IfErr result (λ e. Blames e number (end_fault (before self.draft) rest.now)) }

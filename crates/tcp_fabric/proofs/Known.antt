@@ -21,20 +21,6 @@ pub append_known-more : (known : Option (List ℕ)) (xs ys : List ℕ) → appen
 append_known-more None xs ys = refl
 append_known-more (Some bytes) xs ys = ap Some (append_assoc bytes xs ys)
 
--- nothing was received, and nothing came
-pub receives-nothing : (came came_now : Option (List ℕ)) (waiting waiting_now : List ℕ) → came_now ≡ came
-    → waiting_now ≡ waiting → Receives [] came waiting came_now waiting_now
-receives-nothing came came_now waiting waiting_now c w = ([], c ∙ sym (append_known-nil came), append-nil waiting ∙ sym w)
-
--- first some bytes came, and then more
-pub receives-more : (came mid now : Option (List ℕ)) (waiting between left : List ℕ)
-    → Receives [] came waiting mid between → Receives [] mid between now left → Receives [] came waiting now left
-receives-more came mid now waiting between left first second = (
-  first.0 ++ second.0,
-  second.1 ∙ ap (λ known. append_known known second.0) first.1 ∙ append_known-more came first.0 second.0,
-  sym (append_assoc waiting first.0 second.0) ∙ ap (λ bytes. bytes ++ second.0) first.2 ∙ second.2,
-)
-
 pub concat-snoc : (frames : List (List ℕ)) (frame : List ℕ) → concat (frames ++ frame ∷ []) ≡ concat frames ++ frame
 concat-snoc frames frame = concat-append frames (frame ∷ []) ∙ ap (λ bytes. concat frames ++ bytes) (append-nil frame)
 
@@ -49,13 +35,6 @@ sent-whole (Some bytes) now frames frame is grew = rw grew (ap (λ front. front 
 pub sent-front : (sent : Option (List ℕ)) (frames : List (List ℕ)) → IfSome sent (λ bytes. bytes ≡ concat frames) → IfSome sent (λ bytes. IsPrefix (concat frames) bytes)
 sent-front None frames is = tt
 sent-front (Some bytes) frames is = ([], append-nil (concat frames) ∙ sym is)
-
--- a part of a frame more was taken
-pub sent-part : (sent now : Option (List ℕ)) (frames : List (List ℕ)) (part : List ℕ)
-    → IfSome sent (λ bytes. bytes ≡ concat frames) → now ≡ append_known sent part
-    → IfSome now (λ bytes. IsPrefix (concat frames) bytes)
-sent-part None now frames part is grew = rw grew tt
-sent-part (Some bytes) now frames part is grew = rw grew (part, ap (λ front. front ++ part) (sym is))
 
 -- what came and was received stands in order
 pub came-in-order : (came now : Option (List ℕ)) (pieces : List (List ℕ)) (piece waiting left : List ℕ)

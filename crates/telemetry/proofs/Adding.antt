@@ -101,9 +101,6 @@ sum_counts counts = record {
 pub plus-none : (a : Counts) → plus a no_counts ≡ a
 plus-none a = same_counts (plus a no_counts) a (omega arith) (omega arith) (omega arith) (omega arith)
 
-pub none-plus : (a : Counts) → plus no_counts a ≡ a
-none-plus a = same_counts (plus no_counts a) a (omega arith) (omega arith) (omega arith) (omega arith)
-
 pub plus-assoc : (a b c : Counts) → plus (plus a b) c ≡ plus a (plus b c)
 plus-assoc a b c = same_counts (plus (plus a b) c) (plus a (plus b c)) (omega arith) (omega arith) (omega arith) (omega arith)
 

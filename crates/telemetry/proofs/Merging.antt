@@ -1,5 +1,5 @@
 -- Totals that are added up, entry by entry.
-use Rattle.std.proofs.Common.{◌≡◌, ℕ, ◌+◌, ◌≤◌, ◌==◌, Bool, true, false, if◌then◌else◌, cond, List, [], ◌∷◌, Option}
+use Rattle.std.proofs.Common.{◌≡◌, ℕ, ◌+◌, ◌≤◌, ◌==◌, Bool, true, false, if◌then◌else◌, cond, List, ◌∷◌, Option}
 use Rattle.std.proofs.Common.{Some, unwrap_or, refl, ap, sym, ◌∙◌, arith, inl, inr, ◌⊎◌}
 use Rattle.std.proofs.lemmas.Bool.{eqb-true}
 use Rattle.std.specs.List.Sorted.{IsStrictlySortedBy}
@@ -17,9 +17,6 @@ pub record IsMerging (counts others merged left : List (ℕ × Counts)) : Type 0
   pub sums : plus (sums_of merged) (sums_of left) ≡ plus (sums_of counts) (sums_of others)
   pub ascends : IsStrictlySortedBy nat_cmp (keys_of merged)
   pub left_ascends : IsStrictlySortedBy nat_cmp (keys_of left)
-
-pub begin : (counts others : List (ℕ × Counts)) → IsStrictlySortedBy nat_cmp (keys_of counts) → IsStrictlySortedBy nat_cmp (keys_of others) → IsMerging counts others counts others
-begin counts others sorted left = record { each = λ m. refl; sums = refl; ascends = sorted; left_ascends = left }
 
 -- the sums of two counts that are both there fit
 pub sum_fits : (counts others merged rest : List (ℕ × Counts)) (k : ℕ) (c : Counts)
@@ -76,12 +73,6 @@ merge_more counts others merged rest fresh k c merging is sorted at = record {
         let here : counts_in fresh m ≡ counts_in merged m = at m ∙ (rw other refl) in
         let later : counts_in ((k, c) ∷ rest) m ≡ counts_in rest m = rw (is_at-same m k, other) refl in
         rw here (rw later at (merging.each m))
-
-pub merge_done : (counts others merged : List (ℕ × Counts)) → IsMerging counts others merged []
-    → ((m : ℕ) → counts_in merged m ≡ plus (counts_in counts m) (counts_in others m))
-    × (sums_of merged ≡ plus (sums_of counts) (sums_of others))
-merge_done counts others merged merging =
-    (λ m. sym (plus-none (counts_in merged m)) ∙ merging.each m, sym (plus-none (sums_of merged)) ∙ merging.sums)
 
 is_at-flip : (k m : ℕ) → is_at (nat_cmp k) m ≡ (m == k)
 is_at-flip k m = grind arith

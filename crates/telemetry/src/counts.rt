@@ -15,16 +15,16 @@ pub enum What {
     Standing,
 }
 
-/// How often each of these happened.
+// How often each of these happened.
 #[derive(Clone, Copy)]
-pub struct Counts {
-    /// How many calls were taken.
+pub(crate) struct Counts {
+    // How many calls were taken.
     pub took: u64,
-    /// How many were sent.
+    // How many were sent.
     pub sent: u64,
-    /// How many were refused.
+    // How many were refused.
     pub refused: u64,
-    /// How many stand at the end.
+    // How many stand at the end.
     pub standing: u64,
 }
 
@@ -32,8 +32,8 @@ impl Counts {
     ghost use Rattle.std.specs.Prelude.{◌≡◌, ◌+◌, ◌^◌, ◌<◌};
     ghost use Rattle.telemetry.specs.Counts.{IsSmall, no_counts, number_of, one_more, plus};
 
-    /// The counts of nothing.
-    pub fn none() -> Counts
+    // The counts of nothing.
+    pub(crate) fn none() -> Counts
         ensures { result ≡ no_counts }
     {
         Counts {
@@ -44,8 +44,8 @@ impl Counts {
         }
     }
 
-    /// The counts after one happening more.
-    pub fn one_more(mut self, what: What) -> Counts
+    // The counts after one happening more.
+    pub(crate) fn one_more(mut self, what: What) -> Counts
         requires { number_of what self + 1 < 2 ^ 64 }
         ensures { result ≡ one_more what self }
     {
@@ -58,8 +58,8 @@ impl Counts {
         self
     }
 
-    /// The sums of the counts.
-    pub fn plus(self, other: Counts) -> Counts
+    // The sums of the counts.
+    pub(crate) fn plus(self, other: Counts) -> Counts
         requires { IsSmall (plus self other) }
         ensures { result ≡ plus self other }
     {

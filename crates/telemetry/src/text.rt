@@ -6,9 +6,9 @@ ghost use Rattle.telemetry.specs.Totals.{count_words, method_line, totals_line};
 use crate::counts::Counts;
 use mrpc_table::{Bytes, Memory};
 
-/// Appends the line of a method's counts, or nothing where no call of it was taken. The only error is
-/// `Memory`.
-pub fn put_method(out: &mut Bytes, method: u16, counts: Counts) -> Result<(), Memory>
+// Appends the line of a method's counts, or nothing where no call of it was taken. The only error is
+// `Memory`.
+pub(crate) fn put_method(out: &mut Bytes, method: u16, counts: Counts) -> Result<(), Memory>
     ensures { OnOk result (out.new ≡ out.old ++ (if counts.took == 0 then [] else method_line method counts)) }
 {
     if counts.took == 0 {
@@ -20,8 +20,8 @@ pub fn put_method(out: &mut Bytes, method: u16, counts: Counts) -> Result<(), Me
     out.append(b"\n")
 }
 
-/// Appends the line of the counts over all methods. The only error is `Memory`.
-pub fn put_totals(out: &mut Bytes, counts: Counts) -> Result<(), Memory>
+// Appends the line of the counts over all methods. The only error is `Memory`.
+pub(crate) fn put_totals(out: &mut Bytes, counts: Counts) -> Result<(), Memory>
     ensures { OnOk result (out.new ≡ out.old ++ totals_line counts) }
 {
     out.append(b"totals")?;

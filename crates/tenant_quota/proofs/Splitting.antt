@@ -11,11 +11,6 @@ length_front zero seats = refl
 length_front (suc n) [] = refl
 length_front (suc n) (s ∷ seats) = ap suc (length_front n seats)
 
-pub length_halves : (n : ℕ) (seats : List Drawing) → n ≤ length seats → length (halves_of n seats) ≡ n
-length_halves zero seats within = refl
-length_halves (suc n) [] within = absurd (omega (arith, within))
-length_halves (suc n) (s ∷ seats) within = ap suc (length_halves n seats (omega (arith, within)))
-
 pub next_is : (n : ℕ) (seats : List Drawing) (d : Drawing) → d ≡ slice_index_or (split_front n seats) n d → d ≡ slice_index_or seats n d
 next_is zero seats d is = is
 next_is (suc n) [] d is = is

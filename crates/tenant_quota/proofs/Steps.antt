@@ -1,12 +1,12 @@
 -- Each step keeps the rule of a quota.
-use Rattle.std.proofs.Common.{◌≡◌, ◌≢◌, ℕ, zero, suc, ◌+◌, ◌-◌, ◌/◌, ◌%◌, ◌^◌, ◌<◌, ◌≤◌, ◌⊎◌, inl, inr, ⊎_elim, List}
+use Rattle.std.proofs.Common.{◌≡◌, ◌≢◌, ℕ, zero, suc, ◌+◌, ◌-◌, ◌%◌, ◌^◌, ◌<◌, ◌≤◌, ◌⊎◌, inl, inr, ⊎_elim, List}
 use Rattle.std.proofs.Common.{[], ◌∷◌, ◌++◌, length, set, get_or, replicate, refl, sym, ap, ◌∙◌, subst, append-nil}
 use Rattle.std.proofs.Common.{length-set, arith}
 use Rattle.std.specs.Prelude.{IsPermutation, flat_map}
 use Rattle.std.proofs.lemmas.List.{set-set, set_comm}
 use Rattle.std.proofs.lemmas.List.Concat.{flat_map-append}
 use Rattle.std.proofs.lemmas.List.Sums.{sum_by_push}
-use Rattle.std.proofs.lemmas.List.Sorted.{IsPermutation-refl, IsPermutation-sym}
+use Rattle.std.proofs.lemmas.List.Sorted.{IsPermutation-sym}
 use Rattle.std.proofs.lemmas.List.{length-replicate}
 use Rattle.std.proofs.lemmas.Bool.{cases_eq}
 use mathlib.Core.Option.{some, none, some-injective, some-ne-none}
@@ -15,7 +15,7 @@ use Rattle.atomic_table.specs.Table.{State, keeps, step, Allows, Splits, Joins, 
 use Rattle.atomic_table.proofs.Lists.{at_set, at_snoc, set_else, set_again}
 use Rattle.tenant_quota.specs.declared.view.View.{View}
 use Rattle.tenant_quota.specs.Drawing.{tickets_in}
-use Rattle.tenant_quota.specs.Rule.{Counts, tickets_out, shares_out, Fits, IsQuota, Seated, OnceWithAllShares, drew, Drawn, Settled, opener, kept_half, new_half, together, nobody}
+use Rattle.tenant_quota.specs.Rule.{Counts, tickets_out, shares_out, Fits, IsQuota, Seated, OnceWithAllShares, drew, Drawn, Settled, opener, kept_view, new_view, joined_view, nobody}
 use Rattle.tenant_quota.proofs.Lists.{out_more, out_alone, sum_set, others_none}
 use Rattle.tenant_quota.proofs.Tickets.{tickets-append, ticket_here, ticket_elsewhere, counts_none, counts_moved, counts_more}
 
@@ -130,14 +130,11 @@ module _ (windows slots id i : ℕ) (me : Seated) (shares : 1 ≤ me.0.share) (i
         record { view = refl; slots = refl; once = once_with_all_shares windows id (draw_state s n) kept w (there s.views id me.0 w at) },
       )
 
-half_less : (n : ℕ) → (n - n / 2) + n / 2 ≡ n
-half_less n = omega arith
-
-pub splits_it : (windows id : ℕ) (v : View) → 2 ≤ v.share → Splits (IsQuota windows) id v (kept_half v) (new_half v)
+pub splits_it : (windows id : ℕ) (v : View) → 2 ≤ v.share → Splits (IsQuota windows) id v (kept_view v) (new_view v)
 splits_it windows id v two s h at =
     let mine = h.seats id v at in
-    let left = kept_half v in
-    let right = new_half v in
+    let left = kept_view v in
+    let right = new_view v in
     let vs = set s.views id left in
     let same = sum_set (λ (u : View). u.share) s.views id v left at in
     let more : shares_out (vs ++ right ∷ []) ≡ shares_out vs + right.share = sum_by_push (λ (u : View). u.share) vs right in
@@ -164,9 +161,9 @@ out_less f views seat u at empty =
     let more = out_more f (set views seat nobody) seat nobody u (f u) (there views seat u nobody at) (ap (λ l. l ++ f u) (sym empty)) in
     IsPermutation-sym _ _ (subst (λ l. IsPermutation (flat_map f (set views seat nobody) ++ f u) (flat_map f l)) back more)
 
-pub joins_it : (windows id : ℕ) (v : View) (other : ℕ) (u : View) → 1 ≤ v.share → Joins (IsQuota windows) id v other u (together v u) nobody
+pub joins_it : (windows id : ℕ) (v : View) (other : ℕ) (u : View) → 1 ≤ v.share → Joins (IsQuota windows) id v other u (joined_view v u) nobody
 joins_it windows id v other u some_share s h at apart there_is =
-    let both = together v u in
+    let both = joined_view v u in
     let vs = set s.views id both in
     let theirs : get_elem? s.views other ≡ some u = sym (set_else s.views id other both apart) ∙ there_is in
     let mine = h.seats id v at in
@@ -202,6 +199,3 @@ settles_it windows slots id i me s h sized at fits =
       seats = h.seats;
     }) in
     (me.0, keeps, tt, kept, record { same = refl; once = once_with_all_shares windows id s h me.0 at })
-
-pub nothing_drawn_once : (windows share : ℕ) → OnceWithAllShares (record { windows = windows; draws = []; share = share })
-nothing_drawn_once windows share = λ all window inside few. IsPermutation-refl []

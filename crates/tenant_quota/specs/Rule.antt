@@ -58,16 +58,16 @@ pub record Settled (st : Step (Unit {0})) (m : Seated) (n : ℕ) (m' : Seated) :
   pub once : OnceWithAllShares m'.0
 
 -- what a seat keeps when it is split
-abbrev pub kept_half : View → View
-kept_half v = record { windows = v.windows; draws = v.draws; share = v.share - v.share / 2 }
+abbrev pub kept_view : View → View
+kept_view v = record { windows = v.windows; draws = v.draws; share = v.share - v.share / 2 }
 
 -- what the new seat has
-abbrev pub new_half : View → View
-new_half v = record { windows = v.windows; draws = []; share = v.share / 2 }
+abbrev pub new_view : View → View
+new_view v = record { windows = v.windows; draws = []; share = v.share / 2 }
 
 -- a seat that has taken in another
-abbrev pub together : View → View → View
-together v u = record { windows = v.windows; draws = v.draws ++ u.draws; share = v.share + u.share }
+abbrev pub joined_view : View → View → View
+joined_view v u = record { windows = v.windows; draws = v.draws ++ u.draws; share = v.share + u.share }
 
 -- a seat that was taken in
 abbrev pub nobody : View

@@ -5,7 +5,7 @@ use std::alloc::Global;
 use std::collections::LinkedList;
 
 // What one seat knows.
-pub struct View {
+pub(crate) struct View {
     // How many windows the quota has.
     pub windows: u64,
     // Each draw of the seat, and of the seats that were joined to it: the window, and the ticket.
@@ -14,7 +14,7 @@ pub struct View {
     pub share: u64,
 }
 
-pub struct Rule;
+pub(crate) struct Rule;
 
 // Its key is the number of windows.
 impl TableRule<(), View, u64> for Rule {
@@ -26,7 +26,7 @@ impl TableRule<(), View, u64> for Rule {
 }
 
 // The draw of a ticket.
-pub struct Draw;
+pub(crate) struct Draw;
 
 impl Play<(), View> for Draw {
     ghost use Rattle.tenant_quota.specs.Rule.{Drawn};
@@ -35,7 +35,7 @@ impl Play<(), View> for Draw {
 }
 
 // A load that tells what the draws of a seat with all shares are.
-pub struct Settle;
+pub(crate) struct Settle;
 
 impl Play<(), View> for Settle {
     ghost use Rattle.tenant_quota.specs.Rule.{Settled};
@@ -44,22 +44,22 @@ impl Play<(), View> for Settle {
 }
 
 // A new seat, which has half of this one's share and no draws.
-pub struct Halves;
+pub(crate) struct Halves;
 
 impl Split<View> for Halves {
-    ghost use Rattle.tenant_quota.specs.Rule.{kept_half, new_half};
+    ghost use Rattle.tenant_quota.specs.Rule.{kept_view, new_view};
 
-    ghost left = { kept_half };
+    ghost left = { kept_view };
 
-    ghost right = { new_half };
+    ghost right = { new_view };
 }
 
 impl Join<View> for Halves {
-    ghost use Rattle.tenant_quota.specs.Rule.{together, nobody};
+    ghost use Rattle.tenant_quota.specs.Rule.{joined_view, nobody};
 
-    ghost both = { together };
+    ghost both = { joined_view };
 
     ghost spent = { nobody };
 }
 
-pub type Table = atomic_table::Table<(), View, u64, Rule, Global>;
+pub(crate) type Table = atomic_table::Table<(), View, u64, Rule, Global>;

@@ -21,9 +21,9 @@ use std::alloc::Global;
 use std::marker::Model;
 use std::process::Abort;
 
-/// What came of a step of an operator.
+// What came of a step of an operator.
 #[derive(Clone, Copy, PartialEq, Eq)]
-pub enum Stepped {
+pub(crate) enum Stepped {
     Done,
     NoSuch,
     Taken,
@@ -45,9 +45,9 @@ fn stepped_by(step: &Result<(), ChainFault>) -> Stepped {
     }
 }
 
-/// A connection with its heap of 16 words, the tickets of a tenant, and its link. What its calls require is its
-/// invariant or is tried when they run, so that hardly a helper has a clause.
-pub struct Scene<'t> {
+// A connection with its heap of 16 words, the tickets of a tenant, and its link. What its calls require is its
+// invariant or is tried when they run, so that hardly a helper has a clause.
+pub(crate) struct Scene<'t> {
     alloc: Global,
     table: &'t Table,
     words: PlainWords,
@@ -132,8 +132,8 @@ fn link_of(rt: &impl Abort, alloc: Global, failing: u64) -> MemLink {
 }
 
 impl<'t> Scene<'t> {
-    /// A connection without a call, number 1. The link's send of a number fails, counted from 1; none where it is 0.
-    pub fn open(rt: &impl Abort, alloc: Global, table: &'t Table, failing: u64) -> Scene<'t>
+    // A connection without a call, number 1. The link's send of a number fails, counted from 1; none where it is 0.
+    pub(crate) fn open(rt: &impl Abort, alloc: Global, table: &'t Table, failing: u64) -> Scene<'t>
         requires { IsValid table.now }
     {
         Scene {
@@ -149,8 +149,8 @@ impl<'t> Scene<'t> {
 
     // ---- calls
 
-    /// Stores a word.
-    pub fn store(&mut self, rt: &impl Abort, place: u64, value: u64) {
+    // Stores a word.
+    pub(crate) fn store(&mut self, rt: &impl Abort, place: u64, value: u64) {
         assert!(rt; 1 <= place && place < self.words.size());
         assert!(rt; self.words.made() < 1000);
         assert!(rt; self.words.room_stores(1) == Room::Made);
@@ -174,19 +174,19 @@ impl<'t> Scene<'t> {
         self.conn.accept(self.alloc, &mut self.words, ask).err()
     }
 
-    /// The message at place 2 is accepted.
-    pub fn accepts(&mut self, rt: &impl Abort) {
+    // The message at place 2 is accepted.
+    pub(crate) fn accepts(&mut self, rt: &impl Abort) {
         assert!(rt; self.submit(rt).is_none());
     }
 
-    /// It isn't, since the link has failed.
-    pub fn has_ended(&mut self, rt: &impl Abort) {
+    // It isn't, since the link has failed.
+    pub(crate) fn has_ended(&mut self, rt: &impl Abort) {
         assert!(rt; self.conn.ended());
         assert!(rt; matches!(self.submit(rt), Some(AcceptFault::Ended)));
     }
 
-    /// It isn't, where the heap's reader finds no memory.
-    pub fn finds_no_memory(&mut self, rt: &impl Abort) {
+    // It isn't, where the heap's reader finds no memory.
+    pub(crate) fn finds_no_memory(&mut self, rt: &impl Abort) {
         assert_young(rt, &self.conn);
         let ask = self.ask();
         let heap = PlainWords::open(self.alloc, 16).expect(rt, "memory");
@@ -207,8 +207,8 @@ impl<'t> Scene<'t> {
         stepped_by(&self.conn.operate(self.alloc, step))
     }
 
-    /// What the attachment of a policy of a kind comes to.
-    pub fn attach(&mut self, rt: &impl Abort, at: u32, name: &[u8], kind: Kind) -> Stepped {
+    // What the attachment of a policy of a kind comes to.
+    pub(crate) fn attach(&mut self, rt: &impl Abort, at: u32, name: &[u8], kind: Kind) -> Stepped {
         let step = Op::Attach {
             at,
             name: bytes_of(rt, self.alloc, name),
@@ -218,14 +218,14 @@ impl<'t> Scene<'t> {
         self.operate(rt, step)
     }
 
-    /// What the detachment of the policy of a name comes to.
-    pub fn detach(&mut self, rt: &impl Abort, name: &[u8]) -> Stepped {
+    // What the detachment of the policy of a name comes to.
+    pub(crate) fn detach(&mut self, rt: &impl Abort, name: &[u8]) -> Stepped {
         let name = bytes_of(rt, self.alloc, name);
         self.operate(rt, Op::Detach { name })
     }
 
-    /// What it comes to that a policy of a kind is put into the entry of a name.
-    pub fn upgrade(&mut self, rt: &impl Abort, name: &[u8], kind: Kind) -> Stepped {
+    // What it comes to that a policy of a kind is put into the entry of a name.
+    pub(crate) fn upgrade(&mut self, rt: &impl Abort, name: &[u8], kind: Kind) -> Stepped {
         let step = Op::Upgrade {
             name: bytes_of(rt, self.alloc, name),
             label: bytes_of(rt, self.alloc, name),
@@ -236,26 +236,26 @@ impl<'t> Scene<'t> {
 
     // ---- turns and sendings
 
-    /// Turns until no call can go on.
-    pub fn judge(&mut self, rt: &impl Abort) {
+    // Turns until no call can go on.
+    pub(crate) fn judge(&mut self, rt: &impl Abort) {
         assert!(rt; knows_tenants(self.conn.chain(), &self.tickets));
         self.conn.judge(&mut self.tickets);
     }
 
-    /// Turns until no call can go on, and then sendings: what they come to.
-    pub fn drain(&mut self, rt: &impl Abort) -> Drained {
+    // Turns until no call can go on, and then sendings: what they come to.
+    pub(crate) fn drain(&mut self, rt: &impl Abort) -> Drained {
         assert!(rt; knows_tenants(self.conn.chain(), &self.tickets));
         self.conn.drain(&mut self.tickets, &mut self.link)
     }
 
-    /// The same to a link that finds no memory.
-    pub fn drain_without_memory(&mut self, rt: &impl Abort) -> Drained {
+    // The same to a link that finds no memory.
+    pub(crate) fn drain_without_memory(&mut self, rt: &impl Abort) -> Drained {
         assert!(rt; knows_tenants(self.conn.chain(), &self.tickets));
         self.conn.drain(&mut self.tickets, &mut NoFrames {})
     }
 
-    /// Ends the connection.
-    pub fn fail(&mut self) {
+    // Ends the connection.
+    pub(crate) fn fail(&mut self) {
         self.conn.fail();
     }
 
@@ -276,8 +276,8 @@ impl<'t> Scene<'t> {
         self.conn.turn_away(ask).expect(rt, "memory");
     }
 
-    /// Takes a step.
-    pub fn takes(&mut self, rt: &impl Abort, step: Step) {
+    // Takes a step.
+    pub(crate) fn takes(&mut self, rt: &impl Abort, step: Step) {
         match step {
             Step::Store(place, value) => self.store(rt, place, value),
             Step::Accept(times) => {
@@ -308,16 +308,16 @@ impl<'t> Scene<'t> {
         }
     }
 
-    /// The next record tells this.
-    pub fn tells(&mut self, rt: &impl Abort, expected: Told) {
+    // The next record tells this.
+    pub(crate) fn tells(&mut self, rt: &impl Abort, expected: Told) {
         let history = self.conn.history();
         assert!(rt; self.told < history.len());
         assert!(rt; told_at(history, self.told) == expected);
         self.told += 1;
     }
 
-    /// Takes these steps, and behind all that was compared the history tells this, and nothing more.
-    pub fn does(&mut self, rt: &impl Abort, steps: &[Step], expected: &[Told]) {
+    // Takes these steps, and behind all that was compared the history tells this, and nothing more.
+    pub(crate) fn does(&mut self, rt: &impl Abort, steps: &[Step], expected: &[Told]) {
         for step in steps {
             self.takes(rt, *step);
         }
@@ -341,8 +341,8 @@ impl<'t> Scene<'t> {
         assert!(rt; cost == 1000);
     }
 
-    /// How many records there are.
-    pub fn records(&self) -> usize {
+    // How many records there are.
+    pub(crate) fn records(&self) -> usize {
         self.conn.history().len()
     }
 
@@ -353,27 +353,27 @@ impl<'t> Scene<'t> {
         history.at(place)
     }
 
-    /// The record at a place tells that a call was sent.
-    pub fn tells_sent(&self, rt: &impl Abort, place: usize, number: u32) {
+    // The record at a place tells that a call was sent.
+    pub(crate) fn tells_sent(&self, rt: &impl Abort, place: usize, number: u32) {
         let record = self.record(rt, place);
         assert!(rt; matches!(record, Record::Sent { seq, .. } if *seq == number));
     }
 
-    /// The record at a place tells that a call was refused, since the link failed.
-    pub fn tells_lost(&self, rt: &impl Abort, place: usize, number: u32) {
+    // The record at a place tells that a call was refused, since the link failed.
+    pub(crate) fn tells_lost(&self, rt: &impl Abort, place: usize, number: u32) {
         let record = self.record(rt, place);
         assert!(rt;
             matches!(record, Record::Refused { seq, by: Refusal::Transport } if *seq == number)
         );
     }
 
-    /// How many frames were handed over.
-    pub fn frames(&self) -> usize {
+    // How many frames were handed over.
+    pub(crate) fn frames(&self) -> usize {
         self.link.handed().len()
     }
 
-    /// This is the frame at a place among them.
-    pub fn hands(&self, rt: &impl Abort, place: usize, frame: &[u8]) {
+    // This is the frame at a place among them.
+    pub(crate) fn hands(&self, rt: &impl Abort, place: usize, frame: &[u8]) {
         let frames = self.link.handed();
         assert!(rt; place < frames.len());
         assert!(rt; frames[place].as_slice() == frame);

@@ -12,45 +12,45 @@ use policy_redact::read_redact;
 use std::alloc::Global;
 use std::process::Abort;
 
-/// The policies that tests attach.
+// The policies that tests attach.
 #[derive(Clone, Copy)]
-pub enum Kind<'a> {
-    /// Rules, and then a default.
+pub(crate) enum Kind<'a> {
+    // Rules, and then a default.
     Access(&'a [&'a [u8]]),
-    /// A call a second, and so many at once, from 1 to 10; what comes short is held.
+    // A call a second, and so many at once, from 1 to 10; what comes short is held.
     Rate(u64),
-    /// So many calls of the first tenant a second.
+    // So many calls of the first tenant a second.
     Quota(u64),
-    /// Calls are counted.
+    // Calls are counted.
     Count,
-    /// Fields are cleared.
+    // Fields are cleared.
     Redact(&'a [&'a [u8]]),
 }
 
-/// What a connection is asked, and what is looked at between.
+// What a connection is asked, and what is looked at between.
 #[derive(Clone, Copy)]
-pub enum Step<'a> {
-    /// A value is stored at a place.
+pub(crate) enum Step<'a> {
+    // A value is stored at a place.
     Store(u64, u64),
-    /// The message at place 2 is accepted so often.
+    // The message at place 2 is accepted so often.
     Accept(u32),
-    /// A call is turned away, since 64 stand.
+    // A call is turned away, since 64 stand.
     TurnAway,
-    /// A policy of a kind is attached at a position under a name.
+    // A policy of a kind is attached at a position under a name.
     Attach(u32, &'a [u8], Kind<'a>),
-    /// The policy of a name is detached.
+    // The policy of a name is detached.
     Detach(&'a [u8]),
-    /// A policy of a kind is put into the entry of a name.
+    // A policy of a kind is put into the entry of a name.
     Upgrade(&'a [u8], Kind<'a>),
-    /// The clock shows a moment.
+    // The clock shows a moment.
     Clock(u64),
-    /// The engine at a position has so many turns.
+    // The engine at a position has so many turns.
     Turn(u32, u32),
-    /// All is judged and sent.
+    // All is judged and sent.
     Drain,
-    /// The first engine holds the call of a number, which is the first that stands, at a level that is below its cost.
+    // The first engine holds the call of a number, which is the first that stands, at a level that is below its cost.
     Hold(u32, u64),
-    /// One frame was handed over in all, and it is this one.
+    // One frame was handed over in all, and it is this one.
     Hand(&'a [u8]),
 }
 
@@ -74,8 +74,8 @@ fn rate_of(rt: &impl Abort, burst: u64) -> Policy
     })
 }
 
-/// The policy of a kind.
-pub fn policy_of(rt: &impl Abort, alloc: Global, table: &Table, kind: Kind) -> Policy
+// The policy of a kind.
+pub(crate) fn policy_of(rt: &impl Abort, alloc: Global, table: &Table, kind: Kind) -> Policy
     requires { IsValid table.now }
     ensures { IsPolicy result }
 {

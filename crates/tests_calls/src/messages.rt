@@ -17,9 +17,9 @@ use table_text::read_table;
 use wire_decode::decode;
 use wire_encode::{encode, encoded_len};
 
-/// A table with a heap. What the functions on both require is its invariant, or is tried at each call, so that no test
-/// has to know it. Contracts see the table.
-pub struct Scene {
+// A table with a heap. What the functions on both require is its invariant, or is tried at each call, so that no test
+// has to know it. Contracts see the table.
+pub(crate) struct Scene {
     table: Table,
     heap: PlainWords,
 }
@@ -45,38 +45,38 @@ impl Model for Scene {
     ghost invariant = { λ s. IsScene s.table s.heap.size };
 }
 
-/// A message that was placed: its encoding by what stands there, its words with their places, and how many it takes.
+// A message that was placed: its encoding by what stands there, its words with their places, and how many it takes.
 #[derive(Drop)]
-pub struct Placement {
+pub(crate) struct Placement {
     pub encoding: Bytes,
     pub placed: Placed,
     pub words: u64,
 }
 
 impl Scene {
-    /// The table of a text, which has a message, and 256 words.
-    pub fn open(rt: &impl Abort, alloc: Global, text: &[u8]) -> Scene {
+    // The table of a text, which has a message, and 256 words.
+    pub(crate) fn open(rt: &impl Abort, alloc: Global, text: &[u8]) -> Scene {
         let table = read_table(alloc, text).expect(rt, "a table");
         assert!(rt; !table.messages.is_empty());
         let heap = PlainWords::open(alloc, 256).expect(rt, "a heap");
         Scene { table, heap }
     }
 
-    /// Where the slot of a field begins in a node of the first message, if the message has the field.
-    pub fn slot_of(&self, field: u32) -> Option<u64> {
+    // Where the slot of a field begins in a node of the first message, if the message has the field.
+    pub(crate) fn slot_of(&self, field: u32) -> Option<u64> {
         match self.table.field(0, field) {
             Some(_) => Some(slot_of(&self.table, 0, field)),
             None => None,
         }
     }
 
-    /// How many words a message takes without its content.
-    pub fn size_words(&self) -> u64 {
+    // How many words a message takes without its content.
+    pub(crate) fn size_words(&self) -> u64 {
         size_words(&self.table, 0)
     }
 
-    /// The message that the bytes mean.
-    pub fn decode(&self, rt: &impl Abort, alloc: Global, bytes: &[u8]) -> Tree {
+    // The message that the bytes mean.
+    pub(crate) fn decode(&self, rt: &impl Abort, alloc: Global, bytes: &[u8]) -> Tree {
         decode(alloc, bytes, &self.table, 0).expect(rt, "a message")
     }
 
@@ -87,20 +87,20 @@ impl Scene {
         assert!(rt; fits(tree, &self.table, 0));
     }
 
-    /// The length of the encoding of a message.
-    pub fn encoded_len(&self, rt: &impl Abort, tree: &Tree) -> u64 {
+    // The length of the encoding of a message.
+    pub(crate) fn encoded_len(&self, rt: &impl Abort, tree: &Tree) -> u64 {
         self.check(rt, tree);
         encoded_len(tree, &self.table, 0)
     }
 
-    /// The encoding of a message.
-    pub fn encode(&self, rt: &impl Abort, alloc: Global, tree: &Tree) -> Bytes {
+    // The encoding of a message.
+    pub(crate) fn encode(&self, rt: &impl Abort, alloc: Global, tree: &Tree) -> Bytes {
         self.check(rt, tree);
         encode(alloc, tree, &self.table, 0).expect(rt, "an encoding")
     }
 
-    /// The encoding of the copy of the message at a place.
-    pub fn copied(&mut self, rt: &impl Abort, alloc: Global, at: u64) -> Bytes {
+    // The encoding of the copy of the message at a place.
+    pub(crate) fn copied(&mut self, rt: &impl Abort, alloc: Global, at: u64) -> Bytes {
         let read = copy(alloc, &mut self.heap, &self.table, 0, at, MAX_LOADS);
         match read.expect(rt, "a copy") {
             CopyResult::Copied { tree, .. } => self.encode(rt, alloc, &tree),
@@ -129,8 +129,14 @@ impl Scene {
         self.encode(rt, alloc, &tree)
     }
 
-    /// Places a message at one of the first places.
-    pub fn place(&mut self, rt: &impl Abort, alloc: Global, tree: &Tree, at: u64) -> Placement
+    // Places a message at one of the first places.
+    pub(crate) fn place(
+        &mut self,
+        rt: &impl Abort,
+        alloc: Global,
+        tree: &Tree,
+        at: u64,
+    ) -> Placement
         requires from_one { 1 ≤ at }
         requires in_front { at ≤ 6 }
     {
@@ -144,8 +150,8 @@ impl Scene {
         }
     }
 
-    /// Places the message that the bytes mean at one of the first places.
-    pub fn place_decoded(
+    // Places the message that the bytes mean at one of the first places.
+    pub(crate) fn place_decoded(
         &mut self,
         rt: &impl Abort,
         alloc: Global,
@@ -159,18 +165,18 @@ impl Scene {
         self.place(rt, alloc, &tree, at)
     }
 
-    /// How many stores were made.
-    pub fn stored(&self) -> usize {
+    // How many stores were made.
+    pub(crate) fn stored(&self) -> usize {
         self.heap.made() as usize
     }
 
-    /// How many loads were made.
-    pub fn loaded(&self) -> usize {
+    // How many loads were made.
+    pub(crate) fn loaded(&self) -> usize {
         self.heap.loads_made() as usize
     }
 
-    /// Whether these words stand at their places, by a load of each.
-    pub fn holds(&mut self, rt: &impl Abort, words: &[(u64, u64)]) -> bool {
+    // Whether these words stand at their places, by a load of each.
+    pub(crate) fn holds(&mut self, rt: &impl Abort, words: &[(u64, u64)]) -> bool {
         for &(place, value) in words {
             assert!(rt; place < 256);
             assert!(rt; self.heap.room_loads(1) == Room::Made);

@@ -15,9 +15,9 @@ use std::marker::Model;
 use std::process::Abort;
 use table_text::read_table;
 
-/// What a turn told, without its tree.
+// What a turn told, without its tree.
 #[derive(Clone, Copy, PartialEq, Eq)]
-pub enum Told {
+pub(crate) enum Told {
     Nothing,
     Arrived(u8, Block),
     Dropped(u32, DropCause),
@@ -36,8 +36,8 @@ fn without_tree(arrival: &Arrival) -> Told {
     }
 }
 
-/// A receiver with its heap. What its calls require of it is its invariant, so that none of them has a clause.
-pub struct Scene {
+// A receiver with its heap. What its calls require of it is its invariant, so that none of them has a clause.
+pub(crate) struct Scene {
     table: Table,
     heap: PlainWords,
     inbound: Inbound,
@@ -69,8 +69,8 @@ impl Model for Scene {
 }
 
 impl Scene {
-    /// The receiver of connection 1 with so many words.
-    pub fn open(rt: &impl Abort, alloc: Global, table: &[u8], words: u64) -> Scene
+    // The receiver of connection 1 with so many words.
+    pub(crate) fn open(rt: &impl Abort, alloc: Global, table: &[u8], words: u64) -> Scene
         requires least { 4 ≤ words }
         requires most { words ≤ 65536 }
     {
@@ -82,13 +82,13 @@ impl Scene {
         }
     }
 
-    /// Feeds a piece of a stream, of 1000 bytes at most; whether there is no fault so far.
-    pub fn feed(&mut self, piece: &[u8]) -> bool {
+    // Feeds a piece of a stream, of 1000 bytes at most; whether there is no fault so far.
+    pub(crate) fn feed(&mut self, piece: &[u8]) -> bool {
         self.fault_at(piece).is_none()
     }
 
-    /// Feeds a piece of a stream, of 1000 bytes at most; the fault that it answers.
-    pub fn fault_at(&mut self, piece: &[u8]) -> Option<FeedFault> {
+    // Feeds a piece of a stream, of 1000 bytes at most; the fault that it answers.
+    pub(crate) fn fault_at(&mut self, piece: &[u8]) -> Option<FeedFault> {
         if self.calls > 1000 || piece.len() > 1000 {
             return Some(FeedFault::Memory);
         }
@@ -105,44 +105,50 @@ impl Scene {
         Ok(without_tree(&self.inbound.turn(&self.table, policy, &mut self.heap)?))
     }
 
-    /// One turn without a policy tells this.
-    pub fn tells(&mut self, rt: &impl Abort, expected: Told) {
+    // One turn without a policy tells this.
+    pub(crate) fn tells(&mut self, rt: &impl Abort, expected: Told) {
         let told = self.turn(None).expect(rt, "a turn");
         assert!(rt; told == expected);
     }
 
-    /// One turn under the policy of a line tells this.
-    pub fn tells_under(&mut self, rt: &impl Abort, alloc: Global, line: &[u8], expected: Told) {
+    // One turn under the policy of a line tells this.
+    pub(crate) fn tells_under(
+        &mut self,
+        rt: &impl Abort,
+        alloc: Global,
+        line: &[u8],
+        expected: Told,
+    ) {
         let policy = self.policy_of(rt, alloc, line);
         let told = self.turn(Some(&policy)).expect(rt, "a turn");
         discard(policy);
         assert!(rt; told == expected);
     }
 
-    /// Takes a block back.
-    pub fn reclaim(&mut self, block: u64) -> Result<(), NotHeld> {
+    // Takes a block back.
+    pub(crate) fn reclaim(&mut self, block: u64) -> Result<(), NotHeld> {
         self.inbound.reclaim(block)
     }
 
-    /// The whole frame behind so many others.
-    pub fn waiting(&self, others: u64) -> Option<(u8, u16, u32)> {
+    // The whole frame behind so many others.
+    pub(crate) fn waiting(&self, others: u64) -> Option<(u8, u16, u32)> {
         self.inbound.waiting(others)
     }
 
-    /// The version and the length of the payload of the hello in front, which is taken.
-    pub fn take_hello(&mut self) -> Option<(u8, usize)> {
+    // The version and the length of the payload of the hello in front, which is taken.
+    pub(crate) fn take_hello(&mut self) -> Option<(u8, usize)> {
         let hello = self.inbound.take_hello()?;
         Some((hello.version, hello.payload.len()))
     }
 
-    /// The version of the first whole frame.
-    pub fn first_version(&self) -> Option<u8> {
+    // The version of the first whole frame.
+    pub(crate) fn first_version(&self) -> Option<u8> {
         let first = self.inbound.first()?;
         Some(first.version)
     }
 
-    /// How many bytes lie in no whole frame.
-    pub fn rest(&self) -> u64 {
+    // How many bytes lie in no whole frame.
+    pub(crate) fn rest(&self) -> u64 {
         self.inbound.left_over()
     }
 

@@ -5,37 +5,37 @@ ghost use Rattle.std.specs.Prelude.{◌<◌, length};
 use call_history::{History, Record, Refusal};
 use engine_core::Op;
 
-/// What a record tells: the number of a call, the place of the step that put the policy into its engine, and then what
-/// was noted.
+// What a record tells: the number of a call, the place of the step that put the policy into its engine, and then what
+// was noted.
 #[derive(Clone, Copy, PartialEq, Eq)]
-pub enum Told {
-    /// A call was taken.
+pub(crate) enum Told {
+    // A call was taken.
     Took(u32),
-    /// A call was turned away.
+    // A call was turned away.
     Away,
-    /// A policy was attached.
+    // A policy was attached.
     Attached,
-    /// A policy was detached.
+    // A policy was detached.
     Detached,
-    /// A policy was upgraded.
+    // A policy was upgraded.
     Upgraded,
-    /// The clock shows a moment.
+    // The clock shows a moment.
     Moment(u64),
-    /// A call was charged, and this is the level after it.
+    // A call was charged, and this is the level after it.
     Charged(u32, usize, u64),
-    /// A ticket was drawn for a call in a window: the window, and the ticket.
+    // A ticket was drawn for a call in a window: the window, and the ticket.
     Drawn(u32, usize, u64, u64),
-    /// A call was counted.
+    // A call was counted.
     Counted(u32, usize),
-    /// Fields were cleared from a call by a policy of this version.
+    // Fields were cleared from a call by a policy of this version.
     Redacted(u32, usize, u32),
-    /// A call was sent in a frame of so many bytes.
+    // A call was sent in a frame of so many bytes.
     Sent(u32, u64),
-    /// A call was denied in a version of a policy, by the rule at a place.
+    // A call was denied in a version of a policy, by the rule at a place.
     Denied(u32, usize, u32, u32),
-    /// A call was refused, since its ticket isn't below the cap.
+    // A call was refused, since its ticket isn't below the cap.
     Over(u32, usize, u64, u64),
-    /// A call was refused, since its graph is malformed, its level was below its cost, or the link failed.
+    // A call was refused, since its graph is malformed, its level was below its cost, or the link failed.
     Refused(u32),
 }
 
@@ -61,8 +61,8 @@ fn told_of_refusal(seq: u32, by: Refusal) -> Told {
     }
 }
 
-/// What the record at a place tells.
-pub fn told_at(history: &History, place: usize) -> Told
+// What the record at a place tells.
+pub(crate) fn told_at(history: &History, place: usize) -> Told
     requires { place < length history.now.happenings }
 {
     match history.at(place) {

@@ -2,9 +2,9 @@
 
 use mrpc_base::{Came, Handed, Link, PlainWords, Room, Words};
 
-/// A link that finds no memory for any frame.
+// A link that finds no memory for any frame.
 #[derive(Drop)]
-pub struct NoFrames;
+pub(crate) struct NoFrames;
 
 impl Link for NoFrames {
     ghost use Rattle.std.specs.Prelude.{[], None, false, ⊤};
@@ -39,9 +39,9 @@ impl Link for NoFrames {
     fn finish(&mut self) {}
 }
 
-/// A heap whose reader finds no memory for more loads than it has room for.
+// A heap whose reader finds no memory for more loads than it has room for.
 #[derive(Drop)]
-pub struct NoLoads {
+pub(crate) struct NoLoads {
     pub heap: PlainWords,
 }
 

@@ -4,7 +4,7 @@ use mrpc_base::{MemSink, MemSource};
 use std::alloc::Global;
 use std::process::Abort;
 
-/// The numbers of the calls that fail.
+// The numbers of the calls that fail.
 #[derive(Clone, Copy)]
 pub(crate) struct Failing<'a> {
     pub(crate) reads: &'a [u64],
@@ -12,11 +12,11 @@ pub(crate) struct Failing<'a> {
     pub(crate) beside: &'a [u64],
 }
 
-/// The devices in memory. The first read of the input gives at most ten bytes.
+// The devices in memory. The first read of the input gives at most ten bytes.
 pub(crate) struct Devices {
     pub(crate) input: MemSource,
     pub(crate) out: MemSink,
-    /// The frames of a command, or the sentences of a view.
+    // The frames of a command, or the sentences of a view.
     pub(crate) beside: MemSink,
 }
 
@@ -51,7 +51,7 @@ impl Devices {
     }
 }
 
-/// A command line of one word.
+// A command line of one word.
 pub(crate) fn words_of(rt: &impl Abort, alloc: Global, word: &str) -> Vec<String> {
     let word = String::from_str(alloc, word).expect(rt, "memory");
     let mut words = Vec::new(alloc);

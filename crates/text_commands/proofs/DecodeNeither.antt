@@ -13,14 +13,14 @@ use Rattle.table_text.specs.TableText.{HasTableBehind, IsEndless, IsTableBehind}
 use Rattle.table_text.specs.declared.fault.TableReason.{TableReason}
 use Rattle.frame_transport.specs.Frames.{IsFrame, bytes_of, joined, StandFrom, IsFaultAt, long, no_kind, no_version, Splits, Ends}
 use Rattle.frame_transport.specs.declared.format.Frame.{Frame}
-use Rattle.frame_transport.specs.declared.format.TheConstants.{HEADER_LEN, METHOD_PLACE}
+use Rattle.frame_transport.specs.declared.format.TheConstants.{HEADER_LEN, HELLO, METHOD_PLACE}
 use Rattle.frame_transport.specs.declared.fault.FeedFault.{FeedFault}
 use Rattle.frame_transport.specs.declared.fault.FeedFault.TheVariants.{Version, Kind, TooLong, Memory}
 use Rattle.wire_base.specs.Encoding.{encoding}
 use Rattle.wire_decode.specs.Reason.{reason_word}
 use Rattle.text_commands.specs.DecodeInput.{Holds, IsTextFault, first_line, second_line, head}
 use Rattle.text_commands.specs.DecodeInput.IsTextFault.{no_first_line, no_second_line, in_table, no_end}
-use Rattle.text_commands.specs.Decoding.{hello, hello_line, call_line, IsLineOf, AreLinesOf, IsFaultIn, IsFaultOfHeader, StandInFront, IsDecoded, IsCutAt}
+use Rattle.text_commands.specs.Decoding.{hello_line, call_line, IsLineOf, AreLinesOf, IsFaultIn, IsFaultOfHeader, StandInFront, IsDecoded, IsCutAt}
 use Rattle.frame_transport.specs.Messages.{message_in}
 use Rattle.text_commands.specs.Decoding.IsLineOf.{line_of_hello, line_of_call}
 use Rattle.text_commands.specs.Decoding.IsFaultIn.{no_method, in_payload}
@@ -121,7 +121,7 @@ held_or_faulty law text =
 abbrev HasLineOrFault : Table → Frame → Type 0
 HasLineOrFault T f = ((line : List ℕ) × IsLineOf T f line) ⊎ ((place : ℕ) × (word : List ℕ) × IsFaultIn T f place word)
 
-call_line_or_fault : MeaningLaw → (T : Table) (f : Frame) → f.kind ≢ hello → f.method < length T.methods → HasLineOrFault T f
+call_line_or_fault : MeaningLaw → (T : Table) (f : Frame) → f.kind ≢ HELLO → f.method < length T.methods → HasLineOrFault T f
 call_line_or_fault law T f call known =
     elim (law.either T (message_in T f) f.payload) [
       | inl t ↦ inl (call_line f (encoding T (message_in T f) t.0), line_of_call t.0 call known t.1 refl)
@@ -130,7 +130,7 @@ call_line_or_fault law T f call known =
 
 line_or_fault : MeaningLaw → (T : Table) (f : Frame) → HasLineOrFault T f
 line_or_fault law T f =
-    elim (cases_eq f.kind hello) [
+    elim (cases_eq f.kind HELLO) [
       | inl is ↦ inl (hello_line f, line_of_hello is refl)
       | inr call ↦ elim (cases_lt f.method (length T.methods)) [
         | inl known ↦ call_line_or_fault law T f call known

@@ -13,9 +13,10 @@ use Rattle.frame_transport.specs.Frames.{IsFrame, bytes_of, joined, StandFrom, I
 use Rattle.frame_transport.specs.Frames.{HasNoFrame}
 use Rattle.frame_transport.specs.Standing.{StandsAt}
 use Rattle.frame_transport.specs.declared.format.Frame.{Frame}
+use Rattle.frame_transport.specs.declared.format.TheConstants.{HELLO}
 use Rattle.frame_transport.specs.declared.fault.FeedFault.{FeedFault}
 use Rattle.text_commands.specs.DecodeInput.{OnFault}
-use Rattle.text_commands.specs.Decoding.{hello, IsLineOf, AreLinesOf, IsFaultIn, in_payload, IsFaultOfHeader, IsDecoded, IsCutAt, in_frame, in_header, in_short_frame}
+use Rattle.text_commands.specs.Decoding.{IsLineOf, AreLinesOf, IsFaultIn, in_payload, IsFaultOfHeader, IsDecoded, IsCutAt, in_frame, in_header, in_short_frame}
 use Rattle.frame_transport.specs.Messages.{message_in}
 use Rattle.text_commands.specs.declared.decoding.Cut.{Cut}
 use Rattle.text_commands.specs.declared.decoding.Cut.TheVariants.{Fault, Memory as NoMemory, Out}
@@ -29,7 +30,7 @@ on_fault P Q h NoMemory p = tt
 on_fault P Q h Out p = tt
 
 pub fault_of_payload : (T : Table) (f : Frame) (message : ℕ) (word : List ℕ) (reason : DecodeReason) (at place : ℕ)
-    → f.kind ≢ hello → f.method < length T.methods → message ≡ message_in T f
+    → f.kind ≢ HELLO → f.method < length T.methods → message ≡ message_in T f
     → IsFirstFault T message f.payload reason at → place ≡ f.place + (16 + at) → word ≡ reason_word reason
     → IsFaultIn T f place word
 fault_of_payload T f message word reason at place call known m first place_is word_is =

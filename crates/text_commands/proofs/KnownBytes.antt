@@ -1,6 +1,6 @@
 -- Bytes that are known, over two steps.
 use Rattle.std.proofs.Common.{ℕ, List, [], ◌++◌, Option, Some, None, sym, ap, ◌∙◌, append_assoc, append-nil}
-use Rattle.std.specs.Io.KnownBytes.{Appends, Keeps}
+use Rattle.std.specs.Io.KnownBytes.{Appends}
 
 pub appends-nothing : (old : Option (List ℕ)) → Appends old old []
 appends-nothing None = tt
@@ -11,9 +11,3 @@ appends-more None mid new xs ys a b = tt
 appends-more (Some os) None new xs ys a b = absurd a
 appends-more (Some os) (Some ms) None xs ys a b = b
 appends-more (Some os) (Some ms) (Some ns) xs ys a b = b ∙ ap (λ l. l ++ ys) a ∙ append_assoc os xs ys
-
-pub appends-keeps : (old mid new : Option (List ℕ)) (xs : List ℕ) → Appends old mid xs → Keeps mid new → Appends old new xs
-appends-keeps None mid new xs a b = tt
-appends-keeps (Some os) None new xs a b = absurd a
-appends-keeps (Some os) (Some ms) None xs a b = b
-appends-keeps (Some os) (Some ms) (Some ns) xs a b = b ∙ a

@@ -1,5 +1,5 @@
 -- What `decode` tells of a stream of frames: a line for each frame, up to the first fault.
-use Rattle.std.specs.Prelude.{◌≡◌, ◌≢◌, ℕ, ◌+◌, ◌<◌, ◌≤◌, ◌==◌, List, [], ◌∷◌, ◌++◌, length, codes, All, None, if◌then◌else◌}
+use Rattle.std.specs.Prelude.{◌≡◌, ◌≢◌, ℕ, ◌+◌, ◌<◌, ◌≤◌, List, [], ◌∷◌, ◌++◌, length, codes, All, None}
 use Rattle.std.specs.Fmt.{decimal}
 use Rattle.mrpc_table.specs.Node.{Node}
 use Rattle.mrpc_table.specs.Text.{line}
@@ -11,15 +11,11 @@ use Rattle.wire_decode.specs.Reason.{reason_word}
 use Rattle.wire_decode.specs.declared.fault.DecodeReason.{DecodeReason}
 use Rattle.frame_transport.specs.Frames.{IsFrame, StandFrom, Splits, joined, IsFaultAt, HasFault}
 use Rattle.frame_transport.specs.declared.format.Frame.{Frame}
-use Rattle.frame_transport.specs.declared.format.TheConstants.{HEADER_LEN, METHOD_PLACE}
+use Rattle.frame_transport.specs.declared.format.TheConstants.{HEADER_LEN, HELLO, METHOD_PLACE}
 use Rattle.frame_transport.specs.declared.fault.FeedFault.{FeedFault}
 use Rattle.frame_transport.specs.declared.fault.FeedFault.TheVariants.{Version, Kind, TooLong, Memory}
 use Rattle.frame_transport.specs.Messages.{message_in}
 use Rattle.audit_text.specs.Lines.{hex_word}
-
--- the kind of a hello
-abbrev pub hello : ℕ
-hello = 3
 
 abbrev pub hello_line : Frame → List ℕ
 hello_line f = line (codes "hello" ∷ decimal f.conn ∷ decimal (length f.payload) ∷ [])
@@ -31,8 +27,8 @@ call_line f bytes = line (codes "frame" ∷ decimal f.kind ∷ decimal f.method 
 
 -- the line of a frame
 pub data IsLineOf (T : Table) (f : Frame) (text : List ℕ) : Type 0 where
-  line_of_hello : f.kind ≡ hello → text ≡ hello_line f → IsLineOf T f text
-  line_of_call : (t : Node) → f.kind ≢ hello → f.method < length T.methods → Means T (message_in T f) f.payload t
+  line_of_hello : f.kind ≡ HELLO → text ≡ hello_line f → IsLineOf T f text
+  line_of_call : (t : Node) → f.kind ≢ HELLO → f.method < length T.methods → Means T (message_in T f) f.payload t
       → text ≡ call_line f (encoding T (message_in T f) t) → IsLineOf T f text
 
 -- the text is the lines of the frames, in order
@@ -44,9 +40,9 @@ AreLinesOf T (f ∷ fs) text = (first : List ℕ) × (rest : List ℕ) × IsLine
 -- The fault of a frame, as it is printed: its place in the stream and a word. A method that the table lacks is at
 -- fault at the method's first byte, and counts before the payload.
 pub data IsFaultIn (T : Table) (f : Frame) (place : ℕ) (word : List ℕ) : Type 0 where
-  no_method : f.kind ≢ hello → length T.methods ≤ f.method → place ≡ f.place + METHOD_PLACE → word ≡ codes "NoMethod"
+  no_method : f.kind ≢ HELLO → length T.methods ≤ f.method → place ≡ f.place + METHOD_PLACE → word ≡ codes "NoMethod"
       → IsFaultIn T f place word
-  in_payload : (reason : DecodeReason) (at : ℕ) → f.kind ≢ hello → f.method < length T.methods
+  in_payload : (reason : DecodeReason) (at : ℕ) → f.kind ≢ HELLO → f.method < length T.methods
       → IsFirstFault T (message_in T f) f.payload reason at → place ≡ f.place + HEADER_LEN + at
       → word ≡ reason_word reason → IsFaultIn T f place word
 

@@ -25,9 +25,9 @@ use whole_input::INPUT_LIMIT;
 // Why an audit isn't judged.
 #[derive(Drop, Clone, Copy)]
 enum AuditFailure {
-    /// The input has its first fault on this line; this is the word of its reason.
+    // The input has its first fault on this line; this is the word of its reason.
     At { line: u64, word: &'static str },
-    /// No memory was found.
+    // No memory was found.
     Memory,
 }
 

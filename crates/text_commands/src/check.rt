@@ -38,9 +38,9 @@ pub enum Spot {
 // Why a text has no table.
 #[derive(Drop, Clone, Copy)]
 enum CheckFault {
-    /// The text has its first fault here; this is the word of its reason.
+    // The text has its first fault here; this is the word of its reason.
     At { spot: Spot, word: &'static str },
-    /// No memory was found.
+    // No memory was found.
     Memory,
 }
 

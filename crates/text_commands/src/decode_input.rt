@@ -16,7 +16,7 @@ const SECOND_LINE: &[u8] = b"table\n";
 
 const HEAD: &[u8] = b"mrpc-decode 1\ntable\n";
 
-/// The table that an input's text has, and the stream behind it.
+// The table that an input's text has, and the stream behind it.
 pub(crate) fn read_head(alloc: Global, text: &[u8]) -> Result<(Table, &[u8]), Cut>
     requires short { length text.now < 2 ^ 63 }
     ensures read { IfOk result (λ parts. Holds text.now parts.0 parts.1.now) }

@@ -6,8 +6,9 @@ ghost use Rattle.mrpc_base.specs.Faults.{HasCause};
 ghost use Rattle.mrpc_table.specs.Valid.{IsValid};
 ghost use Rattle.frame_transport.specs.Frames.{IsFrame};
 ghost use Rattle.frame_transport.specs.Standing.{frame_of};
+ghost use Rattle.frame_transport.specs.declared.format.TheConstants.{HELLO};
 ghost use Rattle.text_commands.specs.DecodeInput.{OnFault};
-ghost use Rattle.text_commands.specs.Decoding.{IsLineOf, IsFaultIn, IsFaultOfHeader, IsDecoded, IsCutAt, hello, hello_line, call_line};
+ghost use Rattle.text_commands.specs.Decoding.{IsLineOf, IsFaultIn, IsFaultOfHeader, IsDecoded, IsCutAt, hello_line, call_line};
 ghost use Rattle.frame_transport.specs.Messages.{message_in};
 ghost use Rattle.text_commands.specs.Telling.{Tells, TellsEarly};
 
@@ -24,15 +25,15 @@ use wire_encode::{Output, encode_into};
 // How many bytes of lines are gathered at the least before they are written.
 const PIECE: usize = 65_536;
 
-/// Why a decoding stops before the end of its input.
+// Why a decoding stops before the end of its input.
 #[derive(Drop, Clone, Copy)]
 pub(crate) enum Cut {
-    /// The input has a fault at this place, a line of the text or a byte of the stream; this is the word
-    /// of its reason.
+    // The input has a fault at this place, a line of the text or a byte of the stream; this is the word
+    // of its reason.
     Fault { place: u64, word: &'static str },
-    /// No memory was found.
+    // No memory was found.
     Memory,
-    /// A write failed.
+    // A write failed.
     Out,
 }
 
@@ -47,7 +48,7 @@ impl From<Memory> for Cut {
     }
 }
 
-/// Writes the line of each frame of a stream, up to the first fault.
+// Writes the line of each frame of a stream, up to the first fault.
 pub(crate) fn decode_stream<K: Sink>(
     alloc: Global,
     table: &Table,
@@ -234,7 +235,7 @@ fn tell_call(
     requires valid { IsValid table.now }
     requires frame { IsFrame (frame_of frame.now) }
     requires near { frame.now.place < 2 ^ 63 }
-    requires call { frame.now.kind ≢ hello }
+    requires call { frame.now.kind ≢ HELLO }
     requires known { frame.now.method < length table.now.methods }
     ensures told { OnOk result ((text : List ℕ) × IsLineOf table.now (frame_of frame.now) text
         × (lines.new ≡ lines.old ++ text)) }

@@ -12,7 +12,7 @@ use schema_resolve::{one_offence, one_table, table_or_offence};
 use table_text::{one_fault as one_table_fault, one_table_behind, one_text, table_or_fault};
 use wire_decode::{meaning_or_fault, one_fault, one_meaning};
 
-/// What holds of the text of a table within a text.
+// What holds of the text of a table within a text.
 pub(crate) fn text_law()
     ensures { TextLaw }
 {
@@ -22,7 +22,7 @@ pub(crate) fn text_law()
     table_or_fault();
 }
 
-/// What holds of frames and streams.
+// What holds of frames and streams.
 pub(crate) fn frame_law()
     ensures { FrameLaw }
 {
@@ -31,7 +31,7 @@ pub(crate) fn frame_law()
     frames_join();
 }
 
-/// What holds of the meaning of payloads, and of the frames that they stand in.
+// What holds of the meaning of payloads, and of the frames that they stand in.
 pub(crate) fn meaning_law()
     ensures { MeaningLaw }
 {
@@ -41,7 +41,7 @@ pub(crate) fn meaning_law()
     meaning_or_fault();
 }
 
-/// What holds of proto files and their tables.
+// What holds of proto files and their tables.
 pub(crate) fn file_law()
     ensures { FileLaw }
 {
@@ -54,7 +54,7 @@ pub(crate) fn file_law()
     table_or_offence();
 }
 
-/// What holds of sets of files and their tables.
+// What holds of sets of files and their tables.
 pub(crate) fn set_law()
     ensures { SetLaw }
 {
@@ -64,7 +64,7 @@ pub(crate) fn set_law()
     table_or_files_fault();
 }
 
-/// What holds of the input of `audit`, and of the text in it.
+// What holds of the input of `audit`, and of the text in it.
 pub(crate) fn audit_law()
     ensures { AuditLaw }
 {
@@ -72,7 +72,7 @@ pub(crate) fn audit_law()
     a_text_has_one_answer();
 }
 
-/// What holds of the lines of an audit that are named.
+// What holds of the lines of an audit that are named.
 pub(crate) fn near_law()
     ensures { NearLaw }
 {}

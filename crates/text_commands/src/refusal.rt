@@ -24,7 +24,7 @@ pub fn refuse<K: Sink>(alloc: Global, place: u64, word: &[u8], out: &mut K) -> u
     refuse_at(alloc, Spot::Line(place), word, out)
 }
 
-/// Writes the line of a fault.
+// Writes the line of a fault.
 pub(crate) fn refuse_at<K: Sink>(alloc: Global, spot: Spot, word: &[u8], out: &mut K) -> u8
     ensures statuses { (result ≡ FAULTY_INPUT) ⊎ ((result ≡ NO_MEMORY) ⊎ (result ≡ OUTPUT_FAILED)) }
     ensures written { result ≡ FAULTY_INPUT

@@ -13,7 +13,7 @@ use mrpc_table::Memory;
 use std::alloc::Global;
 use std::collections::BTreeMap;
 
-/// The calls of a row's happenings, in the order in which they were taken.
+// The calls of a row's happenings, in the order in which they were taken.
 pub(crate) fn bars_of<'a>(alloc: Global, events: &[Event<'a>]) -> Result<Vec<Bar<'a>>, Memory>
     requires { length events.now ≤ MAX_TEXT }
     ensures bars { IfOk result (λ bs. map bar bs.items ≡ bars_from 0 (all_told events.now)) }

@@ -14,7 +14,7 @@ use crate::shape::{put_bar, put_mark, x_of, y_of};
 use mrpc_table::{Bytes, Memory};
 use std::alloc::Global;
 
-/// Draws rows, each below the one before it.
+// Draws rows, each below the one before it.
 pub(crate) fn draw(alloc: Global, rows: &[Row<'_>]) -> Result<Bytes, Memory>
     requires { length rows.now ≤ MAX_TEXT }
     ensures drawn { IfOk result (λ svg. svg ≡ drawing (map row_view rows.now)) }

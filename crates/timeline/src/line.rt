@@ -8,29 +8,29 @@ ghost use Rattle.timeline.specs.Views.{happening, told_by};
 use mrpc_table::{Decimal, Memory, cut, is_word, number_of};
 use std::alloc::Global;
 
-/// What a line tells of a connection.
+// What a line tells of a connection.
 #[derive(Clone, Copy)]
 pub(crate) struct Event<'a> {
     pub conn: u64,
     pub what: What<'a>,
 }
 
-/// What happened.
+// What happened.
 #[derive(Clone, Copy)]
 pub(crate) enum What<'a> {
-    /// A call was taken.
+    // A call was taken.
     Took { seq: u64, method: u64 },
-    /// A call was sent.
+    // A call was sent.
     Sent { seq: u64 },
-    /// A call was refused, for this cause.
+    // A call was refused, for this cause.
     Refused { seq: u64, cause: &'a [u8] },
-    /// An operator's step, in its words.
+    // An operator's step, in its words.
     Step { words: &'a [u8] },
-    /// A moment of the clock, in its words.
+    // A moment of the clock, in its words.
     Moment { words: &'a [u8] },
 }
 
-/// What the lines of a text tell, in their order.
+// What the lines of a text tell, in their order.
 pub(crate) fn events_of(alloc: Global, text: &[u8]) -> Result<Vec<Event<'_>>, Memory>
     ensures told { IfOk result (λ es. map happening es.items ≡ happenings_of text.now) }
     ensures few { IfOk result (λ es. vec_len es ≤ length text.now) }

@@ -11,7 +11,7 @@ use crate::part::Mark;
 use mrpc_table::Memory;
 use std::alloc::Global;
 
-/// The marks of a row's happenings, in order.
+// The marks of a row's happenings, in order.
 pub(crate) fn marks_of<'a>(alloc: Global, events: &[Event<'a>]) -> Result<Vec<Mark<'a>>, Memory>
     requires { length events.now ≤ MAX_TEXT }
     ensures { IfOk result (λ ms. map mark ms.items ≡ marks_from 0 (all_told events.now)) }

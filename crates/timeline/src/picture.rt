@@ -13,7 +13,7 @@ use mrpc_table::{Bytes, Memory};
 use std::alloc::Global;
 use std::marker::Model;
 
-/// Bytes that a terminal shows. Clauses see a list of bytes.
+// Bytes that a terminal shows. Clauses see a list of bytes.
 #[derive(Drop)]
 pub(crate) struct Picture {
     bytes: Bytes,
@@ -31,7 +31,7 @@ impl Model for Picture {
 }
 
 impl Picture {
-    /// Nothing is drawn yet.
+    // Nothing is drawn yet.
     pub(crate) fn new(alloc: Global) -> Picture
         ensures { result ≡ [] }
     {
@@ -40,7 +40,7 @@ impl Picture {
         }
     }
 
-    /// The bytes.
+    // The bytes.
     pub(crate) fn into_bytes(self) -> Bytes
         ensures same { result ≡ self }
         ensures plain { IsPlain result }
@@ -48,7 +48,7 @@ impl Picture {
         self.bytes
     }
 
-    /// Appends pieces, one behind another.
+    // Appends pieces, one behind another.
     #[tactic(auto, unfolding(crate::specs::Pieces::svg))]
     pub(crate) fn put(&mut self, pieces: &[Piece<'_>]) -> Result<(), Memory>
         requires { ArePlain (map piece_view pieces.now) }

@@ -14,7 +14,7 @@ use crate::part::Row;
 use mrpc_table::Memory;
 use std::alloc::Global;
 
-/// The rows of what happened, by ascending connection.
+// The rows of what happened, by ascending connection.
 pub(crate) fn rows_of<'a>(alloc: Global, events: Vec<Event<'a>>) -> Result<Vec<Row<'a>>, Memory>
     requires { vec_len events ≤ MAX_TEXT }
     ensures rows { IfOk result (λ rs. AreRows (map happening events.entry.items) (map row rs.items)) }

@@ -8,21 +8,21 @@ use crate::span::Span;
 // Where a scan of a list is.
 #[derive(Clone, Copy)]
 enum Scan {
-    /// In front of the list.
+    // In front of the list.
     Before,
-    /// Between two of its texts.
+    // Between two of its texts.
     Between,
     Comment,
-    /// In a text that began at a place.
+    // In a text that began at a place.
     Basic(usize),
-    /// Behind the backslash of such a text.
+    // Behind the backslash of such a text.
     Escaped(usize),
-    /// In a text in single quotation marks that began at a place.
+    // In a text in single quotation marks that began at a place.
     Literal(usize),
 }
 
-/// Where the text of a number stands, from 1, in the list that begins behind a place; none where the list has fewer. One
-/// that is spelled over lines counts as several.
+// Where the text of a number stands, from 1, in the list that begins behind a place; none where the list has fewer. One
+// that is spelled over lines counts as several.
 pub(crate) fn item_of(text: &[u8], from: usize, number: u64) -> Option<Span>
     ensures { IfSome result (IsWithin text.now) }
 {

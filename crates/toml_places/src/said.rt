@@ -6,7 +6,7 @@ use scenario_values::{tables_at, texts_at};
 use std::alloc::Global;
 use toml::{Table, table_from_slice};
 
-/// Whether a text is TOML with so many entries in the list of an entry.
+// Whether a text is TOML with so many entries in the list of an entry.
 pub(crate) fn has_entries(
     alloc: Global,
     text: &[u8],
@@ -22,7 +22,7 @@ pub(crate) fn has_entries(
     }
 }
 
-/// Whether a text is TOML whose last entry in the list of an entry has as many texts at its key as are looked for.
+// Whether a text is TOML whose last entry in the list of an entry has as many texts at its key as are looked for.
 pub(crate) fn has_texts(alloc: Global, text: &[u8], sought: Sought<'_>) -> Result<bool, Memory> {
     let Some(all) = table_in(alloc, text)? else {
         return Ok(false);

@@ -10,7 +10,7 @@ pub struct Span {
     pub end: usize,
 }
 
-/// From a place to the end of its line.
+// From a place to the end of its line.
 pub(crate) fn line_from(text: &[u8], start: usize) -> Span
     requires { start ≤ length text.now }
     ensures { IsWithin text.now result }

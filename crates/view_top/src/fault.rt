@@ -14,7 +14,7 @@ use std::alloc::Global;
 // How many bytes of a line of the input are shown beside its fault.
 const WIDTH: usize = 100;
 
-/// Writes the line of a fault at a place or on a line, and on `error` what stands against the text there.
+// Writes the line of a fault at a place or on a line, and on `error` what stands against the text there.
 pub(crate) fn refuse<K: Sink, E: Sink>(
     alloc: Global,
     text: &[u8],

@@ -30,12 +30,6 @@ groups-step i n h large =
     let e : 9 - i ≡ suc (9 - (i + 1)) = omega arith in
     ap (λ m. groups m n) e ∙ groups-large (9 - (i + 1)) n large
 
-pub groups-step_len : (i n : ℕ) → i < 10 → 1 ≤ i → 128 ≤ n → length (groups (10 - i) n) ≡ 1 + length (groups (10 - (i + 1)) (n / 128))
-groups-step_len i n h from large =
-    let e : 10 - i ≡ suc (10 - (i + 1)) = omega arith in
-    let f = ap length (ap (λ m. groups m n) e ∙ groups-large (10 - (i + 1)) n large) in
-    omega (arith, f)
-
 -- the number that is left stays below what is written behind it
 pub rest-small : (i n v : ℕ) → n * 128 ^ i ≤ v → n / 128 * 128 ^ (i + 1) ≤ v
 rest-small i n v h =
@@ -105,9 +99,6 @@ VarintAt-last bytes at i b v from near within is low top value = record {
     value = value;
   };
 }
-
-pub length-groups-end : (i n : ℕ) → 10 ≤ i → length (groups (10 - i) n) ≡ 1
-length-groups-end i n h = ap (λ m. length (groups m n)) (let e : 10 - i ≡ 0 = omega arith in e) ∙ ap length (groups-last n)
 
 -- the bytes that were written, and one more behind them
 pub groups-written : (bytes : List ℕ) (i b n m v : ℕ) → i < 9 → i < length bytes → 128 ≤ n → b ≡ n % 128 + 128

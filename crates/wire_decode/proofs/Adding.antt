@@ -1,5 +1,5 @@
 -- One content more among the contents of fields.
-use Rattle.std.proofs.Common.{◌≡◌, ◌≢◌, ℕ, ◌<◌, ◌≤◌, List, [], ◌∷◌, ◌++◌, Some, refl, ap, sym, subst, ◌∙◌, arith, append_assoc, ⊎_elim}
+use Rattle.std.proofs.Common.{◌≡◌, ◌≢◌, ℕ, ◌<◌, ◌≤◌, List, [], ◌∷◌, ◌++◌, Some, ap, sym, subst, ◌∙◌, arith, append_assoc, ⊎_elim}
 use Rattle.std.proofs.lemmas.Bool.Decides.{nat_tests, eqb_tells}
 use Rattle.mrpc_table.specs.Node.{Node, no_fields, field, Content, push_field, NumbersAscend}
 use Rattle.wire_decode.specs.Merged.{contents_of, field_content}
@@ -90,15 +90,6 @@ most-last : (n m : ℕ) (c : Content) (t : Node) → NumbersAreAtMost n (push_fi
 most-last n m c no_fields h = h.0
 most-last n m c (field k d t) h = most-last n m c t h.1
 
--- a content of a number that no content had
-pub added-first : (form : Form) (n : ℕ) (c : Content) → HasOneMore form no_fields n c (field n c no_fields)
-added-first form n c = record {
-  others = λ m h. contents-other m n c no_fields h;
-  same = λ label k e inner after. ap (λ cs. field_content inner label k (cs ++ after)) (contents-here n c no_fields);
-  rise = λ h a. tt;
-  most = λ m le h. (le, tt);
-}
-
 same-after : (cs : List Content) (c : Content) (after : List Content) → (cs ++ c ∷ []) ++ after ≡ cs ++ c ∷ after
 same-after cs c after = append_assoc cs (c ∷ []) after
 
@@ -133,9 +124,6 @@ added-at form old old' n c new new' e f h =
 most-split : (m n : ℕ) (c : Content) (t : Node) → NumbersAreAtMost m (push_field t n c) → (n ≤ m) × NumbersAreAtMost m t
 most-split m n c no_fields h = (h.0, tt)
 most-split m n c (field k d t) h = let rest = most-split m n c t h.1 in (rest.0, (h.0, rest.1))
-
-pub gathered-start : (fs : List Field) → IsGathered fs no_fields no_fields
-gathered-start fs = record { rise = tt; most = λ m h. tt; same = λ n f at inner after. refl }
 
 pub gathered-more : (fs : List Field) (raw held new : Node) (n : ℕ) (c : Content) (form : Form)
     → IsGathered fs raw held → ((f : Field) → field_at fs n ≡ Some f → form ≡ form_of f.label f.kind)

@@ -4,7 +4,7 @@ use Rattle.std.proofs.Common.{None, false, refl, ap, sym, subst, ◌∙◌, arit
 use Rattle.std.specs.Option.{option_and_then, unwrap_or}
 use Rattle.std.proofs.lemmas.Bool.Decides.{nat_tests, eqb_tells}
 use Rattle.std.proofs.lemmas.Bool.{cases_lt}
-use Rattle.mrpc_table.specs.Node.{Node, no_fields, field, Content, one, many, pairs, Item, item, push_field, NumbersAscend}
+use Rattle.mrpc_table.specs.Node.{Node, no_fields, field, Content, many, pairs, Item, item, push_field, NumbersAscend}
 use Rattle.mrpc_table.specs.View.{item_of, items_of, pairs_of}
 use Rattle.mrpc_table.specs.Normal.{fields_of, field_at}
 use Rattle.mrpc_table.specs.declared.tree.Value.{Value}
@@ -23,7 +23,7 @@ use Rattle.wire_decode.specs.Merged.{field_content}
 use Rattle.wire_decode.specs.Merged.{with_fields, counted, merged}
 use Rattle.wire_decode.specs.NumberOrder.{NumbersRise}
 use Rattle.wire_decode.specs.Finished.{finish_at, finished_of}
-use Rattle.wire_decode.specs.EntryParts.{MeansAll, IsWithOneMore, found_part}
+use Rattle.wire_decode.specs.EntryParts.{MeansAll, found_part}
 use Rattle.wire_decode.specs.Gathered.{IsGathered}
 use Rattle.wire_decode.proofs.Adding.{contents-here, contents-other}
 use Rattle.wire_decode.proofs.Gathering.{singles_in-append}
@@ -64,14 +64,6 @@ singular-none inner _ = refl
 pub part-all : (inner : ℕ → Node → Node) (k : Kind) (is : List Item) (o : Option Item) → MeansAll k is o → found_part inner k o ≡ unwrap_or (singular inner k is) (default_of k)
 part-all inner k is None h = sym (ap (λ x. unwrap_or x (default_of k)) (ap (singular inner k) h ∙ singular-none inner k))
 part-all inner k is (Some v) h = ap (λ o. unwrap_or o (default_of k)) (sym (singular-one inner k v) ∙ h inner [] ∙ ap (singular inner k) (append-nil is))
-
-again : (is : List Item) (i : Item) (after : List Item) → (is ++ i ∷ []) ++ after ≡ is ++ i ∷ after
-again [] i after = refl
-again (j ∷ is) i after = ap (λ xs. j ∷ xs) (again is i after)
-
-pub means-more : (k : Kind) (is : List Item) (o : Option Item) (i v : Item) → MeansAll k is o → IsWithOneMore k o i v → MeansAll k (is ++ i ∷ []) (Some v)
-means-more k is None i v h w inner after = ap (λ x. singular inner k (x ∷ after)) w ∙ ap (λ xs. singular inner k ((xs ++ i ∷ []) ++ after)) (sym h)
-means-more k is (Some b) i v h w inner after = w inner after ∙ h inner (i ∷ after) ∙ ap (singular inner k) (sym (again is i after))
 
 -- the fields by ascending number, each with one content
 rise-above : (m n : ℕ) (t : Node) → NumbersAscend n t → m ≤ n → contents_of m t ≡ []
@@ -274,13 +266,6 @@ finished-pushed inner fs n c (field m d t) =
     with-join m None t u = refl
     with-join m (Some c) t u = refl
 
-pub finish-found : (inner : ℕ → Node → Node) (fs : List Field) (n : ℕ) (c : Content) (f : Field)
-    → field_at fs n ≡ Some f → finish_at inner fs n c ≡ field_content inner f.label f.kind (c ∷ [])
-finish-found inner fs n c f e = ap (option_and_then (λ f. field_content inner f.label f.kind (c ∷ []))) e
-
-pub finish-none : (inner : ℕ → Node → Node) (fs : List Field) (n : ℕ) (c : Content) → field_at fs n ≡ None → finish_at inner fs n c ≡ None
-finish-none inner fs n c e = ap (option_and_then (λ f. field_content inner f.label f.kind (c ∷ []))) e
-
 pub contents-more : (m n : ℕ) (c : Content) (t : Node) → contents_of m (push_field t n c) ≡ contents_of m t ++ contents_of m (field n c no_fields)
 contents-more m n c no_fields = refl
 contents-more m n c (field k d t) =
@@ -294,30 +279,6 @@ contents-more m n c (field k d t) =
 
 pub singles-more : (m n : ℕ) (c : Content) (t : Node) → singles_in (contents_of m (push_field t n c)) ≡ singles_in (contents_of m t) ++ singles_in (contents_of m (field n c no_fields))
 singles-more m n c t = ap singles_in (contents-more m n c t) ∙ singles_in-append (contents_of m t) (contents_of m (field n c no_fields))
-
--- the contents of an entry's part, with one content more
-pub noted-other : (m n : ℕ) (c : Content) (k : Kind) (o : Option Item) → m ≢ n → (is : List Item) → MeansAll k is o
-    → MeansAll k (is ++ singles_in (contents_of m (field n c no_fields))) o
-noted-other m n c k o h is g = let P : List Item → Type 0 = λ xs. MeansAll k xs o in subst P (sym (ap (λ cs. is ++ singles_in cs) (contents-other m n c no_fields h) ∙ append-nil is)) g
-
-pub noted-none : (m n : ℕ) (c : Content) (k : Kind) (o : Option Item) → singles_in (c ∷ []) ≡ [] → (is : List Item)
-    → MeansAll k is o → MeansAll k (is ++ singles_in (contents_of m (field n c no_fields))) o
-noted-none m n c k o h is g =
-    let none : singles_in (contents_of m (field n c no_fields)) ≡ [] = ⊎_elim
-    (λ s. let P : ℕ → Type 0 = λ x. singles_in (contents_of m (field x c no_fields)) ≡ [] in subst P (sym s.1) (ap singles_in (contents-here m c no_fields) ∙ h))
-    (λ s. ap singles_in (contents-other m n c no_fields (λ z. s.1 (sym z))))
-    (eqb_tells n m) in
-    let P : List Item → Type 0 = λ xs. MeansAll k xs o in subst P (sym (ap (λ xs. is ++ xs) none ∙ append-nil is)) g
-
-pub noted-same : (m n : ℕ) (c : Content) (i v : Item) (k : Kind) (o : Option Item) → n ≡ m → c ≡ one i
-    → IsWithOneMore k o i v → (is : List Item) → MeansAll k is o
-    → MeansAll k (is ++ singles_in (contents_of m (field n c no_fields))) (Some v)
-noted-same m n c i v k o e is_c w is g =
-    let here : singles_in (contents_of m (field n c no_fields)) ≡ i ∷ [] =
-    (let P : ℕ → Type 0 = λ x. singles_in (contents_of m (field x c no_fields)) ≡ i ∷ [] in
-    subst P (sym e) (ap singles_in (contents-here m c no_fields) ∙ ap (λ x. singles_in (x ∷ [])) is_c)) in
-    let P : List Item → Type 0 = λ xs. MeansAll k (is ++ xs) (Some v) in
-    subst P (sym here) (means-more k is o i v g w)
 
 pub push-join : (t : Node) (n : ℕ) (c : Content) → push_field t n c ≡ join_fields t (field n c no_fields)
 push-join no_fields n c = refl

@@ -1,7 +1,6 @@
 -- Which records of a oneof count.
-use Rattle.std.proofs.Common.{◌≡◌, ◌≢◌, ◌==◌, ◌&&◌, ◌||◌, ℕ, zero, suc, List, [], ◌∷◌, ◌++◌, get_or, Option, Some}
-use Rattle.std.proofs.Common.{None, Bool, true, false, not, cond, refl, ap, sym, subst, ◌∙◌, arith, ⊎_elim}
-use Rattle.std.proofs.lemmas.Bool.Decides.{nat_tests, eqb_tells}
+use Rattle.std.proofs.Common.{◌≡◌, ◌==◌, ◌&&◌, ◌||◌, ℕ, List, [], ◌∷◌, ◌++◌, Option, Some}
+use Rattle.std.proofs.Common.{None, Bool, true, false, not, cond, refl, ap, sym, ◌∙◌}
 use Rattle.std.specs.Option.{option_and_then, is_some}
 use Rattle.std.specs.Prelude.{reverse}
 use Rattle.std.proofs.lemmas.List.{reverse-append}
@@ -13,43 +12,11 @@ use Rattle.mrpc_table.specs.declared.table.Field.{Field}
 use Rattle.wire_decode.specs.Oneofs.{oneof_of, oneof_at, is_same, are_rivals}
 use Rattle.wire_decode.specs.Merged.{is_overtaken, counted}
 use Rattle.wire_decode.specs.declared.oneof.Behind.{Behind}
-use Rattle.wire_decode.specs.declared.oneof.Behind.TheVariants.{Nothing, Only, Several}
-use Rattle.wire_decode.specs.Behind.{overtakes, IsInFront, IsNotedAt, TellsOvertaken, HasNoMember, SaysIfCounted}
+use Rattle.wire_decode.specs.Behind.{TellsOvertaken, HasNoMember, SaysIfCounted}
 
 pub and-false : (b : Bool) → (b && false) ≡ false
 and-false true = refl
 and-false false = refl
-
-and-true : (b : Bool) → (b && true) ≡ b
-and-true true = refl
-and-true false = refl
-
-or-false : (b : Bool) → (b || false) ≡ b
-or-false true = refl
-or-false false = refl
-
-or-true : (b : Bool) → (b || true) ≡ true
-or-true true = refl
-or-true false = refl
-
-pub front-nothing : (m : ℕ) → IsInFront Nothing m (Only m)
-front-nothing m n = sym (or-false (not (m == n)))
-
-pub front-same : (k m : ℕ) → k ≡ m → IsInFront (Only k) m (Only m)
-front-same k m e n = grind (arith, nat_tests)
-
-pub front-several : (k m : ℕ) → k ≢ m → IsInFront (Only k) m Several
-front-several k m e n = grind (arith, nat_tests)
-
-pub front-more : (m : ℕ) → IsInFront Several m Several
-front-more m n = sym (or-true (not (m == n)))
-
--- a place that is made for a oneof has nothing
-pub get_or-grown : (bs : List Behind) (p : ℕ) → get_or (bs ++ Nothing ∷ []) p Nothing ≡ get_or bs p Nothing
-get_or-grown [] zero = refl
-get_or-grown [] (suc p) = refl
-get_or-grown (b ∷ bs) zero = refl
-get_or-grown (b ∷ bs) (suc p) = get_or-grown bs p
 
 -- of no oneof, of none's rivals
 rivals-none : (fs : List Field) (n m : ℕ) → oneof_at fs n ≡ None → are_rivals fs n m ≡ false
@@ -62,29 +29,10 @@ overtaken-none fs n (field m c t) e = ap (λ b. b || is_overtaken fs n t) (rival
 rivals-other : (fs : List Field) (n m p : ℕ) → oneof_at fs n ≡ Some p → oneof_at fs m ≡ None → are_rivals fs n m ≡ false
 rivals-other fs n m p e f = ap (λ o. not (m == n) && is_same o (oneof_at fs m)) e ∙ ap (λ o. not (m == n) && is_same (Some p) o) f ∙ and-false (not (m == n))
 
-rivals-both : (fs : List Field) (n m p o : ℕ) → oneof_at fs n ≡ Some p → oneof_at fs m ≡ Some o → are_rivals fs n m ≡ (not (m == n) && (p == o))
-rivals-both fs n m p o e f = ap (λ x. not (m == n) && is_same x (oneof_at fs m)) e ∙ ap (λ x. not (m == n) && is_same (Some p) x) f
-
 pub counted-other : (fs : List Field) (bs : List Behind) (n : ℕ) → oneof_at fs n ≡ None → SaysIfCounted fs bs n bs true
 counted-other fs bs n e = record {
   counts = λ t h. sym (ap not (overtaken-none fs n t e));
   tells = λ t c h k p at. h k p at ∙ sym (ap (λ b. b || is_overtaken fs k t) (rivals-other fs k n p at e));
-}
-
-pub counted-member : (fs : List Field) (old new : List Behind) (n o : ℕ) (b : Bool) → oneof_at fs n ≡ Some o
-    → IsNotedAt old o n new → b ≡ not (overtakes (get_or old o Nothing) n) → SaysIfCounted fs old n new b
-counted-member fs old new n o b e noted is = record {
-  counts = λ t h. is ∙ ap not (h n o e);
-  tells = λ t c h k p at.
-      let rivals = rivals-both fs k n p o at e in
-      ⊎_elim
-      (λ s. let P : ℕ → Type 0 = λ x. oneof_at fs k ≡ Some x → overtakes (get_or new x Nothing) k ≡ (not (n == k) || is_overtaken fs k t) in
-      let here : P o = λ at_o. noted.here k ∙ ap (λ x. not (n == k) || x) (h k o at_o) in
-      (subst P (sym s.1) here) at ∙ sym (ap (λ x. x || is_overtaken fs k t) (rivals ∙ ap (λ x. not (n == k) && x) s.0 ∙ and-true (not (n == k)))))
-      (λ s. ap (λ x. overtakes x k) (noted.others p s.1) ∙ h k p at
-      ∙ sym (ap (λ x. x || is_overtaken fs k t) (rivals ∙ ap (λ x. not (n == k) && x) s.0
-      ∙ and-false (not (n == k)))))
-      (eqb_tells p o);
 }
 
 pub tell-none : (fs : List Field) → TellsOvertaken fs [] no_fields
@@ -114,9 +62,6 @@ member-pushed fs n c (field m d t) e h = (h.0, member-pushed fs n c t e h.1)
 
 pub oneof-found : (fs : List Field) (n : ℕ) (f : Field) → field_at fs n ≡ Some f → oneof_at fs n ≡ oneof_of f.label
 oneof-found fs n f e = ap (option_and_then (λ f. oneof_of f.label)) e
-
-pub oneof-absent : (fs : List Field) (n : ℕ) → field_at fs n ≡ None → oneof_at fs n ≡ None
-oneof-absent fs n e = ap (option_and_then (λ f. oneof_of f.label)) e
 
 pub none-of : (o : Option ℕ) → is_some o ≡ false → o ≡ None
 none-of None h = refl

@@ -25,8 +25,5 @@ pub run-plain : (k : Kind) (bytes : List ℕ) → IsRun k bytes → is_message k
 run-plain (OfMessage i) bytes h = absurd h
 run-plain _ bytes h = refl
 
-both-kinds : (k : Kind) (n : ℕ) (bytes : List ℕ) → IsWordForm k n → IsRun k bytes → ⊥
-both-kinds k n bytes a b = let h : true ≡ false = sym (word-numeric k n a) ∙ run-not_numeric k bytes b in cc
-
 pub not_message : (k : Kind) (i : ℕ) → is_message k ≡ false → k ≡ OfMessage i → ⊥
 not_message k i plain e = let h : false ≡ true = sym plain ∙ ap is_message e in cc

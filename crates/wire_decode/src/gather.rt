@@ -10,19 +10,19 @@ ghost use Rattle.wire_decode.specs.Gathered.{HasOneMore};
 use mrpc_table::{FieldValue, Kind, Label, Memory, Numbered, Tree, Value, Values};
 use std::alloc::Global;
 
-/// How the contents of a field's records become one.
+// How the contents of a field's records become one.
 #[derive(Clone, Copy)]
-pub enum Form {
-    /// All values count, in order.
+pub(crate) enum Form {
+    // All values count, in order.
     Listed,
-    /// The records of the messages are joined.
+    // The records of the messages are joined.
     Joined,
-    /// The last value counts.
+    // The last value counts.
     Last,
 }
 
-/// How the contents of a field become one.
-pub fn form_of(label: Label, kind: Kind) -> Form
+// How the contents of a field become one.
+pub(crate) fn form_of(label: Label, kind: Kind) -> Form
     ensures { result ≡ form_of label kind }
 {
     match label {
@@ -34,8 +34,8 @@ pub fn form_of(label: Label, kind: Kind) -> Form
     }
 }
 
-/// Adds a content to those of its number, which can only be the last ones.
-pub fn add(
+// Adds a content to those of its number, which can only be the last ones.
+pub(crate) fn add(
     alloc: Global,
     held: &mut Numbered,
     number: u32,
@@ -103,8 +103,8 @@ fn singles(before: FieldValue, content: FieldValue, is_message: bool) -> Result<
     }
 }
 
-/// Two values of a singular field in one: the last one, or the message of the records of both.
-pub fn joined_value(before: Value, value: Value, is_message: bool) -> Result<Value, Memory>
+// Two values of a singular field in one: the last one, or the message of the records of both.
+pub(crate) fn joined_value(before: Value, value: Value, is_message: bool) -> Result<Value, Memory>
     ensures { IfOk result (λ v. StandsForBoth is_message (item_of before) (item_of value) (item_of v)) }
 {
     if is_message {
@@ -137,8 +137,8 @@ fn joined_tree(tree: Tree, more: Tree) -> Result<Tree, Memory>
     Ok(Tree { fields })
 }
 
-/// The values of a content as a list.
-pub fn values_of(alloc: Global, content: FieldValue) -> Result<Values, Memory>
+// The values of a content as a list.
+pub(crate) fn values_of(alloc: Global, content: FieldValue) -> Result<Values, Memory>
     ensures { IfOk result (λ vs. map item_of vs.items ≡ values_in (content_of content ∷ [])) }
 {
     match content {

@@ -108,8 +108,8 @@ pub fn rules_and_reader_agree()
     record_or_fault();
 }
 
-/// The records of bytes are merged to one message, and have no fault then.
-pub fn one_merging()
+// The records of bytes are merged to one message, and have no fault then.
+pub(crate) fn one_merging()
     ensures one { (T : Table) (msg : ℕ) (bytes : List ℕ) (t u : Node) → Merges T msg bytes t → Merges T msg bytes u
         → t ≡ u }
     ensures not_both { (T : Table) (msg : ℕ) (bytes : List ℕ) (t : Node) (reason : DecodeReason) (place : ℕ)

@@ -26,10 +26,10 @@ use mrpc_table::{
 };
 use std::alloc::Global;
 
-/// The message at a place of the table that the contents stand for, where at most `depth` messages
-/// stand in one another.
+// The message at a place of the table that the contents stand for, where at most `depth` messages
+// stand in one another.
 #[cycle(merge)]
-pub fn merged(
+pub(crate) fn merged(
     alloc: Global,
     raw: Numbered,
     table: &Table,
@@ -162,8 +162,8 @@ fn finish(
     }
 }
 
-/// Appends what a field has, if it has something.
-pub fn push_content(
+// Appends what a field has, if it has something.
+pub(crate) fn push_content(
     whole: &mut Numbered,
     number: u32,
     content: Option<FieldValue>,
@@ -217,8 +217,8 @@ fn field_content(
     }
 }
 
-/// The elements of a repeated field, if there is one.
-pub fn many(values: Values) -> Option<FieldValue>
+// The elements of a repeated field, if there is one.
+pub(crate) fn many(values: Values) -> Option<FieldValue>
     ensures { option_map content_of result ≡ some_items (map item_of values.items) }
 {
     if values.is_empty() {
@@ -228,8 +228,8 @@ pub fn many(values: Values) -> Option<FieldValue>
     }
 }
 
-/// The entries of a map, if there is one.
-pub fn pairs(entries: Entries) -> Option<FieldValue>
+// The entries of a map, if there is one.
+pub(crate) fn pairs(entries: Entries) -> Option<FieldValue>
     ensures { option_map content_of result ≡ some_pairs (pairs_of entries.items) }
 {
     if entries.is_empty() {
@@ -239,8 +239,8 @@ pub fn pairs(entries: Entries) -> Option<FieldValue>
     }
 }
 
-/// The value of a field with explicit presence.
-pub fn present(value: Option<Value>) -> Option<FieldValue>
+// The value of a field with explicit presence.
+pub(crate) fn present(value: Option<Value>) -> Option<FieldValue>
     ensures { option_map content_of result ≡ present (option_map item_of value) }
 {
     match value {
@@ -249,8 +249,8 @@ pub fn present(value: Option<Value>) -> Option<FieldValue>
     }
 }
 
-/// The value of a field with implicit presence: a default is nothing.
-pub fn present_if_set(value: Option<Value>) -> Option<FieldValue>
+// The value of a field with implicit presence: a default is nothing.
+pub(crate) fn present_if_set(value: Option<Value>) -> Option<FieldValue>
     ensures { option_map content_of result ≡ present_if_set (option_map item_of value) }
 {
     match value {

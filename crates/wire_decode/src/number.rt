@@ -8,8 +8,8 @@ ghost use Rattle.wire_decode.specs.Words.{word_of, sign_extended, unzigzag_of, i
 use mrpc_table::{Kind, Label};
 use wire_base::{Payload, unzigzag};
 
-/// The word of a number that was read.
-pub fn word_of(kind: Kind, v: u64) -> u64
+// The word of a number that was read.
+pub(crate) fn word_of(kind: Kind, v: u64) -> u64
     ensures { result ≡ word_of kind v }
 {
     match kind {
@@ -47,22 +47,22 @@ fn unzigzag_word(v: u64) -> u64
     unzigzag(v).cast_unsigned()
 }
 
-/// Whether a value of the kind is a message.
-pub fn is_message(kind: Kind) -> bool
+// Whether a value of the kind is a message.
+pub(crate) fn is_message(kind: Kind) -> bool
     ensures { result ≡ is_message kind }
 {
     matches!(kind, Kind::Message(_))
 }
 
-/// Whether a field of this label has any number of elements.
-pub fn is_list(label: Label) -> bool
+// Whether a field of this label has any number of elements.
+pub(crate) fn is_list(label: Label) -> bool
     ensures { result ≡ is_list label }
 {
     matches!(label, Label::Repeated | Label::Packed)
 }
 
-/// Whether a field is read from a payload of this wire type.
-pub fn suits(label: Label, kind: Kind, payload: Payload) -> bool
+// Whether a field is read from a payload of this wire type.
+pub(crate) fn suits(label: Label, kind: Kind, payload: Payload) -> bool
     ensures { result ≡ suits label kind payload }
 {
     let found = match payload {

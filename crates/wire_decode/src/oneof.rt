@@ -47,8 +47,8 @@ fn in_front(behind: Behind, number: u32) -> Behind
     }
 }
 
-/// The contents that count.
-pub fn counted(alloc: Global, raw: Numbered, fields: &[Field]) -> Result<Numbered, Memory>
+// The contents that count.
+pub(crate) fn counted(alloc: Global, raw: Numbered, fields: &[Field]) -> Result<Numbered, Memory>
     requires { FieldsAscend fields.now }
     ensures { IfOk result (λ kept. node_of kept.items ≡ counted fields.now (node_of raw.items)) }
 {

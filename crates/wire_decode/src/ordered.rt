@@ -28,10 +28,10 @@ use spare_trees::Spare;
 use std::alloc::Global;
 use wire_base::{read_delimited, read_tag};
 
-/// The fields of the message, from the place `start` to the end of the bytes, where its records come in order.
-/// `room` more messages may stand in one another inside. Vectors come from `spare` where it has some.
+// The fields of the message, from the place `start` to the end of the bytes, where its records come in order.
+// `room` more messages may stand in one another inside. Vectors come from `spare` where it has some.
 #[cycle(ordered)]
-pub fn ordered_message(
+pub(crate) fn ordered_message(
     alloc: Global,
     spare: &mut Spare,
     bytes: &[u8],

@@ -29,10 +29,10 @@ use wire_base::{
     read_varint,
 };
 
-/// The contents of the records of known fields, from the place `start` to the end of the bytes.
-/// `room` more messages may stand in one another inside.
+// The contents of the records of known fields, from the place `start` to the end of the bytes.
+// `room` more messages may stand in one another inside.
 #[cycle(read)]
-pub fn read_message(
+pub(crate) fn read_message(
     alloc: Global,
     bytes: &[u8],
     start: usize,
@@ -205,8 +205,8 @@ fn text(alloc: Global, bytes: &[u8], place: usize) -> Result<FieldValue, DecodeF
     octets(alloc, bytes)
 }
 
-/// Whether bytes are UTF-8. Mostly they are ASCII, which is soon seen.
-pub fn is_text(bytes: &[u8]) -> bool
+// Whether bytes are UTF-8. Mostly they are ASCII, which is soon seen.
+pub(crate) fn is_text(bytes: &[u8]) -> bool
     ensures yes { result ≡ true → IsUtf8 bytes.now }
     ensures no { result ≡ false → IsUtf8 bytes.now → ⊥ }
 {
@@ -234,8 +234,8 @@ fn packed(alloc: Global, bytes: &[u8], start: usize, kind: Kind) -> Result<Field
     Ok(FieldValue::Many(values))
 }
 
-/// The elements of a packed piece, in a vector that is empty so far.
-pub fn elements(
+// The elements of a packed piece, in a vector that is empty so far.
+pub(crate) fn elements(
     mut values: Values,
     bytes: &[u8],
     start: usize,
@@ -284,8 +284,8 @@ fn ends_of_varints(bytes: &[u8]) -> usize
     count
 }
 
-/// A number of the wire type at a place, and the place behind it.
-pub fn element(bytes: &[u8], at: usize, wire_type: u64) -> Option<(u64, usize)>
+// A number of the wire type at a place, and the place behind it.
+pub(crate) fn element(bytes: &[u8], at: usize, wire_type: u64) -> Option<(u64, usize)>
     requires place { at ≤ length bytes.now }
     requires fixed { IsFixedOrVarint wire_type }
     ensures found { IfSome result

@@ -1,19 +1,12 @@
 -- Bytes that are written in front of others.
-use Rattle.std.proofs.Common.{◌≡◌, ℕ, ◌+◌, ◌-◌, ◌<◌, List, ◌++◌, length, drop, get_or, ap, sym, ◌∙◌, arith, append_assoc}
+use Rattle.std.proofs.Common.{◌≡◌, ℕ, ◌+◌, ◌<◌, List, ◌++◌, length, drop, get_or, ap, sym, ◌∙◌, append_assoc}
 use Rattle.std.specs.List.{flat_map}
-use Rattle.std.proofs.lemmas.List.{drop_more, length-append}
-use Rattle.wire_base.specs.Encoding.{varint, delimited}
+use Rattle.std.proofs.lemmas.List.{drop_more}
 
 -- two writes, one in front of the other
 pub front_both : (front back old middle new : List ℕ) → middle ≡ back ++ old → new ≡ front ++ middle → new ≡ (front ++ back) ++ old
 front_both front back old middle new first second =
     second ∙ ap (λ bs. front ++ bs) first ∙ sym (append_assoc front back old)
-
--- bytes behind their length
-pub front_delimited : (body old middle new : List ℕ) → middle ≡ body ++ old → new ≡ varint (length middle - length old) ++ middle → new ≡ delimited body ++ old
-front_delimited body old middle new first second =
-    let len : length middle - length old ≡ length body = omega (arith, ap length first, length-append body old) in
-    front_both (varint (length body)) body old middle new first (second ∙ ap (λ n. varint n ++ middle) len)
 
 module _ {X : Type 0} (f : X → List ℕ) where
   -- one part more

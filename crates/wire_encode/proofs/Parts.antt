@@ -1,8 +1,7 @@
 -- The encoding of a list of parts is the join of the encodings of each part.
-use Rattle.std.proofs.Common.{◌≡◌, ℕ, ◌+◌, ◌<◌, ◌≤◌, ◌-◌, ◌^◌, min, List, [], ◌∷◌, ◌++◌, length, take, get_or, refl, ap, ◌∙◌, arith}
+use Rattle.std.proofs.Common.{◌≡◌, ℕ, ◌+◌, ◌≤◌, ◌-◌, List, [], ◌∷◌, ◌++◌, length, take, refl, ap, ◌∙◌}
 use Rattle.std.specs.List.{flat_map}
-use Rattle.std.proofs.lemmas.List.{take_more, take_all, length-append}
-use Rattle.std.proofs.lemmas.List.Concat.{flat_map-append}
+use Rattle.std.proofs.lemmas.List.{take_all}
 use Rattle.mrpc_table.specs.View.{item_of, items_of, pairs_of, content_of, node_of}
 use Rattle.mrpc_table.specs.declared.tree.FieldValue.{FieldValue}
 use Rattle.mrpc_table.specs.declared.tree.Value.{Value}
@@ -41,15 +40,6 @@ records_bytes-parts T n k (v ∷ vs) = ap (λ bs. record_part T n k v ++ bs) (re
 pub entries_bytes-parts : (T : Table) (n : ℕ) (key k : Kind) (ps : List (Value × Value)) → entries_bytes T n key k (pairs_of ps) ≡ flat_map (entry_part T n key k) ps
 entries_bytes-parts T n key k [] = refl
 entries_bytes-parts T n key k (p ∷ ps) = ap (λ bs. entry_part T n key k p ++ bs) (entries_bytes-parts T n key k ps)
-
--- the length of one part more
-pub capped-more : {X : Type 0} (f : X → List ℕ) (xs : List X) (i : ℕ) (d : X) (total : ℕ) → i < length xs
-    → total ≡ capped (length (flat_map f (take i xs)))
-    → min (total + capped (length (f (get_or xs i d)))) (2 ^ 64 - 1) ≡ capped (length (flat_map f (take (i + 1) xs)))
-capped-more f xs i d total within was =
-    let joined : flat_map f (take (i + 1) xs) ≡ flat_map f (take i xs) ++ (f (get_or xs i d) ++ []) =
-    ap (flat_map f) (take_more xs i d within) ∙ flat_map-append f (take i xs) (get_or xs i d ∷ []) in
-    omega (arith, was, ap length joined, length-append (flat_map f (take i xs)) (f (get_or xs i d) ++ []), length-append (f (get_or xs i d)) [])
 
 -- the length of all parts
 pub capped-all : {X : Type 0} (f : X → List ℕ) (xs : List X) (i : ℕ) (bytes : List ℕ) → length xs ≤ i

@@ -6,8 +6,8 @@ ghost use Rattle.mrpc_table.specs.Ascending.{FieldsAscend};
 
 use mrpc_table::{Field, Kind, Label, find_field};
 
-/// The kind and the label of the field of a number.
-pub fn type_of(fields: &[Field], number: u32) -> (Kind, Label)
+// The kind and the label of the field of a number.
+pub(crate) fn type_of(fields: &[Field], number: u32) -> (Kind, Label)
     requires { FieldsAscend fields.now }
     ensures kind { result.0 ≡ kind_at fields.now number }
     ensures label { result.1 ≡ label_at fields.now number }
@@ -16,9 +16,9 @@ pub fn type_of(fields: &[Field], number: u32) -> (Kind, Label)
     (kind, label)
 }
 
-/// The same, and where the field stands. Trees and tables have their fields in one order, so that the place at hand
-/// is tried first.
-pub fn type_near(fields: &[Field], number: u32, hint: usize) -> (Kind, Label, usize)
+// The same, and where the field stands. Trees and tables have their fields in one order, so that the place at hand
+// is tried first.
+pub(crate) fn type_near(fields: &[Field], number: u32, hint: usize) -> (Kind, Label, usize)
     requires { FieldsAscend fields.now }
     ensures kind { result.0 ≡ kind_at fields.now number }
     ensures label { result.1 ≡ label_at fields.now number }

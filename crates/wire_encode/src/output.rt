@@ -51,21 +51,21 @@ impl Output {
         &self.bytes[self.start..]
     }
 
-    /// Nothing again. The room is kept.
+    // Nothing again. The room is kept.
     pub(crate) fn clear(&mut self)
         ensures { self.new ≡ [] }
     {
         self.start = self.bytes.len();
     }
 
-    /// How many bytes were written.
+    // How many bytes were written.
     pub(crate) fn len(&self) -> usize
         ensures { result ≡ length self.now }
     {
         self.bytes.len() - self.start
     }
 
-    /// What was written, in a list of its own.
+    // What was written, in a list of its own.
     pub(crate) fn into_bytes(self) -> Bytes
         ensures { result ≡ self }
     {
@@ -76,7 +76,7 @@ impl Output {
         Bytes::from_vec(bytes)
     }
 
-    /// Writes bytes.
+    // Writes bytes.
     pub(crate) fn put(&mut self, bytes: &[u8]) -> Result<(), Memory>
         ensures { OnOk result (self.new ≡ bytes.now ++ self.old) }
     {
@@ -87,7 +87,7 @@ impl Output {
         Ok(())
     }
 
-    /// Writes the shortest varint of a number. Mostly it has one byte, and room in hand.
+    // Writes the shortest varint of a number. Mostly it has one byte, and room in hand.
     #[inline(always)]
     pub(crate) fn put_varint(&mut self, v: u64) -> Result<(), Memory>
         ensures { OnOk result (self.new ≡ varint v ++ self.old) }

@@ -10,9 +10,9 @@ use crate::look_up::type_of;
 use mrpc_table::{Entries, Field, FieldValue, Kind, Label, Table, Tree, Value, Values};
 use wire_base::{varint_len, zigzag};
 
-/// The length of a message.
+// The length of a message.
 #[cycle(size)]
-pub fn message_len(tree: &Tree, table: &Table, fields: &[Field]) -> u64
+pub(crate) fn message_len(tree: &Tree, table: &Table, fields: &[Field]) -> u64
     requires all { AllAscend table.now }
     requires ascend { FieldsAscend fields.now }
     ensures { result ≡ capped (length (fields_bytes table.now fields.now tree.now)) }

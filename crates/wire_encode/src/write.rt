@@ -13,9 +13,9 @@ use crate::output::Output;
 use mrpc_table::{Entries, Field, FieldValue, Kind, Label, Memory, Table, Tree, Value, Values};
 use wire_base::zigzag;
 
-/// Writes a message.
+// Writes a message.
 #[cycle(write)]
-pub fn write_message(
+pub(crate) fn write_message(
     out: &mut Output,
     tree: &Tree,
     table: &Table,

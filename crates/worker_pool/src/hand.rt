@@ -8,14 +8,14 @@ use std::collections::LinkedList;
 // An item with its number: its place among the items of the run. It is boxed, since each visit moves it out of the queue
 // and back.
 #[derive(Drop)]
-pub struct Numbered<T> {
+pub(crate) struct Numbered<T> {
     pub number: usize,
     pub item: Box<T>,
 }
 
 // What one pass has of the right to know the whole, in parts; the numbers of the items that it holds, one in hand last,
 // before it those that are over; and all items as they were handed in, by number.
-pub struct Hand<T> {
+pub(crate) struct Hand<T> {
     pub parts: u64,
     pub held: LinkedList<usize>,
     pub firsts: LinkedList<T>,
@@ -27,7 +27,7 @@ pub(crate) type Line<T> = RuledArrayQueue<Numbered<T>, Hand<T>, Pooling>;
 pub(crate) type LinePass<T> = Pass<Numbered<T>, Hand<T>>;
 
 // Each number stands once.
-pub struct Pooling;
+pub(crate) struct Pooling;
 
 impl<T: Visited> Protocol<Numbered<T>, Hand<T>> for Pooling {
     ghost use Rattle.std.specs.Prelude.{[]};
@@ -39,7 +39,7 @@ impl<T: Visited> Protocol<Numbered<T>, Hand<T>> for Pooling {
 }
 
 // A new item comes, with the next number. Only a pass that has all parts may bring one.
-pub struct Enters;
+pub(crate) struct Enters;
 
 impl<T> Outcome<Numbered<T>, Hand<T>> for Enters {
     ghost use Rattle.std.specs.Prelude.{◌≡◌, [], ◌∷◌, ◌++◌};
@@ -55,7 +55,7 @@ impl<T> Lesson<Numbered<T>, Hand<T>> for Enters {
 }
 
 // The oldest item comes into the hand.
-pub struct Takes;
+pub(crate) struct Takes;
 
 impl<T: Visited> Outcome<Numbered<T>, Hand<T>> for Takes {
     ghost use Rattle.worker_pool.specs.Rule.{Took};
@@ -71,7 +71,7 @@ impl<T> Lesson<Numbered<T>, Hand<T>> for Takes {
 }
 
 // The item in the hand goes back behind those that wait.
-pub struct Returns;
+pub(crate) struct Returns;
 
 impl<T> Outcome<Numbered<T>, Hand<T>> for Returns {
     ghost use Rattle.std.specs.Prelude.{◌≡◌};
@@ -87,7 +87,7 @@ impl<T> Lesson<Numbered<T>, Hand<T>> for Returns {
 }
 
 // One part goes to a pass for a worker, and comes back with what that holds.
-pub struct Shares;
+pub(crate) struct Shares;
 
 impl<T> Split<Hand<T>> for Shares {
     ghost use Rattle.std.specs.Prelude.{[], ◌-◌};

@@ -34,7 +34,7 @@ pub(crate) enum Turn {
 
 // A worker is a job of a thread and its result at once. The items that it keeps are over, unless it was stopped.
 #[derive(Drop)]
-pub struct Worker<T> {
+pub(crate) struct Worker<T> {
     pub pass: LinePass<T>,
     pub kept: Vec<Numbered<T>>,
     pub stopped: bool,

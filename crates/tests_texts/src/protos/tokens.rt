@@ -35,3 +35,12 @@ fn a_string_stands_for_its_bytes(rt: HostRuntime) {
     let value = string_value(rt.alloc(), b"'\\x4a\\101\\n\\u00e9\\\"'").expect(&rt, "memory");
     assert!(rt; value.as_slice() == b"JA\n\xc3\xa9\"".as_slice());
 }
+
+#[test]
+fn escapes_stand_for_their_bytes(rt: HostRuntime) {
+    let literal = b"'\\7778\\x4g\\ud83d\\ude00\\ud83d\\U00110000\\?\\v'";
+    let value = string_value(rt.alloc(), literal).expect(&rt, "memory");
+    assert!(rt;
+        value.as_slice() == b"\xff8\x04g\xf0\x9f\x98\x80\xed\xa0\xbd\\U00110000?\x0b".as_slice()
+    );
+}
