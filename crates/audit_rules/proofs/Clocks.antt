@@ -1,9 +1,6 @@
 -- Items of a list that are changed one after another, and engines that were lent.
-use Rattle.std.proofs.Common.{◌≡◌, ℕ, ◌+◌, ◌-◌, ◌<◌, max, List, [], ◌∷◌, ◌++◌, length, take, drop, set, get_or, map, ap, sym, ◌∙◌, arith, get_or-drop}
+use Rattle.std.proofs.Common.{◌≡◌, ℕ, ◌+◌, ◌-◌, ◌<◌, List, [], ◌∷◌, ◌++◌, length, take, drop, set, get_or, map, ap, sym, ◌∙◌, arith, get_or-drop}
 use Rattle.std.proofs.lemmas.List.{drop-drop, drop-set-lt, map_more, take_at, take_more_set}
-use Rattle.engine_core.specs.Chains.{Entry}
-use Rattle.engine_core.specs.Engines.{EngineParts, clocked}
-use Rattle.engine_core.specs.Policies.{level_at}
 
 -- ---- one item more
 

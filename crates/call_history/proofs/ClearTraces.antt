@@ -7,7 +7,6 @@ use Rattle.mrpc_table.specs.declared.table.Kind.TheVariants.{Uint64}
 use Rattle.mrpc_table.specs.declared.table.Label.TheVariants.{Plain}
 use Rattle.wire_base.specs.Encoding.{varint, groups}
 use Rattle.mrpc_table.specs.declared.call.Call.{Call}
-use Rattle.engine_core.specs.Answers.{nothing, charged}
 use Rattle.engine_core.specs.Answers as answers
 use Rattle.engine_core.specs.Chains.{Entry, new_entry}
 use Rattle.engine_core.specs.Turns as turns

@@ -2,9 +2,8 @@
 -- history is legal.
 use Rattle.std.proofs.Common.{◌≡◌, ℕ, true, false, inl, inr, List, [], ◌∷◌, codes, refl, ap, sym, ◌∙◌, arith}
 use Rattle.std.specs.Prelude.{Contains}
-use Rattle.engine_core.specs.Answers.{nothing, charged}
 use Rattle.engine_core.specs.Answers as answers
-use Rattle.engine_core.specs.Chains.{Chain, Changes, Entry, names_of, new_entry, Refusal, IsAgainst, detaches_none, upgrades_none, is_taken, is_past, is_full, is_other}
+use Rattle.engine_core.specs.Chains.{Entry, new_entry, Refusal, IsAgainst, detaches_none, upgrades_none, is_taken, is_past, is_full, is_other}
 use Rattle.engine_core.specs.Chains as chains
 use Rattle.engine_core.specs.Turns as turns
 use Rattle.engine_core.specs.declared.op.Op.TheVariants.{Attach, Upgrade}

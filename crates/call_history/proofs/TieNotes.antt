@@ -1,16 +1,15 @@
 -- An engine works on a call: what the turn notes, clears and charges is what the history says behind it.
-use Rattle.std.proofs.Common.{◌≡◌, ◌≢◌, ℕ, ◌<◌, ◌≤◌, inl, inr, List, [], ◌∷◌, length, map, set, get_or, slice_get, refl, sym, ap, ◌∙◌, subst, arith}
+use Rattle.std.proofs.Common.{◌≡◌, ◌≢◌, ℕ, ◌<◌, ◌≤◌, inl, inr, List, [], ◌∷◌, length, map, get_or, refl, sym, ap, ◌∙◌, subst, arith}
 use Rattle.std.specs.Prelude.{All, Contains, Option, Some, None, option_map}
 use Rattle.std.proofs.lemmas.List.Elements.{All-set, Contains-get_or}
 use Rattle.mrpc_table.specs.Valid.{AreDistinct}
 use Rattle.mrpc_table.specs.declared.call.Call.{Call}
-use Rattle.policy_redact.specs.Redacting.{cleared_call}
-use Rattle.engine_core.specs.Answers.{Past, charged, drawn, counted, past_after, level_left}
-use Rattle.engine_core.specs.Chains.{Chain, Entry, IsChain, attachments_of, names_of}
+use Rattle.engine_core.specs.Answers.{Past, past_after, level_left}
+use Rattle.engine_core.specs.Chains.{Chain, Entry, IsChain, attachments_of}
 use Rattle.engine_core.specs.Engines.{EngineParts, chain_of}
 use Rattle.engine_core.specs.Marks.{HasMarksUpTo, IsTrueFor, StandingCall, note_of, past_of}
 use Rattle.engine_core.specs.Turns.{form_after, noted_in}
-use Rattle.engine_core.specs.Working.{Works, LeavesCall}
+use Rattle.engine_core.specs.Working.{Works}
 use Rattle.engine_core.specs.declared.outcome.Noted.{Noted}
 use Rattle.engine_core.specs.declared.outcome.Noted.TheVariants as notes
 use Rattle.engine_core.specs.declared.outcome.Outcome.{Outcome}

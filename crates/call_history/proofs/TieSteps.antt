@@ -1,21 +1,21 @@
 -- A call is taken, an operator's step changes the engines, and the clock shows a later moment.
 use Rattle.std.proofs.Common.{◌≡◌, ◌≢◌, ℕ, ◌+◌, ◌-◌, ◌<◌, ◌≤◌, max, zero, suc, Bool, true, false, not, cond, ◌&&◌}
-use Rattle.std.proofs.Common.{◌==◌, if◌then◌else◌, List, [], ◌∷◌, ◌++◌, length, map, filter, take, drop, set, insert}
+use Rattle.std.proofs.Common.{◌==◌, if◌then◌else◌, List, [], ◌∷◌, ◌++◌, length, map, filter, set, insert}
 use Rattle.std.proofs.Common.{remove, get_or, slice_get, refl, sym, ap, ◌∙◌, subst, arith}
 use Rattle.std.specs.Prelude.{All, Contains, Option, Some, None}
 use Rattle.std.specs.Str.{bytes_eq}
 use Rattle.std.proofs.lemmas.Bool.{and_right, ne_eqb}
-use Rattle.std.proofs.lemmas.List.Elements.{All-head, All-map, All-push, All-set, All-tail, All-weaker, Contains-get_or}
+use Rattle.std.proofs.lemmas.List.Elements.{All-head, All-map, All-push, All-set, All-tail, All-weaker}
 use Rattle.mrpc_table.specs.Valid.{AreDistinct}
 use Rattle.mrpc_table.specs.declared.call.Call.{Call}
 use Rattle.engine_core.specs.Answers.{Past, nothing, charged, drawn, counted}
-use Rattle.engine_core.specs.Chains.{Chain, Changes, Entry, IsAgainst, IsChain, changed, is_named, is_taken, names_of, new_entry, taken as taken_name, upgraded}
+use Rattle.engine_core.specs.Chains.{Chain, Changes, Entry, IsChain, changed, is_named, is_taken, names_of, new_entry, taken as taken_name, upgraded}
 use Rattle.engine_core.specs.Engines.{EngineParts, chain_of, clocked}
-use Rattle.engine_core.specs.Marks.{IsTrueFor, StandingCall, note_of, past_by, past_of}
+use Rattle.engine_core.specs.Marks.{IsTrueFor, StandingCall, note_of, past_of}
 use Rattle.engine_core.specs.Policies.{first_level, level_at, level_under}
 use Rattle.engine_core.specs.declared.op.Op.TheVariants.{Attach, Detach, Upgrade}
 use Rattle.engine_core.specs.declared.policy.Policy.{Policy}
-use Rattle.call_history.specs.Behind.{Behind, chain, converted, copied, filled, form, level, moment, noted, noted_calls, policy_of, taken, with_tree}
+use Rattle.call_history.specs.Behind.{Behind, chain, converted, copied, filled, level, moment, noted, noted_calls, policy_of, taken, with_tree}
 use Rattle.call_history.specs.Legal.{IsPrefix}
 use Rattle.call_history.specs.Rules.{Under}
 use Rattle.call_history.specs.Ties.{AreTied, IsCallBehind, IsEngineBehind, IsNumberApart}
@@ -26,9 +26,9 @@ use Rattle.call_history.specs.declared.happening.TookCopy.TheVariants.{Copy, Mal
 use Rattle.call_history.proofs.Accepting.{form-other}
 use Rattle.call_history.proofs.Chained.{all-step}
 use Rattle.call_history.proofs.GoingOn.{form-own, level-attached, level-attached_other, level-upgraded, level-upgraded_other, noted-attached, noted-attached_other}
-use Rattle.call_history.proofs.Looking.{equal-name, isnt-call, other-name}
+use Rattle.call_history.proofs.Looking.{equal-name, other-name}
 use Rattle.call_history.proofs.Prefixes.{StaysChain, chained, noted-few}
-use Rattle.call_history.proofs.Tying.{All-at, All-insert, All-remove, contains-at, insert-map, named-in, policy-there, remove-map, replaced, same-map}
+use Rattle.call_history.proofs.Tying.{All-at, All-insert, All-remove, contains-at, insert-map, named-in, policy-there, remove-map, replaced}
 
 -- a call without a mark of an entry's attachment has true marks for it
 abbrev pub TrueUnmarked : Type 0

@@ -1,16 +1,15 @@
 -- Engines and calls with their marks: lists with one item in another's place, and the entry of each engine.
-use Rattle.std.proofs.Common.{◌≡◌, ◌≢◌, ℕ, ◌+◌, ◌<◌, ◌≤◌, zero, suc, cond, inl, inr, List, [], ◌∷◌, ◌++◌, length, map}
+use Rattle.std.proofs.Common.{◌≡◌, ◌≢◌, ℕ, zero, suc, cond, inl, inr, List, [], ◌∷◌, map}
 use Rattle.std.proofs.Common.{take, drop, set, insert, remove, get_or, slice_get, refl, sym, ap, ◌∙◌, subst, arith}
 use Rattle.std.specs.Prelude.{All, Contains, find, option_map, Some}
 use Rattle.std.proofs.lemmas.List.{map-append, take-map, drop-map}
-use Rattle.std.proofs.lemmas.List.Elements.{All-append, All-cons, All-drop, All-head, All-nil, All-tail, All-take}
+use Rattle.std.proofs.lemmas.List.Elements.{All-append, All-cons, All-drop, All-head, All-tail, All-take}
 use Rattle.mrpc_table.specs.Valid.{AreDistinct}
 use Rattle.engine_core.specs.Chains.{Chain, Entry, IsChain, attachments_of, is_named, names_of}
 use Rattle.engine_core.specs.Engines.{EngineParts, chain_of}
 use Rattle.engine_core.specs.Marks.{StandingCall}
-use Rattle.engine_core.specs.declared.policy.Policy.{Policy}
 use Rattle.call_history.specs.Behind.{Behind, chain, policy_of}
-use Rattle.call_history.specs.Ties.{AreNumbersApart, IsNumberApart}
+use Rattle.call_history.specs.Ties.{AreNumbersApart}
 use Rattle.call_history.proofs.Chained.{all-step, named-there}
 use Rattle.call_history.proofs.Further.{contains-cases, contains-first, contains-later}
 use Rattle.call_history.proofs.Looking.{equal-name, other-name}

@@ -1,5 +1,5 @@
 -- Cuts stay as they are to be.
-use Rattle.std.proofs.Common.{◌≡◌, ℕ, ◌+◌, ◌-◌, ◌<◌, ◌≤◌, zero, suc, max, min, inl, inr, List, [], ◌∷◌, ◌++◌, map, get_or, replicate, refl, arith}
+use Rattle.std.proofs.Common.{◌≡◌, ℕ, ◌+◌, ◌-◌, ◌<◌, ◌≤◌, zero, suc, max, min, inl, inr, List, [], ◌∷◌, ◌++◌, map, get_or, refl, arith}
 use Rattle.std.proofs.lemmas.Bool.{cases_lt}
 use Rattle.chain_upgrade.specs.Cuts.{cut_at, IsFalling, IsShort, zeroed, closed_up, raised, taken_out, lowered}
 
@@ -63,14 +63,6 @@ falls-lowered top j cs falls = falls-more (min top j) top (lowered j cs) (omega 
 
 pub falls-none : (top : ℕ) (cs : List ℕ) → IsFalling top cs → IsFalling 0 (lowered 0 cs)
 falls-none top cs falls = falls-more (min top 0) 0 (lowered 0 cs) (omega arith) (falls-min top 0 cs falls)
-
-pub falls-new : (n : ℕ) → IsFalling 0 (replicate n 0)
-falls-new zero = tt
-falls-new (suc n) = (omega arith, falls-new n)
-
-pub short-new : (n : ℕ) → IsShort 0 (replicate n 0)
-short-new zero = tt
-short-new (suc n) = (refl, short-new n)
 
 pub short-more : (p n : ℕ) (cs : List ℕ) → p ≤ n → IsShort p cs → IsShort n cs
 short-more p n [] le short = tt

@@ -1,6 +1,6 @@
 -- A chain's own fields stay as they are to be.
 use Rattle.std.proofs.Common.{◌≡◌, ℕ, ◌+◌, ◌-◌, ◌<◌, ◌≤◌, zero, suc, List, [], ◌∷◌, ◌++◌, length, filter, nat_le}
-use Rattle.std.proofs.Common.{subst, take, drop, get_or, replicate, insert, remove, All, None, refl, ap, ◌∙◌, arith}
+use Rattle.std.proofs.Common.{subst, take, drop, get_or, insert, remove, All, None, refl, ap, ◌∙◌, arith}
 use Rattle.std.proofs.Common.{length-append, length-take, length-drop}
 use Rattle.std.proofs.lemmas.List.{length-map, map-append}
 use Rattle.engine_core.specs.Chains.{Entry}
@@ -12,19 +12,10 @@ use Rattle.chain_upgrade.specs.Cuts.{row_from, cut_at, IsFalling, zeroed, closed
 use Rattle.chain_upgrade.specs.Kept.{IsKept}
 use Rattle.chain_upgrade.proofs.CutLaws.{cut-low, position-short}
 use Rattle.chain_upgrade.proofs.KeepLaws.{falls-more, falls-zeroed, falls-closed, falls-raised, falls-out}
-use Rattle.chain_upgrade.proofs.KeepLaws.{falls-lowered, falls-none, falls-new, short-new, short-more, short-zeroed}
+use Rattle.chain_upgrade.proofs.KeepLaws.{falls-lowered, falls-none, short-more, short-zeroed}
 use Rattle.chain_upgrade.proofs.KeepLaws.{short-closed, short-raised, short-out, short-lowered}
 use Rattle.chain_upgrade.proofs.RowLaws.{all-count, cut-count, row-numbers, row-falls, row-push}
-use Rattle.chain_upgrade.proofs.Stands.{stands-none, stands-push, stands-without, stands-cleared}
-
-pub kept-new : (es : List EngineParts) (room : ℕ) (calls : List StandingCall) (cuts : List ℕ) → es ≡ [] → room ≡ 8 → calls ≡ [] → cuts ≡ replicate 8 0
-    → IsKept es room 0 calls cuts
-kept-new es room calls cuts no_es is no_calls new = rw (no_es, no_calls, new) (record {
-  stands = stands-none;
-  falls = falls-new 8;
-  short = short-new 8;
-  room_for = omega arith;
-})
+use Rattle.chain_upgrade.proofs.Stands.{stands-push, stands-without, stands-cleared}
 
 -- what callers see of it
 pub is-standing : (es : List EngineParts) (room n : ℕ) (calls : List StandingCall) (cuts : List ℕ) → IsKept es room n calls cuts

@@ -29,18 +29,6 @@ number-below [] i top all inside = absurd (omega arith)
 number-below (t ∷ ts) zero top all inside = All-head (λ t. t.call.seq < top) t ts all
 number-below (t ∷ ts) (suc i) top all inside = number-below ts i top (All-tail (λ t. t.call.seq < top) t ts all) (omega arith)
 
--- ---- an empty chain
-
-pub stands-none : StandsOn [] 0 []
-stands-none = record {
-  chain = record { few = omega arith; names = tt; attachments = tt; numbered = λ k d inside. absurd (omega arith) };
-  policies = λ k d inside. absurd (omega arith);
-  few = omega arith;
-  ascend = tt;
-  marks = λ k d inside. absurd (omega arith);
-  true_for = λ k d inside. absurd (omega arith);
-}
-
 -- ---- calls
 
 pub stands-push : (es : List EngineParts) (n : ℕ) (calls : List StandingCall) (s : StandingCall)

@@ -11,7 +11,6 @@ use Rattle.engine_core.specs.Chains.{IsChain, new_entry, Changes, changed, Entry
 use Rattle.engine_core.specs.Chains.{no_place, full, other_kind, order_of, IsAgainst, detaches_none, upgrades_none}
 use Rattle.engine_core.specs.Chains.{is_taken, is_past, is_full, is_other, Refuses, names_of, upgraded, is_named}
 use Rattle.engine_core.specs.Engines.{EngineParts}
-use Rattle.engine_core.specs.Moves.{place_of}
 use Rattle.engine_core.specs.declared.policy.Policy.{Policy}
 use Rattle.engine_core.specs.declared.op.Op.{Op}
 use Rattle.engine_core.specs.declared.op.Op.TheVariants.{Attach, Detach, Upgrade}
@@ -184,19 +183,6 @@ upgraded-named name policy (x ∷ xs) (suc p) e apart is same =
     let other = other-is name x (λ mine. apart.0 (rw (mine ∙ sym same) (names-at xs p e is))) in
     let rest = upgraded-named name policy xs p e apart.1 is same in
     rw other (ap (λ (ys : List Entry). x ∷ ys) rest)
-
--- its place
-pub place-named : (name : List ℕ) (es : List Entry) (p : ℕ) (e : Entry) → AreDistinct (names_of es) → slice_get es p ≡ Some e → e.name ≡ name
-    → place_of name es ≡ p
-place-named name [] p e apart is same = absurd cc
-place-named name (x ∷ xs) zero e apart is same =
-    let here : x ≡ e = cc in
-    let mine = named-is name x (ap (λ (e : Entry). e.name) here ∙ same) in
-    rw mine refl
-place-named name (x ∷ xs) (suc p) e apart is same =
-    let other = other-is name x (λ mine. apart.0 (rw (mine ∙ sym same) (names-at xs p e is))) in
-    let rest = place-named name xs p e apart.1 is same in
-    rw other (omega arith)
 
 names-within : (es : List Entry) (k : ℕ) (f : Entry) (name : List ℕ) → k < length es → get_or es k f ≡ f → f.name ≡ name → Contains (names_of es) name
 names-within [] k f name inside at same = absurd (omega arith)

@@ -71,12 +71,6 @@ distinct-at (x ∷ xs) (suc k) zero d e apart inside is same =
     absurd (apart.0 (attached-within xs k d x.entry.attach (omega arith) (same ∙ sym attach)))
 distinct-at (x ∷ xs) (suc k) (suc p) d e apart inside is same = distinct-at xs k p d e apart.1 (omega arith) is same
 
-numbered-at : (es : List EngineParts) (n k : ℕ) (d : EngineParts) → All (λ attach. attach ≤ n) (attachments_of (map (λ e. e.entry) es)) → k < length es
-    → (get_or es k d).entry.attach ≤ n
-numbered-at [] n k d all inside = absurd (omega arith)
-numbered-at (x ∷ xs) n zero d all inside = All-head (λ attach. attach ≤ n) x.entry.attach (attachments_of (map (λ e. e.entry) xs)) all
-numbered-at (x ∷ xs) n (suc k) d all inside = numbered-at xs n k d (All-tail (λ attach. attach ≤ n) x.entry.attach (attachments_of (map (λ e. e.entry) xs)) all) (omega arith)
-
 numbered-of : (es : List EngineParts) (n p : ℕ) (e : EngineParts) → All (λ attach. attach ≤ n) (attachments_of (map (λ e. e.entry) es)) → slice_get es p ≡ Some e
     → e.entry.attach ≤ n
 numbered-of [] n p e all is = absurd cc

@@ -2,7 +2,7 @@
 use Rattle.std.specs.Prelude.{ℕ, zero, suc, ◌≤◌, List, [], ◌∷◌, length, remove}
 use Rattle.engine_core.specs.Engines.{EngineParts}
 use Rattle.engine_core.specs.Marks.{StandingCall}
-use Rattle.engine_core.specs.Working.{HasMarksOf}
+use Rattle.engine_core.specs.Working.{HasOnlyMarksOf}
 use Rattle.engine_core.specs.declared.outcome.Outcome.{Outcome}
 use Rattle.engine_core.specs.declared.outcome.Outcome.TheVariants as outcomes
 use Rattle.chain_upgrade.specs.declared.turned.Turned.{Turned}
@@ -19,10 +19,10 @@ pub record IsKept (engines : List EngineParts) (room attached : ℕ) (calls : Li
   pub room_for : 8 ≤ room
 
 -- of the calls of a row all but so many, the first ones, have marks of these engines alone
-abbrev pub RestHasMarksOf : List EngineParts → ℕ → List StandingCall → Type 0
-RestHasMarksOf engines first [] = Unit {0}
-RestHasMarksOf engines zero (s ∷ calls) = HasMarksOf engines s × RestHasMarksOf engines zero calls
-RestHasMarksOf engines (suc first) (s ∷ calls) = RestHasMarksOf engines first calls
+abbrev pub RestHasOnlyMarksOf : List EngineParts → ℕ → List StandingCall → Type 0
+RestHasOnlyMarksOf engines first [] = Unit {0}
+RestHasOnlyMarksOf engines zero (s ∷ calls) = HasOnlyMarksOf engines s × RestHasOnlyMarksOf engines zero calls
+RestHasOnlyMarksOf engines (suc first) (s ∷ calls) = RestHasOnlyMarksOf engines first calls
 
 -- the calls after a turn of the one at a place: a refused one is gone
 abbrev pub calls_left : Outcome → ℕ → List StandingCall → List StandingCall

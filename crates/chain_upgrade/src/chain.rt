@@ -34,7 +34,7 @@ impl Model for Chain {
     ghost use Rattle.engine_core.specs.Marks.{seqs_of};
     ghost use Rattle.chain_upgrade.specs.Chains.{ChainParts};
     ghost use Rattle.chain_upgrade.specs.Cuts.{row_from};
-    ghost use Rattle.chain_upgrade.specs.Kept.{RestHasMarksOf, IsKept};
+    ghost use Rattle.chain_upgrade.specs.Kept.{RestHasOnlyMarksOf, IsKept};
 
     ghost Value = { ChainParts };
 
@@ -51,7 +51,7 @@ impl Model for Chain {
     } };
 
     ghost invariant = { λ c. IsKept c.engines.items (vec_capacity c.engines) c.attached c.row c.cuts.behind
-        × RestHasMarksOf c.engines.items c.stale c.row };
+        × RestHasOnlyMarksOf c.engines.items c.stale c.row };
 }
 
 impl Chain {

@@ -5,7 +5,7 @@ use Rattle.std.specs.Bool.{OnTrue}
 use Rattle.engine_core.specs.Engines.{EngineParts}
 use Rattle.engine_core.specs.Marks.{StandingCall}
 use Rattle.engine_core.specs.Steps.{Steps}
-use Rattle.engine_core.specs.Working.{HasMarksOf, Works}
+use Rattle.engine_core.specs.Working.{HasOnlyMarksOf, Works}
 use Rattle.engine_core.specs.declared.outcome.Noted.TheVariants.{Nothing}
 use Rattle.engine_core.specs.declared.outcome.Outcome.TheVariants.{Passed}
 use Rattle.engine_core.proofs.Turning.{turn-step, engine-step, call-step, marks-step}
@@ -31,7 +31,7 @@ seen-at items calls j s same within read = subst (λ (calls : List StandingCall)
 
 -- the engine stays, and the call may have a further mark
 pub works-unnoted : (es : List EngineParts) (calls calls' : List StandingCall) (p j moment : ℕ) (e : EngineParts) (s s' : StandingCall)
-    → slice_get es p ≡ Some e → slice_get calls j ≡ Some s → HasMarksOf es s → calls' ≡ set calls j s'
+    → slice_get es p ≡ Some e → slice_get calls j ≡ Some s → HasOnlyMarksOf es s → calls' ≡ set calls j s'
     → Steps e.entry.policy e.entry.attach e.entry.version e.level moment s s' e.level (Passed Nothing)
     → Works es calls p j moment (Passed Nothing) es calls'
 works-unnoted es calls calls' p j moment e s s' is_engine is_call marks same step = record {

@@ -7,9 +7,9 @@ use Rattle.mrpc_table.specs.declared.call.Call.{Call}
 use Rattle.mrpc_table.specs.declared.call.Sort.TheVariants.{Request}
 use Rattle.policy_rate.specs.declared.rate.Rate.{Rate as RatePolicy}
 use Rattle.policy_redact.specs.declared.redact.Clear.{Clear}
-use Rattle.engine_core.specs.Answers.{Past, nothing, charged, drawn, counted, Answer, pass, deny, hold, refuse, over, note, redact, Answers, Allows}
+use Rattle.engine_core.specs.Answers.{nothing, charged, drawn, hold, over, note, Answers, Allows}
 use Rattle.engine_core.specs.Answers as answers
-use Rattle.engine_core.specs.Chains.{Entry, Chain, Refusal, IsAgainst, Refuses, Makes, new_entry, no_such, taken, no_place, full, other_kind}
+use Rattle.engine_core.specs.Chains.{Chain, IsAgainst, Makes, new_entry, no_place, other_kind}
 use Rattle.engine_core.specs.Chains as chains
 use Rattle.engine_core.specs.Turns.{ComesOut}
 use Rattle.engine_core.specs.Turns as turns

@@ -15,7 +15,7 @@ use Rattle.engine_core.specs.Policies.{IsAccess, KnowsTenantOf}
 use Rattle.engine_core.specs.Chains.{Entry}
 use Rattle.engine_core.specs.Engines.{EngineParts, HasPast, past_behind}
 use Rattle.engine_core.specs.Working.{IsAllowance, IsTurn, LeavesCall, LeavesEngine, LeavesMarks}
-use Rattle.engine_core.specs.Answers.{Past, nothing, level_left, past_after}
+use Rattle.engine_core.specs.Answers.{nothing, level_left, past_after}
 use Rattle.engine_core.specs.Answers as answers
 use Rattle.engine_core.specs.Marks.{StandingCall, IsAllowing, IsSilent, IsTrueFor, is_allowed, is_allowed_by, note_of, other_marks, past_by, past_of}
 use Rattle.engine_core.specs.Turns.{ComesOut, form_after, is_redacted_by, noted_in}

@@ -92,14 +92,14 @@ pub record LeavesTickets {Q : Type 0} (Knows : Q → ℕ → Type 0) (drawn_of :
   pub since : (first : Q) → Since first before → Since first after
 
 -- the call has no mark but of these engines
-abbrev pub HasMarksOf : List EngineParts → StandingCall → Type 0
-HasMarksOf engines s = (attach : ℕ) → All (λ e. e.entry.attach ≢ attach) engines → note_of s.marks attach ≡ None
+abbrev pub HasOnlyMarksOf : List EngineParts → StandingCall → Type 0
+HasOnlyMarksOf engines s = (attach : ℕ) → All (λ e. e.entry.attach ≢ attach) engines → note_of s.marks attach ≡ None
 
 -- of the marks of a call those of these engines are left, and none comes
 pub record KeepsMarksOf (engines : List EngineParts) (before after : StandingCall) : Type 0 where
   pub call : after.call ≡ before.call
   pub kept : All (λ e. note_of after.marks e.entry.attach ≡ note_of before.marks e.entry.attach) engines
-  pub gone : HasMarksOf engines after
+  pub gone : HasOnlyMarksOf engines after
   pub none : (attach : ℕ) → note_of before.marks attach ≡ None → note_of after.marks attach ≡ None
 
 -- the engine at a position works on the call at a place of a row, of whose marks those of the chain's engines are left

@@ -45,7 +45,7 @@ impl CallRow {
     ghost use Rattle.engine_core.specs.declared.call_row.TheConstants.{MAX_CALLS};
     ghost use Rattle.engine_core.specs.Policies.{KnowsTenantOf};
     ghost use Rattle.engine_core.specs.Turns.{noted_in};
-    ghost use Rattle.engine_core.specs.Working.{HasMarksOf, LeavesTickets, Works};
+    ghost use Rattle.engine_core.specs.Working.{HasOnlyMarksOf, LeavesTickets, Works};
     ghost use Rattle.engine_core.specs.Engines.{EngineParts};
     ghost use Rattle.engine_core.specs.Marks.{StandingCall};
     ghost use Rattle.engine_core.specs.declared.outcome.Noted.TheVariants.{Nothing};
@@ -133,7 +133,7 @@ impl CallRow {
         requires engine { at < length engines.now }
         requires few { length engines.now ≤ 8 }
         requires call { (s : StandingCall) → slice_get self.old place ≡ Some s → IsCallOf table.now s.call }
-        requires marks { (s : StandingCall) → slice_get self.old place ≡ Some s → HasMarksOf engines.now s }
+        requires marks { (s : StandingCall) → slice_get self.old place ≡ Some s → HasOnlyMarksOf engines.now s }
         ensures passed { OnTrue result ((moment : ℕ)
             → Works engines.now self.old at place moment (Passed Nothing) engines.now self.new) }
         ensures as_before { OnFalse result (self.new ≡ self.old) }
@@ -160,7 +160,7 @@ impl CallRow {
         requires few { length engines.old ≤ 8 }
         requires call { (s : StandingCall) → slice_get self.old place ≡ Some s → IsCallOf table.now s.call }
         requires alone { OnTrue alone ((s : StandingCall) → slice_get self.old place ≡ Some s
-            → HasMarksOf engines.old s) }
+            → HasOnlyMarksOf engines.old s) }
         requires known { (e : EngineParts) → slice_get engines.old at ≡ Some e
             → KnowsTenantOf (Q.knows tickets.old) e.entry.policy }
         ensures works { Works engines.old self.old at place now result engines.new self.new }
@@ -168,7 +168,7 @@ impl CallRow {
             → LeavesTickets Q.knows Q.drawn Q.since e.entry.policy (noted_in result) tickets.old tickets.new }
     {
         let call = &mut self.calls[place];
-        call.meet(engines, alone);
+        call.lose_others(engines, alone);
         call.few_others(engines, at);
         let engine = &mut engines[at];
         engine.work(call, table, now, tickets)

@@ -9,7 +9,7 @@ ghost use Rattle.policy_redact.specs.Redacting.{FitsSomeTable, cleared_call};
 ghost use Rattle.engine_core.specs.Engines.{EngineParts};
 ghost use Rattle.engine_core.specs.Marks.{IsOneEach, StandingCall, note_of, other_marks};
 ghost use Rattle.engine_core.specs.Steps.{IsUnallowed, with_mark};
-ghost use Rattle.engine_core.specs.Working.{HasMarksOf, KeepsMarksOf};
+ghost use Rattle.engine_core.specs.Working.{HasOnlyMarksOf, KeepsMarksOf};
 
 use crate::engine::Engine;
 use crate::mark::{Marks, Note, forget_allowing, keep_of, set};
@@ -111,7 +111,7 @@ impl Standing {
         ensures call { self.new.call ≡ self.old.call }
         ensures kept { All (λ e. note_of self.new.marks e.entry.attach
             ≡ note_of self.old.marks e.entry.attach) engines.now }
-        ensures gone { HasMarksOf engines.now self.new }
+        ensures gone { HasOnlyMarksOf engines.now self.new }
         ensures none { (attach : ℕ) → note_of self.old.marks attach ≡ None → note_of self.new.marks attach ≡ None }
 
         // There are no more marks than these engines.
@@ -121,8 +121,8 @@ impl Standing {
     }
 
     // Takes away the marks of all engines but these, unless it is known (`alone`) that it has no others.
-    pub(crate) fn meet(&mut self, engines: &[Engine], alone: bool)
-        requires { OnTrue alone (HasMarksOf engines.now self.old) }
+    pub(crate) fn lose_others(&mut self, engines: &[Engine], alone: bool)
+        requires { OnTrue alone (HasOnlyMarksOf engines.now self.old) }
         ensures { KeepsMarksOf engines.now self.old self.new }
     {
         if !alone {
@@ -134,7 +134,7 @@ impl Standing {
     // fewer marks than there are engines.
     pub(crate) fn few_others(&self, engines: &[Engine], at: usize)
         requires engine { at < length engines.now }
-        requires marks { HasMarksOf engines.now self.now }
+        requires marks { HasOnlyMarksOf engines.now self.now }
         ensures { (e : EngineParts) → slice_get engines.now at ≡ Some e
             → length (other_marks e.entry.attach self.now.marks) < length engines.now }
     {

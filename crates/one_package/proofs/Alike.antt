@@ -14,7 +14,7 @@ use Rattle.proto_file.specs.declared.joined.Home.TheVariants as home
 use Rattle.proto_file.specs.Joined.{Joined, home_in, package_at, package_in}
 use Rattle.schema_names.specs.Scopes
 use Rattle.mrpc_table.specs.declared.limits.TheConstants.{MAX_FULL_NAME}
-use Rattle.schema_names.specs.Scopes.{text_of, IsScope, of_file, of_message, Sort, is_type, Declares, IsFront}
+use Rattle.schema_names.specs.Scopes.{text_of, IsScope, of_file, of_message, Sort, Declares, IsFront}
 use Rattle.schema_offences.specs.Methods.{rpcs_of}
 use Rattle.schema_offences.specs.Offences
 use Rattle.schema_offences.specs.Offences.{IsTwice, IsLongInFull}

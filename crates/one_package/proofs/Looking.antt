@@ -8,7 +8,7 @@ use Rattle.std.proofs.lemmas.List.{length-append, append_assoc, append-nil}
 use Rattle.std.proofs.lemmas.List.Elements.{All-contains}
 use Rattle.proto_file.specs.Order.{its_name}
 use Rattle.proto_file.specs.Together
-use Rattle.proto_file.specs.Together.{Declaration, IsFormed, IsOrdered, message_decl}
+use Rattle.proto_file.specs.Together.{IsFormed, IsOrdered, message_decl}
 use Rattle.proto_file.specs.declared.file.Span.{Span}
 use Rattle.proto_file.specs.declared.file.MessageDecl.{MessageDecl}
 use Rattle.proto_file.specs.declared.file.EnumDecl.{EnumDecl}

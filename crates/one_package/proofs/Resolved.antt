@@ -9,7 +9,7 @@ use Rattle.proto_file.specs.declared.file.Import.{Import}
 use Rattle.proto_file.specs.declared.file.File.{File}
 use Rattle.proto_file.specs.Joined.{Joined, alone, package_at}
 use Rattle.schema_offences.specs.Offences
-use Rattle.schema_offences.specs.Offences.{IsTwice, IsOffence, Offends}
+use Rattle.schema_offences.specs.Offences.{IsTwice, IsOffence}
 use Rattle.schema_offences.specs.declared.reason.ResolveReason.{ResolveReason}
 use Rattle.schema_offences.specs.declared.reason.ResolveReason.TheVariants.{DuplicateName}
 use Rattle.schema_resolve.specs.Resolving.{IsClean, Resolves, ResolvesTogether}

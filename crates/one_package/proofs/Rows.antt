@@ -20,7 +20,7 @@ use Rattle.proto_file.specs.declared.file.File.{File}
 use Rattle.proto_file.specs.declared.joined.Head.{Head}
 use Rattle.proto_file.specs.declared.joined.Home.TheVariants as home
 use Rattle.schema_names.specs.Scopes
-use Rattle.schema_names.specs.Scopes.{IsScope, of_file, of_message, Sort, is_type, Declares, Means, absolute, relative, Names}
+use Rattle.schema_names.specs.Scopes.{IsScope, Sort, is_type, Declares, Means, absolute, relative}
 use Rattle.one_package.specs.OnePackage.{IsOneFile, NoTypeIsAPart, FieldRefers, its_type, its_key, its_value, its_outer_key, Refers, of_field, of_rpc, SeesItsTypes, IsOnePackage}
 use Rattle.one_package.proofs.Lists.{at_in, last_same}
 use Rattle.one_package.proofs.Looking.{file_scope}

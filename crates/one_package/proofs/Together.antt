@@ -25,7 +25,7 @@ use Rattle.schema_names.specs.Scopes.{IsScope, of_message, text_of}
 use Rattle.schema_offences.specs.Methods.{rpcs_of}
 use Rattle.schema_offences.specs.Those.{AreThose}
 use Rattle.schema_offences.specs.Lines
-use Rattle.schema_offences.specs.Lines.{HasField, HasLine, PassesAt}
+use Rattle.schema_offences.specs.Lines.{HasLine, PassesAt}
 use Rattle.schema_offences.specs.Offences
 use Rattle.schema_offences.specs.Offences.{Offends}
 use Rattle.schema_offences.specs.declared.reason.ResolveReason.{ResolveReason}

@@ -12,7 +12,7 @@ use Rattle.run_plan.specs.declared.application.OwnPolicy.{OwnPolicy}
 use Rattle.run_plan.specs.declared.application.OwnSchema.{OwnSchema}
 use Rattle.toml.specs.Data.{Members}
 use Rattle.scenario_values.specs.Values.{text_at}
-use Rattle.scenario.specs.Applications.{AppAgainst, FailsUnderOwn, HasTable, app_tables, conn_of, names_in, operator_tables, policy_tables, tenant_tables}
+use Rattle.scenario.specs.Applications.{AppAgainst, FailsUnderOwn, HasTable, app_tables, names_in, operator_tables, policy_tables, tenant_tables}
 use Rattle.scenario.specs.Applications as against_app
 use Rattle.scenario.specs.Keys.{kind_of}
 use Rattle.scenario.specs.Operators.{NamesPolicy, OperatorAgainst, steps_of}

@@ -10,7 +10,7 @@ use Rattle.scenario.specs.Applications.{AppAgainst, HasTable, app_tables, link_t
 use Rattle.scenario.specs.Keys.{loads, workers}
 use Rattle.scenario.specs.Operators.{OperatorAgainst}
 use Rattle.scenario.specs.Policies.{PolicyAgainst}
-use Rattle.scenario.specs.Scenarios.{AreDeclared, HasFault, IsAgainst, IsTableText, IsTextOf, Says, schema_of}
+use Rattle.scenario.specs.Scenarios.{AreDeclared, HasFault, IsAgainst, IsTextOf, Says, schema_of}
 use Rattle.scenario.specs.Scenarios as against
 use Rattle.scenario.specs.declared.fault.Entry.{Entry}
 use Rattle.scenario.specs.declared.fault.Entry.TheVariants as entry

@@ -26,7 +26,7 @@ use Rattle.policy_blocks.specs.Blocks.{IsBlock, kept, line_at, Breaks, in_block,
 use Rattle.policy_blocks.specs.Declarations.{Declared, tenant_place}
 use Rattle.policy_blocks.specs.Heads as tests
 use Rattle.policy_blocks.specs.Items as items
-use Rattle.policy_blocks.specs.Items.{form_of, named, tenant_said, rate_said, IsQuotaSaid, IsAccessIn, IsRedactIn, Gives, Heads, IsAgainstHead, Declares, BreaksIn, FailsAt, in_head}
+use Rattle.policy_blocks.specs.Items.{form_of, named, tenant_said, rate_said, IsQuotaSaid, Gives, Heads, IsAgainstHead, Declares, BreaksIn, FailsAt, in_head}
 use Rattle.policy_blocks.specs.declared.item.Item.{Item}
 use Rattle.policy_blocks.specs.declared.item.Tenant.{Tenant}
 use Rattle.policy_blocks.specs.declared.item_form.ItemForm.{ItemForm}

@@ -11,7 +11,7 @@ use Rattle.mrpc_table.specs.Lines.{is_decimal, in_64_bits}
 use Rattle.proto_tokens.specs.Strings.{string_value}
 use Rattle.proto_tokens.specs.Literals.{IsInteger, IsNumber}
 use Rattle.proto_tokens.specs.Literals
-use Rattle.proto_tokens.specs.Tokens.{Stands, IsHere, IsNext, AreTokens, literal_of, is_last}
+use Rattle.proto_tokens.specs.Tokens.{Stands, IsHere, AreTokens, literal_of, is_last}
 use Rattle.proto_tokens.specs.Tokens
 use Rattle.proto_tokens.specs.declared.token.Kind.{Kind}
 use Rattle.proto_tokens.specs.declared.token.Token.{Token}

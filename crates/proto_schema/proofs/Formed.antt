@@ -8,7 +8,7 @@ use Rattle.proto_parts.specs.Lexemes.{Lexeme, word_at}
 use Rattle.proto_schema.specs.Files
 use Rattle.proto_schema.specs.Files.{Draft, Block, no_block, a_oneof, an_enum, a_service, an_rpc, Statement, Says}
 use Rattle.proto_schema.specs.Files.{Forms, ClosesTo, nothing_said, edit_open, edit_last, innermost_of, with_file}
-use Rattle.proto_schema.specs.Files.{with_block, in_message, in_enum, in_service, open_message, open_enum}
+use Rattle.proto_schema.specs.Files.{with_block, in_message, in_enum, open_message, open_enum}
 use Rattle.proto_schema.specs.Files.{open_service, open_oneof, add_field, add_rpc, oneofs_of, count_oneofs, field}
 use Rattle.proto_schema.specs.Faults.{IsTextOf}
 use Rattle.proto_file.specs.Order.{IsPlaceBelow, HasName, HasFullName, HasTypeNames, IsFormedField, IsFormedMessage, IsFormedEnum, IsFormedRpc, IsFormedService, IsFormed}

@@ -3,7 +3,7 @@ use Rattle.std.proofs.Common.{◌≡◌, ℕ, suc, ◌<◌, ◌≤◌, Bool, Lis
 use Rattle.std.specs.Prelude.{Option}
 use Rattle.proto_parts.specs.Lexemes.{Lexeme, IsWord, word_at}
 use Rattle.proto_parts.specs.Grammar
-use Rattle.proto_parts.specs.Grammar.{FullName, TypeName, MapKey, NestedMaps, FieldTypeOf, RpcType, NumberOf}
+use Rattle.proto_parts.specs.Grammar.{FullName, TypeName, MapKey, FieldTypeOf, RpcType, NumberOf}
 use Rattle.proto_schema.specs.Files.{FieldEnd, field_end, RpcHead, rpc_head}
 use Rattle.proto_file.specs.Order.{HasName, HasFullName, HasTypeName, relative, absolute, HasTypeNames}
 use Rattle.proto_schema.proofs.Along.{Along, along_ends, along_split, full_of_one, full_of_more}

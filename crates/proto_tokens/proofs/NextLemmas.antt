@@ -7,7 +7,7 @@ use Rattle.std.proofs.lemmas.List.{append_assoc, take_at, drop_at, drop_all, dro
 use Rattle.std.proofs.lemmas.Bool.{cases_eq, cases_Bool}
 use Rattle.proto_tokens.specs.Gaps.{Gap, nothing, blank, line_comment, block_comment}
 use Rattle.proto_tokens.specs.Scanning.{between, walk, word_at}
-use Rattle.proto_tokens.specs.Tokens.{Stands, identifier, integer, number, string, mark, IsStuck, IsHere, word}
+use Rattle.proto_tokens.specs.Tokens.{Stands, IsStuck, IsHere, word}
 use Rattle.proto_tokens.specs.Tokens.{the_end, no_word, IsNext, literal_of, line_at, is_last, AreTokens, last}
 use Rattle.proto_tokens.specs.Tokens.{another}
 use Rattle.proto_tokens.specs.declared.token.Kind.{Kind}
@@ -185,13 +185,6 @@ next_exists text place within =
     next_from text place g.0 g.1 g.2 g.3 (word_at (drop g.0 text)) refl
 
 -- ---- a token that isn't the last goes on, in its line
-
-stands_kind : {kind : Kind} {literal rest : List ℕ} → Stands kind literal rest → is_last kind ≡ false
-stands_kind (identifier k h stops) = rw k refl
-stands_kind (integer value k h stops) = rw k refl
-stands_kind (number k h stops) = rw k refl
-stands_kind (string quote body k h is b) = rw k refl
-stands_kind (mark c k is h stops) = rw k refl
 
 last_word : (text : List ℕ) (t : Token) → is_last t.kind ≡ false → IsHere text t → (t.start ≤ t.end) × Stands t.kind (literal_of text t) (drop t.end text)
 last_word text t going (word le s) = (le, s)

@@ -28,9 +28,6 @@ use Rattle.proto_tokens.proofs.Runs.{run_len, Run, run_of, list_all_weaker, begi
 pub digit_range : (c : ℕ) → is_decimal_digit c ≡ true → (48 ≤ c) × (c ≤ 57)
 digit_range c h = (grind (arith, nat_tests), grind (arith, nat_tests))
 
-pub range_digit : (c : ℕ) → 48 ≤ c → c ≤ 57 → is_decimal_digit c ≡ true
-range_digit c a b = grind (arith, nat_tests)
-
 pub ascii_digit : (c : ℕ) → is_ascii_digit c ≡ true → is_decimal_digit c ≡ true
 ascii_digit c h = grind (arith, nat_tests)
 
@@ -177,10 +174,6 @@ decimal_at_parts whole part tail p all stops f e =
 pub decimal_digits : (whole : List ℕ) → is_decimal whole ≡ true → list_all is_decimal_digit whole ≡ true
 decimal_digits [] h = refl
 decimal_digits (c ∷ cs) h = list_all_weaker is_ascii_digit is_decimal_digit ascii_digit (c ∷ cs) (and_parts (list_all is_ascii_digit (c ∷ cs)) (not (c == 48) || length cs == 0) h).0
-
-decimal_long : (whole : List ℕ) → is_decimal whole ≡ true → 0 < length whole
-decimal_long [] h = absurd (let t : false ≡ true = h in cc)
-decimal_long (c ∷ cs) h = omega arith
 
 -- a number that begins with decimal digits, without a leading zero, is read as a decimal one
 unsplit_decimal : (whole tail : List ℕ) → is_decimal whole ≡ true → begins is_decimal_digit tail ≡ false

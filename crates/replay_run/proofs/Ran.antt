@@ -9,7 +9,7 @@ use Rattle.script_text.specs.declared.script.Line.{Line}
 use Rattle.script_text.specs.declared.script.Line.TheVariants as line
 use Rattle.script_text.specs.declared.script.Script.{Script}
 use Rattle.conn_core.specs.Connections.{IsConnection}
-use Rattle.replay_run.specs.Kept.{BrokenOn, BrokenTold, DoneOn, DoneTold, IsTold, OnRan, StopsAt, TellsSome, behind_failure, behind_line, untold}
+use Rattle.replay_run.specs.Kept.{BrokenOn, DoneOn, DoneTold, IsTold, OnRan, StopsAt, TellsSome, behind_failure, behind_line, untold}
 use Rattle.replay_run.specs.declared.connection.Connection.{Connection}
 use Rattle.replay_run.specs.declared.stop.Stop.{Stop}
 use Rattle.replay_run.specs.declared.stop.Stop.TheVariants.{Memory, Out, Wire}
@@ -31,9 +31,6 @@ module _ (s : Script) (l : Line) (c mid d : Connection) (quotas quotas' : Counte
   broken-stopped Wire Done Broken broken front no_wire = absurd (no_wire refl)
   broken-stopped Memory Done Broken broken front no_wire = behind_failure mid quotas quotas' broken front
   broken-stopped Out Done Broken broken front no_wire = behind_failure mid quotas quotas' broken front
-
-  pub broken-told : BrokenOn s l c mid quotas quotas' wire wire' → IsTold mid d → Appends out out' (untold s.table mid) → BrokenTold s l c d quotas quotas' out out' wire wire'
-  broken-told broken told lines = record { mid = mid; broken = broken; told = told; lines = lines }
 
 pub cause-none : {Failing : Type 0} (before now : ℕ) → (Failing → ⊥) → now ≡ before → HasCause Failing before now
 cause-none before now none same = record { rose = λ f. absurd (none f); stays = λ _. same; never_falls = omega arith }

@@ -14,7 +14,7 @@ use Rattle.mrpc_table.specs.declared.table.Table.{Table}
 use Rattle.wire_base.specs.Encoding.{varint, groups}
 use Rattle.policy_rate.specs.declared.rate.Rate.{Rate as RatePolicy}
 use Rattle.engine_core.specs.Answers as answers
-use Rattle.engine_core.specs.Chains.{Changes, Entry, IsAgainst, Refusal, names_of, new_entry, detaches_none, upgrades_none, is_taken, is_past, is_full, is_other}
+use Rattle.engine_core.specs.Chains.{Entry, IsAgainst, Refusal, new_entry, detaches_none, upgrades_none, is_taken, is_past, is_full, is_other}
 use Rattle.engine_core.specs.Chains as chains
 use Rattle.engine_core.specs.Turns as turns
 use Rattle.engine_core.specs.declared.op.Op.TheVariants.{Attach}

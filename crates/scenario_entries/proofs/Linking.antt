@@ -11,7 +11,7 @@ use Rattle.std.proofs.lemmas.Option.{same_Some, slice_get_read}
 use Rattle.mrpc_table.specs.Lines.{in_64_bits}
 use Rattle.mrpc_table.specs.Valid.{AreDistinct}
 use Rattle.mrpc_table.specs.declared.words.Decimal.TheVariants.{Small, Large}
-use Rattle.engine_core.specs.Chains.{Chain, Changes, Entry, IsAgainst, IsChain, Refusal, Refuses, names_of, new_entry, order_of, upgraded}
+use Rattle.engine_core.specs.Chains.{Chain, Entry, IsAgainst, IsChain, Refusal, names_of, new_entry, order_of, upgraded}
 use Rattle.engine_core.specs.Chains as chains
 use Rattle.engine_core.specs.Policies.{is_same_kind}
 use Rattle.engine_core.specs.declared.op.Op.TheVariants as op

@@ -9,7 +9,7 @@ use Rattle.proto_file.specs.declared.file.EnumDecl.{EnumDecl}
 use Rattle.proto_file.specs.declared.file.ServiceDecl.{ServiceDecl}
 use Rattle.proto_file.specs.Joined.{Joined, home_in, home_of, enum_home_of, package_at}
 use Rattle.proto_file.specs.Order.{IsPlaceBelow, its_name}
-use Rattle.proto_file.specs.Together.{IsFormed, IsOrdered, Declaration, message_decl, enum_decl}
+use Rattle.proto_file.specs.Together.{IsFormed, IsOrdered, message_decl, enum_decl}
 use Rattle.proto_file.specs.Together
 use Rattle.schema_names.specs.Scopes.{a_message, an_enum, Sort, Names}
 use Rattle.schema_names.specs.Numbers

@@ -29,7 +29,7 @@ use Rattle.schema_offences.specs.Members.{IsNoMessage, IsFieldNumberOf}
 use Rattle.schema_offences.specs.Forms.{IsWordOf, IsForm}
 use Rattle.schema_offences.specs.Lengths
 use Rattle.mrpc_table.specs.Capped.{capped}
-use Rattle.schema_offences.specs.Lengths.{AreLengths, full_length, IsKept, IsKeptHome, type_length, LineAt, IsLineOf, IsLengthAt, rpcs_before}
+use Rattle.schema_offences.specs.Lengths.{AreLengths, full_length, IsKept, type_length, LineAt, IsLineOf, IsLengthAt, rpcs_before}
 use Rattle.schema_offences.specs.declared.lines.Lengths.{Lengths}
 use Rattle.schema_offences.specs.declared.types.TypeOf.{TypeOf}
 use Rattle.schema_offences.specs.declared.types.TypeOf.TheVariants.{Scalar, Named as OfName}

@@ -23,11 +23,11 @@ use Rattle.proto_file.specs.declared.file.ServiceDecl.{ServiceDecl}
 use Rattle.proto_file.specs.Joined.{Joined}
 use Rattle.schema_offences.specs.Methods.{service_rpcs, rpcs_of}
 use Rattle.schema_offences.specs.Lines
-use Rattle.schema_offences.specs.Lines.{HasLine, PassesAt}
+use Rattle.schema_offences.specs.Lines.{HasLine}
 use Rattle.schema_offences.specs.Meeting.{AtSome, OfElement, PassesIn}
 use Rattle.schema_offences.specs.Lengths
 use Rattle.mrpc_table.specs.Capped.{capped}
-use Rattle.schema_offences.specs.Lengths.{LineAt, IsLineOf, AreApart, Covers, CoversAll, IsPast, IsBefore, class_of, place_of, part_of, rpcs_before}
+use Rattle.schema_offences.specs.Lengths.{LineAt, AreApart, CoversAll, IsPast, IsBefore}
 use Rattle.schema_offences.specs.declared.reason.ResolveReason.{ResolveReason}
 use Rattle.schema_offences.proofs.FullLengths.{contains_at}
 use Rattle.schema_offences.proofs.LongNames.{placed}

@@ -23,7 +23,6 @@ use Rattle.schema_names.specs.Scopes
 use Rattle.schema_names.specs.Scopes.{Sort, a_message, an_enum, Declares, text_of, IsScope, of_file, of_message}
 use Rattle.schema_offences.specs.Members.{too_many_messages, too_many_enums}
 use Rattle.schema_offences.specs.Offences
-use Rattle.schema_offences.specs.Offences.{IsTwice, IsOffence}
 use Rattle.schema_offences.specs.declared.reason.ResolveReason.TheVariants.{DuplicateName, Limit}
 use Rattle.schema_resolve.specs.Resolving.{IsClean}
 use Rattle.schema_resolve.specs.Placing.{behind, name_at, front_of, AreFronts, IsPlaceAmong, AreMessageNames, AreEnumNames}

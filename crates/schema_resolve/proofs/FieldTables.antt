@@ -14,7 +14,7 @@ use Rattle.mrpc_table.specs.Words.{is_key, is_numeric}
 use Rattle.mrpc_table.specs.declared.table.Kind.{Kind}
 use Rattle.mrpc_table.specs.declared.table.Label.{Label}
 use Rattle.proto_file.specs.Order
-use Rattle.proto_file.specs.Order.{HasName, IsFormedField, its_name}
+use Rattle.proto_file.specs.Order.{IsFormedField}
 use Rattle.proto_file.specs.Together.{IsFormed, IsOrdered, field_decl}
 use Rattle.proto_file.specs.declared.file.Span.{Span}
 use Rattle.proto_file.specs.declared.file.Word.{Word}
@@ -28,7 +28,7 @@ use Rattle.proto_file.specs.Joined.{Joined, home_of}
 use Rattle.proto_file.specs.declared.joined.Home.TheVariants as home
 use Rattle.proto_file.specs.Together
 use Rattle.schema_names.specs.Scopes
-use Rattle.schema_names.specs.Scopes.{Sort, a_message, an_enum, no_type, is_type, Names, Finds, text_of, IsScope, of_message}
+use Rattle.schema_names.specs.Scopes.{Sort, a_message, an_enum, no_type, Names, Finds, text_of, IsScope, of_message}
 use Rattle.schema_offences.specs.Types.{value_of, IsScalar, IsNoScalar, HasType, scalar, message, enum, HasForm, single, a_map}
 use Rattle.schema_names.specs.Finding.{NamesNothing}
 use Rattle.schema_offences.specs.Members.{unknown_key, scalar_key, type_key, nested, labelled, in_oneof}

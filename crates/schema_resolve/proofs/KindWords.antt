@@ -26,7 +26,7 @@ use Rattle.proto_file.specs.declared.file.FieldLabel.TheVariants.{Plain, Optiona
 use Rattle.proto_file.specs.declared.file.FieldDecl.{FieldDecl}
 use Rattle.proto_file.specs.Joined.{Joined}
 use Rattle.schema_names.specs.Scopes
-use Rattle.schema_names.specs.Scopes.{Sort, a_message, an_enum, is_type, Declares, Names, Finds, text_of, IsScope}
+use Rattle.schema_names.specs.Scopes.{Sort, is_type, Declares, Finds, text_of}
 use Rattle.schema_names.specs.Numbers
 use Rattle.schema_names.specs.Numbers.{StandsAt}
 use Rattle.schema_names.specs.declared.named.Named.TheVariants as named

@@ -21,7 +21,7 @@ use Rattle.proto_file.specs.declared.file.MessageDecl.{MessageDecl}
 use Rattle.proto_file.specs.Joined.{Joined}
 use Rattle.proto_file.specs.declared.file.Span.{Span}
 use Rattle.schema_names.specs.Scopes
-use Rattle.schema_names.specs.Scopes.{IsScope, Declares, Finds, a_message, an_enum}
+use Rattle.schema_names.specs.Scopes.{Declares, Finds, a_message, an_enum}
 use Rattle.schema_names.specs.Numbers
 use Rattle.schema_names.specs.Numbers.{StandsAt, IsOfFile}
 use Rattle.schema_names.specs.declared.named.Named.TheVariants as named

@@ -29,7 +29,7 @@ use Rattle.proto_file.specs.declared.file.ServiceDecl.{ServiceDecl}
 use Rattle.proto_file.specs.declared.joined.Head.{Head}
 use Rattle.proto_file.specs.declared.joined.Home.TheVariants as home
 use Rattle.schema_names.specs.Scopes
-use Rattle.schema_names.specs.Scopes.{IsScope, of_file, of_message, Sort, a_message, is_type, Declares, IsThere, a_type, a_package, Decides, here, outward, relative, Names}
+use Rattle.schema_names.specs.Scopes.{IsScope, of_file, Sort, a_message, is_type, Declares, IsThere, a_type, a_package, here, outward, relative, Names}
 use Rattle.schema_offences.specs.Types.{IsNoScalar, message, single}
 use Rattle.schema_offences.specs.Those.{AreThose, AreThoseInOrder, none, next}
 use Rattle.schema_resolve.specs.Tables.{IsFieldOf, IsMessageOf, IsEnumOf, IsMethodOf, IsTableOf}

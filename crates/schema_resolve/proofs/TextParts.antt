@@ -19,7 +19,7 @@ use Rattle.mrpc_table.specs.declared.table.Choices.{Choices}
 use Rattle.mrpc_table.specs.declared.table.Method.{Method}
 use Rattle.mrpc_table.specs.declared.table.Table.{Table}
 use Rattle.proto_file.specs.Order
-use Rattle.proto_file.specs.Together.{Declaration, IsFormed, IsOrdered, enum_decl, field_decl, message_decl, oneof_decl, package_decl, rpc_decl, service_decl, value_decl}
+use Rattle.proto_file.specs.Together.{Declaration, IsOrdered, enum_decl, field_decl, message_decl, rpc_decl, value_decl}
 use Rattle.proto_file.specs.declared.file.Span.{Span}
 use Rattle.proto_file.specs.declared.file.FieldLabel.{FieldLabel}
 use Rattle.proto_file.specs.declared.file.FieldLabel.TheVariants.{Plain, Optional, Repeated}

@@ -6,7 +6,7 @@ use Rattle.mrpc_table.specs.Lines.{line_count}
 use Rattle.mrpc_table.specs.Text.{table_text}
 use Rattle.mrpc_table.specs.declared.table.Table.{Table}
 use Rattle.policy_blocks.specs.Declarations.{Declared}
-use Rattle.script_head.specs.Fronts.{IsFront, IsFrontFault}
+use Rattle.script_head.specs.Fronts.{IsFront}
 use Rattle.script_head.specs.Fronts as fronts
 use Rattle.script_words.specs.declared.fault.ScriptFault.{ScriptFault}
 use Rattle.script_words.specs.declared.fault.ScriptFault.TheVariants as fault

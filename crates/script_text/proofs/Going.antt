@@ -8,7 +8,7 @@ use Rattle.mrpc_table.specs.Lines.{words_of}
 use Rattle.mrpc_table.specs.declared.table.Table.{Table}
 use Rattle.policy_blocks.specs.Blocks.{is_skipped}
 use Rattle.policy_blocks.specs.Declarations.{Declared, with_item}
-use Rattle.policy_blocks.specs.Items.{item_form, item_form_in, IsAgainstHead, Heads, Declares, BreaksIn, FailsAt}
+use Rattle.policy_blocks.specs.Items.{item_form, item_form_in, Heads, Declares, FailsAt}
 use Rattle.policy_blocks.specs.Items as items
 use Rattle.policy_blocks.specs.declared.item.Item.{Item}
 use Rattle.policy_blocks.specs.declared.item_form.ItemForm.{ItemForm}

@@ -4,7 +4,7 @@ use Rattle.std.proofs.Common.{Option, Some, None, refl, ap, sym, subst, ◌∙�
 use Rattle.std.specs.Prelude.{nat_lt, nat_le}
 use Rattle.std.proofs.lemmas.Bool.{cond_both, ltb-true, ltb-false, leb-true, leb-false, and_parts, and_cases, false≢true, cases_lt}
 use Rattle.std.proofs.lemmas.Option.{same_Some}
-use Rattle.engine_core.specs.Chains.{Entry, Chain, Refusal, no_such, taken, no_place, full, other_kind, Refuses}
+use Rattle.engine_core.specs.Chains.{Chain, Refusal, no_such, taken, no_place, full, other_kind, Refuses}
 use Rattle.engine_core.specs.Chains as chains
 use Rattle.engine_core.specs.declared.op.Op.{Op}
 use Rattle.policy_blocks.specs.declared.item.NamedPolicy.{NamedPolicy}

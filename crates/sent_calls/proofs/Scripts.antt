@@ -14,12 +14,11 @@ use Rattle.call_history.specs.Events.{Comes, Course, Event, IsCourse, accepts, f
 use Rattle.call_history.specs.Frames.{frame_of, frames_behind}
 use Rattle.call_history.specs.Legal.{History, IsLegal, behind}
 use Rattle.call_history.specs.Places.{ArePlaces, IsSettled}
-use Rattle.call_history.specs.Rules.{Under}
 use Rattle.call_history.specs.declared.happening.Happened.{Happened}
 use Rattle.call_history.specs.declared.happening.Happening.{Happening}
 use Rattle.call_history.specs.declared.happening.Happening.TheVariants.{Took, Op}
 use Rattle.call_history.specs.declared.happening.Taken.{Taken}
-use Rattle.replay_run.specs.Follows.{Does, Follows, GoesOn, Leads, Opened, State, Step, come_to, goes_on, on_connection, opens, start, under}
+use Rattle.replay_run.specs.Follows.{Does, Follows, Leads, Opened, State, Step, come_to, goes_on, on_connection, opens, start, under}
 use Rattle.replay_run.specs.Follows.Does.{stores, races, submits, is_away, operates_on, shows_it, is_idle, has_turn, none_ready, is_sent, drains}
 use Rattle.replay_run.specs.Sound.{IsSoundOn}
 use Rattle.sent_calls.specs.SetFirst.{IsSetFirst, allowed_copies}

@@ -3,11 +3,10 @@ use Rattle.std.proofs.Common.{◌≡◌, ◌∙◌, ℕ, ◌+◌, ◌<◌, ◌�
 use Rattle.std.proofs.Common.{[], ◌∷◌, ◌++◌, length, map, refl, sym, ap, subst, arith, append_assoc, append-nil}
 use Rattle.std.specs.Prelude.{All, Option, Some, None, filter, option_map, unwrap_or}
 use Rattle.std.specs.List.{filter_map, list_all, list_any}
-use Rattle.std.proofs.lemmas.Bool.{eq-eqb, eqb-true, eqb-false, ne_eqb, or_parts, cases_eq, true≢false, false≢true}
+use Rattle.std.proofs.lemmas.Bool.{eq-eqb, ne_eqb, or_parts, cases_eq, true≢false}
 use Rattle.std.proofs.lemmas.List.{append_cancel_left, map-append}
-use Rattle.std.proofs.lemmas.List.Elements.{All-nil, All-cons, All-append, All-push, All-weaker, filter-append, filter_map-append}
+use Rattle.std.proofs.lemmas.List.Elements.{All-nil, All-append, All-push, All-weaker, filter-append, filter_map-append}
 use Rattle.mrpc_table.specs.declared.call.Call.{Call}
-use Rattle.mrpc_table.specs.declared.table.Table.{Table}
 use Rattle.engine_core.specs.Answers.{Answer, Answers, deny, over, refuse}
 use Rattle.engine_core.specs.Chains.{Entry}
 use Rattle.call_history.specs.Behind.{Behind, chain, copied, form, has_failed, is_fate_of, is_transport_refusal, level, moment, noted, standing, stands, taken}
@@ -22,7 +21,7 @@ use Rattle.call_history.specs.declared.happening.TookCopy.{TookCopy}
 use Rattle.call_history.specs.declared.happening.TookCopy.TheVariants.{Copy, Malformed}
 use Rattle.sent_calls.specs.SetFirst.{IsPlain, IsSetFirst, allowed, allowed_copies, allowed_of, permits}
 use Rattle.sent_calls.proofs.Allowed.{ArePlain, IsItsCopy, IsPlainAnswer, all-permit, forms-are-copies, not-permitted, one-denies, plain-answer}
-use Rattle.sent_calls.proofs.Lists.{First, all-back, all-front, at-middle, both-to, first-kept, last-kept, none-given, none-kept, none-left, one-given, push-not-nil, some-and}
+use Rattle.sent_calls.proofs.Lists.{all-back, all-front, at-middle, both-to, first-kept, last-kept, none-given, none-kept, none-left, one-given, push-not-nil, some-and}
 use Rattle.sent_calls.proofs.Numbers.{Numbered, few-numbers, greater-behind, numbered}
 
 -- where no call was accepted none was sent

@@ -1,7 +1,7 @@
 -- What the steps of a connection leave as it is: that the link hasn't failed, and, where no call is accepted, that none
 -- stands.
-use Rattle.std.proofs.Common.{◌≡◌, ◌≢◌, ◌∙◌, ℕ, ◌+◌, ◌==◌, Bool, true, false, not, ◌||◌, List, [], ◌∷◌, refl, sym, ap, subst}
-use Rattle.std.specs.Prelude.{All, filter}
+use Rattle.std.proofs.Common.{◌≡◌, ◌≢◌, ◌∙◌, ℕ, ◌+◌, ◌==◌, false, List, [], ◌∷◌, refl, sym, ap, subst}
+use Rattle.std.specs.Prelude.{filter}
 use Rattle.std.specs.List.{list_any}
 use Rattle.std.proofs.lemmas.List.Elements.{All-weaker}
 use Rattle.engine_core.specs.Chains.{Entry}
@@ -12,7 +12,7 @@ use Rattle.engine_core.specs.declared.outcome.Outcome.TheVariants as outcomes
 use Rattle.engine_core.specs.declared.outcome.Why.{Why}
 use Rattle.engine_core.specs.declared.outcome.Why.TheVariants.{Denied, Short, Over}
 use Rattle.call_history.specs.Behind.{Behind, has_failed, is_fate_of, standing, stands, taken}
-use Rattle.call_history.specs.Draining.{BeginsToDrain, Drains, Ending, Passes, SendsSome, Turns}
+use Rattle.call_history.specs.Draining.{Drains, Ending, Passes, SendsSome, Turns}
 use Rattle.call_history.specs.Draining.Ending.{at_rest, again}
 use Rattle.call_history.specs.Draining.Turns.{is_idle, is_held, redacts, goes}
 use Rattle.call_history.specs.Draining.Passes.{is_over, next, begins_again}
@@ -22,8 +22,7 @@ use Rattle.call_history.specs.Events.Comes.{takes, is_away, changes, rises, stay
 use Rattle.call_history.specs.Rules.{Under}
 use Rattle.call_history.specs.declared.happening.Cause.{Cause}
 use Rattle.call_history.specs.declared.happening.Cause.TheVariants as cause
-use Rattle.call_history.specs.declared.happening.Happening.{Happening}
-use Rattle.call_history.specs.declared.happening.Happening.TheVariants.{Took, Away, Op, Moment, Charged, Drawn, Counted, Redacted, Sent, Refused}
+use Rattle.call_history.specs.declared.happening.Happening.TheVariants.{Away, Moment, Charged, Drawn, Counted, Redacted, Sent, Refused}
 use Rattle.call_history.specs.declared.happening.Taken.{Taken}
 use Rattle.call_history.specs.declared.happening.TookCopy.{TookCopy}
 use Rattle.call_history.specs.declared.happening.TookCopy.TheVariants.{Copy, Malformed}

@@ -1,5 +1,5 @@
 -- What a step, a moment and an acceptance leave behind.
-use Rattle.std.proofs.Common.{◌≡◌, ◌⊎◌, ℕ, ◌≤◌, [], ◌∷◌, ◌++◌, refl, ap, sym, ◌∙◌, subst, append-nil}
+use Rattle.std.proofs.Common.{◌≡◌, ℕ, [], ◌∷◌, ◌++◌, refl, ap, sym, ◌∙◌, subst, append-nil}
 use Rattle.mrpc_table.specs.declared.table.Table.{Table}
 use Rattle.engine_core.specs.declared.op.Op.{Op as Step}
 use Rattle.call_history.specs.Behind.{Behind, moment, taken}
@@ -8,7 +8,7 @@ use Rattle.call_history.specs.Frames.{frames_behind}
 use Rattle.call_history.specs.Rules.{MayTake, Under}
 use Rattle.call_history.specs.Tickets.{tickets_behind}
 use Rattle.call_history.specs.declared.happening.Cause.TheVariants as cause
-use Rattle.call_history.specs.declared.happening.Happening.TheVariants.{Moment, Op, Refused, Took}
+use Rattle.call_history.specs.declared.happening.Happening.TheVariants.{Op, Refused, Took}
 use Rattle.call_history.specs.declared.happening.Taken.{Taken}
 use Rattle.call_history.specs.declared.happening.TookCopy.{TookCopy}
 use Rattle.call_history.specs.declared.happening.TookCopy.TheVariants.{Copy, Malformed}
@@ -53,12 +53,6 @@ stepped-in u old new step (stays ms is below new-is) = absurd cc
 stepped-in u old new step (has_turn p s o e is has new-is) = absurd cc
 stepped-in u old new step (is_sent s bytes is running ready new-is) = absurd cc
 stepped-in u old new step (link_failed is new-is) = absurd cc
-
--- ---- a moment
-
-pub record HasShown (old new : Course) (ms : ℕ) : Type 0 where
-  pub ended : new.ended ≡ old.ended
-  pub which : ((new.past ≡ old.past) × (ms ≤ moment old.past)) ⊎ (new.past ≡ Moment ms ∷ old.past)
 
 -- ---- an acceptance
 

@@ -4,7 +4,7 @@ mod Closed
 mod Each
 mod Knowing
 mod Members
-pub mod Sending
+mod Sending
 mod Splits
 mod Together
 mod Wirings

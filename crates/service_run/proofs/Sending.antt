@@ -61,9 +61,6 @@ use Rattle.service_loop.proofs.share.Share.TheSendSync as share
 use Rattle.service_loop.specs.contracts.submissions.Submissions as Submissions
 use Rattle.service_loop.specs.contracts.delivering.Deliveries as Deliveries
 use Rattle.service_loop.specs.contracts.endpoint.Endpoint as Endpoint
-use Rattle.shared_heap.proofs.note.Note.TheSendSync as note
-use Rattle.descriptor_ring.proofs.numbers.NumberReceiver.TheSendSync as numbers
-use Rattle.service_run.specs.contracts.served.BoundConn as BoundConn
 use Rattle.service_wiring.specs.contracts.turned.Turned as Turned
 use Rattle.service_wiring.specs.contracts.turned.Turned.TheInside as TurnedInside
 
@@ -234,22 +231,6 @@ module _ (κ : NamedLft) where
               (search sendable, tt),
             ),
           ),
-        ),
-      ),
-    ),
-  )
-
-  -- ---- what a run gives back
-  pub bound-send : IsSend (BoundConn.the_row κ)
-  bound-send = declared_send (BoundConn.the_type κ) (
-    submissions-send,
-    (
-      arrivals-send,
-      (
-        reclaims.the_send,
-        (
-          option.the_send _ share.the_send,
-          (note.the_send, (reader.the_send, (receiver.the_send, (numbers.the_send, tt)))),
         ),
       ),
     ),

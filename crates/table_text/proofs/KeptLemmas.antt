@@ -1,7 +1,7 @@
 -- The names beside a draft, once a line was added.
 use Rattle.std.proofs.Common.{◌≡◌, ℕ, ℤ, List, [], ◌∷◌, ◌++◌, map, Option, Some, None, refl, ap, sym, subst, ◌∙◌}
 use Rattle.std.proofs.lemmas.List.{append-nil}
-use Rattle.table_text.specs.Judged.{Types, Before, nothing, values, fields, after, method_key}
+use Rattle.table_text.specs.Judged.{Types, values, fields, after}
 use Rattle.table_text.specs.Judged as faults
 use Rattle.table_text.specs.Places.{Holds}
 use Rattle.table_text.specs.Drafts.{open_enum, open_message, open_part, enum_names, message_names, method_names}

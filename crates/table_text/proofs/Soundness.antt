@@ -21,7 +21,7 @@ use Rattle.table_text.proofs.TableFacts.{both_left, both_right}
 use Rattle.table_text.specs.Faults.{is_packable, is_key_kind}
 use Rattle.table_text.specs.Judged.{fields, method_key, field_falls, is_field_below, repeats_number, is_field_before}
 use Rattle.table_text.specs.Judged.{open_count, Types, Before, is_among, is_empty, is_value_below, falls, last_of}
-use Rattle.table_text.specs.Judged.{lacks_value, lacks_zero, is_within, has_field_number, is_index, clashes}
+use Rattle.table_text.specs.Judged.{lacks_value, lacks_zero, has_field_number, is_index, clashes}
 use Rattle.table_text.specs.Judged.{is_message_word, is_unknown_kind, is_unknown_label}
 use Rattle.table_text.specs.Judged.{is_map_key_label, is_short_kind, is_short_label}
 use Rattle.table_text.specs.Places.{place}

@@ -23,10 +23,10 @@ use Rattle.wire_base.specs.declared.fault.WireReason.TheVariants as wire
 use Rattle.wire_decode.specs.Words.{AreElements}
 use Rattle.wire_decode.specs.Known.{entry_fields}
 use Rattle.wire_decode.specs.Meaning as rule
-use Rattle.wire_decode.specs.Meaning.{Value, single, packed, delimited, MeansIn, means_in, HaveValues, no_more, known}
-use Rattle.wire_decode.specs.Meaning.{HasValue, a_number, a_piece, a_message, an_entry, AreFields, no_field}
-use Rattle.wire_decode.specs.Meaning.{one_field, FieldMeans, no_value, one_message, elements, entries, ValueMeans}
-use Rattle.wire_decode.specs.Meaning.{of_number, of_piece, AreItems, no_items as none_left, more_items, AreEntries}
+use Rattle.wire_decode.specs.Meaning.{single, packed, delimited, MeansIn, means_in, HaveValues, no_more, known}
+use Rattle.wire_decode.specs.Meaning.{a_number, a_piece, a_message, an_entry, no_field}
+use Rattle.wire_decode.specs.Meaning.{one_field, FieldMeans, no_value, one_message, elements, entries}
+use Rattle.wire_decode.specs.Meaning.{of_number, of_piece, no_items as none_left, more_items}
 use Rattle.wire_decode.specs.Meaning.{no_entries, more_entries}
 use Rattle.wire_decode.specs.Faults.{HasPayload, FirstFault, first_fault, no_record_there, not_whole_elements, not_utf8, message_too_deep, inside_message, IsFirstFault, is_skipped}
 use Rattle.wire_decode.specs.Reason.{reason_of}

@@ -1,5 +1,5 @@
 use Rattle.decode_laws.proofs.Endings.{cut_there, done_there}
-use Rattle.decode_laws.proofs.Once.{OnceLaw, one_fault, never_both}
+use Rattle.decode_laws.proofs.Once.{one_fault, never_both}
 use Rattle.decode_laws.proofs.laws.views_end_as_decode_does.Goals as goal
 
 pub returns-clause-cut : goal.returns-clause-cut

@@ -9,14 +9,14 @@ use Rattle.engine_core.specs.Marks.{StandingCall}
 use Rattle.engine_core.proofs.Passing.{seen-at, then-true}
 use Rattle.engine_core.proofs.call_row.CallRow.work.Goals as goal
 
-pub meet-requires : goal.meet-requires
-meet-requires g c = then-true c.args.alone (λ all. all c.index_mut-call.result.now
+pub lose_others-requires : goal.lose_others-requires
+lose_others-requires g c = then-true c.args.alone (λ all. all c.index_mut-call.result.now
     (seen-at c.self.inside.calls.items c.args.self.now c.args.place c.index_mut-call.result.now c.self.view_is c.requires.place c.index_mut-call.ensures.value))
     c.requires.alone
 
 pub work-requires-clause-call : goal.work-requires-clause-call
 work-requires-clause-call g c =
-    subst (λ (call : Call). IsCallOf c.args.table.now call) (sym c.meet.ensures.call) (c.requires.call c.index_mut-call.result.now
+    subst (λ (call : Call). IsCallOf c.args.table.now call) (sym c.lose_others.ensures.call) (c.requires.call c.index_mut-call.result.now
     (seen-at c.self.inside.calls.items c.args.self.now c.args.place c.index_mut-call.result.now c.self.view_is c.requires.place c.index_mut-call.ensures.value))
 
 pub work-requires-clause-room : goal.work-requires-clause-room
@@ -39,12 +39,12 @@ returns-clause-works g c = record {
   call' = c.work.new.call;
   is_call = seen-at c.self.inside.calls.items c.args.self.now c.args.place c.index_mut-call.result.now c.self.view_is c.requires.place c.index_mut-call.ensures.value;
   other_calls = ap (λ (calls : List StandingCall). set calls c.args.place c.work.new.call) c.self.view_is;
-  met = c.meet.new.self;
-  keeps = c.meet.ensures;
+  met = c.lose_others.new.self;
+  keeps = c.lose_others.ensures;
   turn = c.work.ensures.comes_out;
   leaves_engine = c.work.ensures.engine;
   leaves_call = subst (λ (call : Call). LeavesCall (slice_index_or c.args.engines.now c.args.at c.index-engines-at.result).entry.policy c.work.result call c.work.new.call.call)
-      c.meet.ensures.call c.work.ensures.call;
+      c.lose_others.ensures.call c.work.ensures.call;
   leaves_marks = c.work.ensures.marks;
 }
 
