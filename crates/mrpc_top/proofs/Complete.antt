@@ -1,10 +1,9 @@
 -- An input that has no fault is worked on.
-use Rattle.std.proofs.Common.{◌≡◌, ◌≢◌, ◌∙◌, ◌⊎◌, ◌+◌, ◌<◌, ◌≤◌, ap, arith, inl, inr, length, length-append, refl}
+use Rattle.std.proofs.Common.{◌≡◌, ◌≢◌, ◌∙◌, ◌⊎◌, ◌<◌, ◌≤◌, ap, arith, inl, inr, length, length-append, refl}
 use Rattle.std.proofs.Common.{sym, ℕ, List, [], ◌∷◌, Option, Some, None}
 use Rattle.std.specs.Prelude.{String}
 use Rattle.std.specs.declared.alloc.Global.{Global}
 use Rattle.std.proofs.lemmas.Bool.{cases_eq}
-use Rattle.text_commands.specs.Decoded.{CutsText}
 use Rattle.text_commands.specs.Decoded.CutsText.{in_text, in_stream}
 use Rattle.text_commands.specs.Decoded.HasDecodeFault.{fault_in_text, fault_in_stream}
 use Rattle.whole_input.specs.declared.reading.TheConstants.{INPUT_LIMIT}

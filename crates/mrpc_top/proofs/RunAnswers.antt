@@ -7,45 +7,55 @@ use Rattle.mrpc_base.specs.declared.clock.Clock.{Ghosts as ClockMembers}
 use Rattle.mrpc_base.specs.declared.link.Link.{Ghosts as LinkMembers}
 use Rattle.run_plan.specs.declared.plan.Plan.{Plan}
 use Rattle.scenario.specs.Reasons.{number_of_entry, reason_word}
-use Rattle.scenario.specs.Scenarios.{HasFault, IsTextOf}
+use Rattle.scenario.specs.Scenarios.{HasFault}
 use Rattle.drill_plan.specs.Drill.{drill}
-use Rattle.telemetry.specs.Totals.{IsTotals, SumsCount, sums_of}
+use Rattle.telemetry.specs.Totals.{SumsCount}
+use Rattle.telemetry.specs.declared.counts.Counts.{Counts}
 use Rattle.scenario.specs.declared.fault.Entry.{Entry}
 use Rattle.scenario.specs.declared.fault.ScenarioReason.{ScenarioReason}
 use Rattle.run_text.specs.Counting.{counted_in}
 use Rattle.scenario_run.specs.Running.{HasRun}
-use Rattle.scenario_run.specs.declared.running.Run.{Run}
 use Rattle.whole_input.specs.Reading.{IsInput}
 use Rattle.text_commands.specs.FaultLines.{fault_line}
 use Rattle.whole_input.specs.Reading.{IsAllOf}
 use Rattle.mrpc_top.specs.Runs.{HasRunFault, MayRefuse, MayTell, drill_line}
-use Rattle.mrpc_top.specs.Told.{IsPlanOf, IsToldOf}
+use Rattle.mrpc_top.specs.Told.{IsDrillLine, IsPlanOf}
 use Rattle.mrpc_top.specs.declared.run.Running.{Running}
 use Rattle.text_commands.specs.declared.status.TheConstants.{FAULTY_INPUT, NO_MEMORY, OUTPUT_FAILED}
 use Rattle.whole_input.specs.declared.reading.TheConstants.{INPUT_LIMIT}
 use Rattle.mrpc_top.specs.declared.run.Running.TheVariants.{Scenario, Drill}
 use Rattle.mrpc_top.proofs.KnownBytes.{appends-nothing}
 
--- what is told of the run of a plan may be told of what is run
-pub may-tell : {C L : Type 0} (of_clock : ClockMembers C) (of_link : LinkMembers L) (pair : L → L → Type 0)
-    (clock : C) (back back' : List (ℕ × L)) (failed : Bool) (running : Running) (left : Option (List ℕ)) (plan : Plan)
-    (run : Run) (told : List ℕ) → SumsCount → IsPlanOf running left plan
-    → HasRun of_clock of_link pair plan clock back back' run → run.failed ≡ failed → IsToldOf running run told
-    → MayTell of_clock of_link pair clock back back' failed running left told
-may-tell of_clock of_link pair clock back back' failed Scenario left plan run told sums says ran its is = (
-  says.0,
-  says.1,
-  record { plan = plan; says = says.2; run = run; ran = ran; its_failed = its; its_text = is },
-)
-may-tell of_clock of_link pair clock back back' failed (Drill calls) left plan run told sums same ran its is =
-    let of_drill : HasRun of_clock of_link pair (drill calls) clock back back' run =
-    subst (λ (p : Plan). HasRun of_clock of_link pair p clock back back' run) same ran in
-    record {
-      run = run;
-      ran = of_drill;
-      its_failed = its;
-      its_line = is.1 ∙ ap (drill_line calls) (sums (flat_map counted_in of_drill.told) run.totals is.0 of_drill.counts);
-    }
+module _ {C L : Type 0} (of_clock : ClockMembers C) (of_link : LinkMembers L) (pair : L → L → Type 0) (clock : C)
+    (back back' : List (ℕ × L)) (running : Running) (left : Option (List ℕ)) (plan : Plan) (totals : List (ℕ × Counts))
+    (one failed : Bool) (its : one ≡ failed) where
+  -- the text of the run of what a scenario says may be told
+  pub tells-scenario : (told : List ℕ) → running ≡ Scenario → IsPlanOf running left plan
+      → HasRun of_clock of_link pair plan clock back back' told totals one
+      → MayTell of_clock of_link pair clock back back' failed running left told
+  tells-scenario told is says ran =
+      let same : HasRun of_clock of_link pair plan clock back back' told totals failed =
+      subst (HasRun of_clock of_link pair plan clock back back' told totals) its ran in
+      subst (λ (r : Running). IsPlanOf r left plan → MayTell of_clock of_link pair clock back back' failed r left told) (sym is)
+      (λ plan_is. (plan_is.0, plan_is.1, record { plan = plan; says = plan_is.2; totals = totals; ran = same })) says
+
+  -- and the line of the counts of the run of a drill
+  pub tells-drill : (calls : ℕ) (text told : List ℕ) → SumsCount → running ≡ Drill calls → IsPlanOf running left plan
+      → HasRun of_clock of_link pair plan clock back back' text totals one → IsDrillLine calls totals told
+      → MayTell of_clock of_link pair clock back back' failed running left told
+  tells-drill calls text told sums is says ran line =
+      let same : HasRun of_clock of_link pair plan clock back back' text totals failed =
+      subst (HasRun of_clock of_link pair plan clock back back' text totals) its ran in
+      subst (λ (r : Running). IsPlanOf r left plan → MayTell of_clock of_link pair clock back back' failed r left told) (sym is)
+      (λ plan_is.
+      let of_drill : HasRun of_clock of_link pair (drill calls) clock back back' text totals failed =
+      subst (λ (p : Plan). HasRun of_clock of_link pair p clock back back' text totals failed) plan_is same in
+      record {
+        text = text;
+        totals = totals;
+        ran = of_drill;
+        its_line = line.line ∙ ap (drill_line calls) (sums (flat_map counted_in of_drill.told) totals line.sound of_drill.counts);
+      }) says
 
 pub refuses-scenario : (left left' : Option (List ℕ)) (text : List ℕ) (at : Entry) (reason : ScenarioReason) (number : ℕ)
     (word : List ℕ) → IsInput left text → HasFault text at reason → number ≡ number_of_entry at

@@ -2,7 +2,7 @@
 use Rattle.std.specs.Prelude.{◌≡◌, ◌⊎◌, ℕ, ◌<◌, ◌≤◌, Bool, List, [], ◌∷◌, codes, length, map, Option, Some, String, string_bytes}
 use Rattle.std.specs.declared.alloc.Global.{Global}
 use Rattle.std.specs.Fmt.{decimal}
-use Rattle.std.specs.List.{concat, flat_map}
+use Rattle.std.specs.List.{flat_map}
 use Rattle.std.specs.Io.KnownBytes.{Appends}
 use Rattle.mrpc_base.specs.declared.clock.Clock.{Ghosts as ClockMembers}
 use Rattle.mrpc_base.specs.declared.link.Link.{Ghosts as LinkMembers}
@@ -19,7 +19,6 @@ use Rattle.scenario.specs.declared.fault.Entry.{Entry}
 use Rattle.scenario.specs.declared.fault.ScenarioReason.{ScenarioReason}
 use Rattle.run_text.specs.Counting.{counted_in}
 use Rattle.scenario_run.specs.Running.{HasRun}
-use Rattle.scenario_run.specs.declared.running.Run.{Run}
 use Rattle.whole_input.specs.Reading.{IsInput}
 use Rattle.text_commands.specs.FaultLines.{WritesFront, fault_line}
 use Rattle.whole_input.specs.Reading.{ReadsPast}
@@ -57,20 +56,18 @@ drill_line calls counts = line (codes "drill" ∷ decimal calls ∷ codes "took"
 
 module _ {C L : Type 0} (of_clock : ClockMembers C) (of_link : LinkMembers L) (pair : L → L → Type 0) (clock : C)
     (back back' : List (ℕ × L)) where
-  -- the plan that a text says was run, and that is what it tells
+  -- the plan that a text says was run, and this is the text of its run
   pub record TellsScenario (failed : Bool) (text told : List ℕ) : Type 0 where
     pub plan : Plan
     pub says : IsTextOf text plan
-    pub run : Run
-    pub ran : HasRun of_clock of_link pair plan clock back back' run
-    pub its_failed : run.failed ≡ failed
-    pub its_text : told ≡ concat run.parts.items
+    pub totals : List (ℕ × Counts)
+    pub ran : HasRun of_clock of_link pair plan clock back back' told totals failed
 
-  -- the drill was run, and this line has the counts of all lines of the run
+  -- the drill was run, and this line has the counts of all lines of the run's text
   pub record TellsDrill (failed : Bool) (calls : ℕ) (told : List ℕ) : Type 0 where
-    pub run : Run
-    pub ran : HasRun of_clock of_link pair (drill calls) clock back back' run
-    pub its_failed : run.failed ≡ failed
+    pub text : List ℕ
+    pub totals : List (ℕ × Counts)
+    pub ran : HasRun of_clock of_link pair (drill calls) clock back back' text totals failed
     pub its_line : told ≡ drill_line calls (all_counts (flat_map counted_in ran.told))
 
   -- what was run may tell this, where a link failed or none did: of an input that had so much left, or of a drill

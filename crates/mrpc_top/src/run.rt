@@ -13,7 +13,7 @@ ghost use Rattle.telemetry.specs.Totals.{IsTotals, sums_of};
 ghost use Rattle.whole_input.specs.Reading.{IsInput};
 ghost use Rattle.text_commands.specs.FaultLines.{WritesFront};
 ghost use Rattle.mrpc_top.specs.Runs.{HasPlan, HasRunFault, IsCallCount, NamesRun, StopsRun, WritesRefusal, WritesRun, drill_line};
-ghost use Rattle.mrpc_top.specs.Told.{IsPlanOf, WritesFrontOf, WritesTold};
+ghost use Rattle.mrpc_top.specs.Told.{IsPlanOf, WritesLine, WritesLineFront};
 
 use crate::discard;
 use drill_plan::{MAX_CALLS, drill_plan};
@@ -23,7 +23,7 @@ use run_plan::Plan;
 use scenario::ScenarioFault;
 use scenario_laws::{a_said_plan_is_sound, one_scenario};
 use scenario_reader::read_scenario;
-use scenario_run::{Run, serve_plan};
+use scenario_run::{Counted, Run, count_plan, serve_plan};
 use service::ServeFault;
 use std::alloc::Global;
 use std::sync::Wait;
@@ -310,35 +310,58 @@ fn run_and_tell<R: Threads + Wait + Sync, K: Sink, F: Fabric, C: Clock, G: Gate>
     ensures fabric_cause { HasCause (result ≡ FABRIC_FAILED) (F.faults fabric.old) (F.faults fabric.new) }
 {
     totals_are_counts();
-    match serve_plan(rt, alloc, plan, fabric, clock, gate) {
-        Ok(run) => {
-            let status = tell_run(alloc, running, &run, out);
-            discard(run);
-            status
-        }
-        Err(fault) => status_of(fault),
+    match running {
+        Running::Scenario => match serve_plan(rt, alloc, plan, fabric, clock, gate) {
+            Ok(run) => {
+                let status = tell_run(&run, out);
+                discard(run);
+                status
+            }
+            Err(fault) => status_of(fault),
+        },
+        Running::Drill(calls) => match count_plan(rt, alloc, plan, fabric, clock, gate) {
+            Ok(counted) => {
+                let status = tell_counts(alloc, calls, &counted, out);
+                discard(counted);
+                status
+            }
+            Err(fault) => status_of(fault),
+        },
     }
 }
 
-// Writes what is told of a run.
-fn tell_run<K: Sink>(alloc: Global, running: Running, run: &Run, out: &mut K) -> u8
+// Writes the text of a run.
+fn tell_run<K: Sink>(run: &Run, out: &mut K) -> u8
     ensures statuses { result ≤ WIRE_FAILED }
     ensures some { (result ≢ NO_COMMAND) × (result ≢ FAULTY_INPUT) × (result ≢ INPUT_FAILED) }
-    ensures done { result ≡ DONE
-        → (run.now.failed ≡ false) × WritesTold running run.now (K.written out.old) (K.written out.new) }
-    ensures link { result ≡ LINK_FAILED
-        → (run.now.failed ≡ true) × WritesTold running run.now (K.written out.old) (K.written out.new) }
+    ensures memory { result ≢ NO_MEMORY }
+    ensures done { result ≡ DONE → (run.now.failed ≡ false)
+        × Appends (K.written out.old) (K.written out.new) (concat run.now.parts.items) }
+    ensures link { result ≡ LINK_FAILED → (run.now.failed ≡ true)
+        × Appends (K.written out.old) (K.written out.new) (concat run.now.parts.items) }
     ensures front { result ≡ OUTPUT_FAILED
-        → WritesFrontOf running run.now (K.written out.old) (K.written out.new) }
+        → WritesFront (K.written out.old) (K.written out.new) (concat run.now.parts.items) }
+    ensures cause { HasCause (result ≡ OUTPUT_FAILED) (K.faults out.old) (K.faults out.new) }
+{
+    told(write_parts(out, run.parts.as_slice()), run.failed)
+}
+
+// Writes the line of a drill.
+fn tell_counts<K: Sink>(alloc: Global, calls: u64, counted: &Counted, out: &mut K) -> u8
+    ensures statuses { result ≤ WIRE_FAILED }
+    ensures some { (result ≢ NO_COMMAND) × (result ≢ FAULTY_INPUT) × (result ≢ INPUT_FAILED) }
+    ensures done { result ≡ DONE → (counted.now.failed ≡ false)
+        × WritesLine calls counted.now.totals (K.written out.old) (K.written out.new) }
+    ensures link { result ≡ LINK_FAILED → (counted.now.failed ≡ true)
+        × WritesLine calls counted.now.totals (K.written out.old) (K.written out.new) }
+    ensures front { result ≡ OUTPUT_FAILED
+        → WritesLineFront calls counted.now.totals (K.written out.old) (K.written out.new) }
     ensures silent { result ≡ NO_MEMORY → out.new ≡ out.old }
     ensures cause { HasCause (result ≡ OUTPUT_FAILED) (K.faults out.old) (K.faults out.new) }
 {
-    match running {
-        Running::Scenario => told(write_parts(out, run.parts.as_slice()), run.failed),
-        Running::Drill(calls) => match drill_line(alloc, calls, &run.totals) {
-            Ok(line) => told(write_all(out, line.as_slice()), run.failed),
-            Err(Memory) => NO_MEMORY,
-        },
+    match drill_line(alloc, calls, &counted.totals) {
+        Ok(line) => told(write_all(out, line.as_slice()), counted.failed),
+        Err(Memory) => NO_MEMORY,
     }
 }
 

@@ -6,3 +6,4 @@ mod Making
 mod Rows
 mod Sharing
 mod Telling
+mod Texts

@@ -158,7 +158,10 @@ module _ (κ κ' : NamedLft) where
     search (conn-sync, sendable) depth 20,
     (
       search (table.the_sync, sendable) depth 20,
-      (search (judge.the_sync, sendable) depth 20, (search (line-sync, sendable) depth 20, tt)),
+      (
+        search (judge.the_sync, sendable) depth 20,
+        (search (line-sync, sendable) depth 20, (search sendable, tt)),
+      ),
     ),
   )
 

@@ -1,6 +1,6 @@
--- The code's own: the front of what is told of a connection, its history and what arrived, which is made beside those of
--- the others with the counts of the connection's lines.
-use Rattle.std.specs.Prelude.{◌≡◌, List, [], ℕ, ◌++◌, All, IfOk, Option, Some, None, Result}
+-- The code's own: the counts of a connection's lines, and the front of what is told of it, its history and what arrived,
+-- where it is to be told; they are made beside those of the others.
+use Rattle.std.specs.Prelude.{◌≡◌, Bool, true, false, List, [], ℕ, ◌++◌, All, IfOk, Option, Some, None, Result}
 use Rattle.std.specs.List.{AllZip}
 use Rattle.mrpc_table.specs.Valid.{IsValid}
 use Rattle.mrpc_table.specs.declared.memory.Memory.{Memory}
@@ -19,16 +19,21 @@ abbrev pub served_front : ShownConn → List ℕ
 served_front s = history_lines s.calls.now
     ++ arrivals_text s.arrivals.now.table.now (judging_of s.judge) s.calls.now.conn s.arrivals.now.lines.items
 
+-- a front is made where it is told
+abbrev pub if_told : (told : Bool) → List ℕ → List ℕ
+if_told true front = front
+if_told false front = []
+
 -- a connection that wasn't bound has none
-abbrev pub front_of : Shown → List ℕ
-front_of (Unbound conn why) = []
-front_of (Served served) = served_front served
+abbrev pub front_of : (told : Bool) → Shown → List ℕ
+front_of told (Unbound conn why) = []
+front_of told (Served served) = if_told told (served_front served)
 
 -- the same, by what it is made from
 abbrev pub front_text : Option Front → List ℕ
 front_text None = []
-front_text (Some f) = history_lines f.calls.now
-    ++ arrivals_text f.table.now (judging_of f.judge) f.calls.now.conn f.lines.now
+front_text (Some f) = if_told f.told (history_lines f.calls.now
+    ++ arrivals_text f.table.now (judging_of f.judge) f.calls.now.conn f.lines.now)
 
 -- a front can be made by the table of its own calls, which what arrived fits
 abbrev pub CanMake : Option Front → Type 0
@@ -41,8 +46,8 @@ pub record Making : Type 0 where
   pub text : List ℕ
   pub counted : List Counted
 
-abbrev pub making_of : Shown → Making
-making_of shown = record { text = front_of shown; counted = counted_in shown }
+abbrev pub making_of : (told : Bool) → Shown → Making
+making_of told shown = record { text = front_of told shown; counted = counted_in shown }
 
 abbrev pub front_counted : Option Front → List Counted
 front_counted None = []

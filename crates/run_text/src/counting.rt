@@ -1,6 +1,6 @@
 //! How often each happened that the lines of a run tell.
 
-ghost use Rattle.std.specs.Prelude.{◌≡◌, ◌≤◌, ◌<◌, ◌^◌, ◌++◌, ◌∷◌, [], ℕ, List, Some, IfOk, OnOk, length, map, slice_get};
+ghost use Rattle.std.specs.Prelude.{◌≡◌, ◌≤◌, ◌<◌, ◌++◌, ◌∷◌, [], ℕ, List, Some, IfOk, IfSome, OnOk, length, map, slice_get};
 ghost use Rattle.std.specs.List.{AllZip, flat_map};
 ghost use Rattle.call_history.specs.Behind.{taken};
 ghost use Rattle.call_history.specs.Records.{told_by};
@@ -18,18 +18,20 @@ use mrpc_table::Memory;
 use std::alloc::Global;
 use telemetry::{Totals, What, counts_add_up};
 
-// The counts of the lines of all connections, which are so many at most, from those of each.
+// The counts of the lines of all connections, from those of each. No memory has so many lines that their number has no
+// word.
 pub(crate) fn add_up(
     alloc: Global,
     shown: &[Shown<'_, '_>],
     counts: &[Totals],
-    most: usize,
 ) -> Result<Totals, Memory>
-    requires each { AllZip AreCountsOf shown.now counts.now }
-    requires few { length (flat_map counted_in shown.now) ≤ most }
+    requires { AllZip AreCountsOf shown.now counts.now }
     ensures { IfOk result (HaveCounted (flat_map counted_in shown.now)) }
 {
     counts_add_up();
+    let Some(_most) = most_of_all(shown) else {
+        return Err(Memory);
+    };
     let mut all = Totals::new(alloc);
     for place in 0..shown.len() {
         all.merge(&counts[place])?;
@@ -37,13 +39,43 @@ pub(crate) fn add_up(
     Ok(all)
 }
 
-// The counts of the lines of a connection that was bound.
-pub(crate) fn count_connection(alloc: Global, calls: &Conn<'_>) -> Result<Totals, Memory>
-    requires { length calls.now.happenings < 2 ^ 63 }
-    ensures { IfOk result (HaveCounted (counted_on calls.now)) }
+// How many lines of connections count, at most, if that is a number.
+fn most_of_all(shown: &[Shown<'_, '_>]) -> Option<usize>
+    ensures { IfSome result (λ most. length (flat_map counted_in shown.now) ≤ most) }
+{
+    let mut most: usize = 0;
+    for one in shown {
+        most = most.checked_add(most_of(one)?)?;
+    }
+    Some(most)
+}
+
+// How many lines of a connection count, at most, if that is a number.
+fn most_of(shown: &Shown<'_, '_>) -> Option<usize>
+    ensures { IfSome result (λ most. length (counted_in shown.now) ≤ most) }
+{
+    match shown {
+        Shown::Unbound { .. } => Some(0),
+        Shown::Served(served) => most_on(served.calls),
+    }
+}
+
+// As many as happenings and standing calls, if that is a number.
+fn most_on(calls: &Conn<'_>) -> Option<usize>
+    ensures { IfSome result (λ most. length (counted_on calls.now) ≤ most) }
 {
     calls.is_connection();
-    let _standing = calls.chain().calls().len();
+    let standing = calls.chain().calls().len();
+    calls.history().len().checked_add(standing)
+}
+
+// The counts of the lines of a connection that was bound. No memory has so many that their number has no word.
+pub(crate) fn count_connection(alloc: Global, calls: &Conn<'_>) -> Result<Totals, Memory>
+    ensures { IfOk result (HaveCounted (counted_on calls.now)) }
+{
+    let Some(_most) = most_on(calls) else {
+        return Err(Memory);
+    };
     let mut totals = Totals::new(alloc);
     count_lines(alloc, &mut totals, calls)?;
     Ok(totals)

@@ -1,7 +1,7 @@
-//! The fronts of what is told of connections, and the counts of their lines, made side by side.
+//! The counts of connections' lines, and the fronts of what is told of them, where it is to be told, made side by side.
 
 ghost use Rattle.std.specs.Prelude.{◌≡◌, ◌<◌, All, IfOk, Some, length, map, slice_index_or};
-ghost use Rattle.run_text.specs.Fronts.{AreMade, CanMake, IsMade, Making, making_by, making_of};
+ghost use Rattle.run_text.specs.Fronts.{AreMade, CanMake, IsMade, Making, front_text, making_by, making_of};
 ghost use Rattle.run_text.specs.Told.{IsTellable};
 ghost use Rattle.run_text.specs.declared.fronts.Front.{Front as TheFront};
 
@@ -18,34 +18,37 @@ use std::thread;
 use std::thread::Threads;
 use telemetry::Totals;
 
-// What the front of a connection's text and its counts are made from. Several threads may look at it.
+// What the counts of a connection, and the front of its text, are made from. Several threads may look at it.
 #[derive(Clone, Copy)]
 pub(crate) struct Front<'a, 't> {
     calls: &'a Conn<'t>,
     table: &'a Table,
     judge: Option<Judge<'a>>,
     lines: &'a [ArrivalLine],
+    // Whether its front is made.
+    told: bool,
 }
 
 // What a thread makes of a connection.
 #[derive(Drop)]
 pub(crate) struct Made {
-    // The front of its text.
+    // The front of its text, or nothing where that isn't told.
     pub text: Bytes,
     // The counts of all its lines.
     pub counts: Totals,
 }
 
-// What is made of connections, of each in a thread of its own where one can be made.
-pub(crate) fn all_fronts<R: Threads + Sync>(
+// What is made of connections, which are told or counted alone: of each in a thread of its own where one can be made.
+pub(crate) fn make_of<R: Threads + Sync>(
     rt: &R,
     alloc: Global,
     shown: &[Shown<'_, '_>],
+    told: bool,
 ) -> Result<Vec<Result<Made, Memory>>, Memory>
     requires { All IsTellable shown.now }
-    ensures { IfOk result (λ made. AreMade (map making_of shown.now) made.items) }
+    ensures { IfOk result (λ made. AreMade (map (making_of told) shown.now) made.items) }
 {
-    let sources = sources(alloc, shown)?;
+    let sources = sources(alloc, shown, told)?;
     make_all(rt, alloc, sources.as_slice())
 }
 
@@ -53,22 +56,23 @@ pub(crate) fn all_fronts<R: Threads + Sync>(
 fn sources<'a, 't>(
     alloc: Global,
     shown: &[Shown<'a, 't>],
+    told: bool,
 ) -> Result<Vec<Option<Front<'a, 't>>>, Memory>
     requires { All IsTellable shown.now }
-    ensures same { IfOk result (λ sources. map making_by sources.items ≡ map making_of shown.now) }
+    ensures same { IfOk result (λ sources. map making_by sources.items ≡ map (making_of told) shown.now) }
     ensures can { IfOk result (λ sources. All CanMake sources.items) }
 {
     let mut sources = Vec::new(alloc);
     for one in shown {
-        sources.push(source_of(one))?;
+        sources.push(source_of(one, told))?;
     }
     Ok(sources)
 }
 
 // What a thread is given for a connection; nothing for one that wasn't bound.
-fn source_of<'a, 't>(shown: &Shown<'a, 't>) -> Option<Front<'a, 't>>
+fn source_of<'a, 't>(shown: &Shown<'a, 't>, told: bool) -> Option<Front<'a, 't>>
     requires { IsTellable shown.now }
-    ensures same { making_by result ≡ making_of shown.now }
+    ensures same { making_by result ≡ making_of told shown.now }
     ensures can { CanMake result }
 {
     lines_fit();
@@ -79,6 +83,7 @@ fn source_of<'a, 't>(shown: &Shown<'a, 't>) -> Option<Front<'a, 't>>
             table: served.arrivals.table,
             judge: served.judge,
             lines: served.arrivals.lines.as_slice(),
+            told,
         }),
     }
 }
@@ -119,22 +124,33 @@ fn make(alloc: Global, source: Option<Front<'_, '_>>) -> Result<Made, Memory>
     }
 }
 
-// The front of a connection's text, its history and what arrived, and the counts of its lines.
+// The counts of a connection's lines, and the front of its text.
 fn make_served(alloc: Global, front: Front<'_, '_>) -> Result<Made, Memory>
     requires { CanMake (Some front) }
     ensures { IfOk result (IsMade (making_by (Some front.entry))) }
 {
+    let counts = count_connection(alloc, front.calls)?;
+    let text = told_front(alloc, front)?;
+    Ok(Made { text, counts })
+}
+
+// The front of a connection's text, its history and what arrived, if it is to be told.
+fn told_front(alloc: Global, front: Front<'_, '_>) -> Result<Bytes, Memory>
+    requires { CanMake (Some front) }
+    ensures { IfOk result (λ text. text ≡ front_text (Some front.entry)) }
+{
+    if !front.told {
+        return Ok(Bytes::new(alloc));
+    }
     let Front {
         calls,
         table,
         judge,
         lines,
+        ..
     } = front;
     let mut text = Bytes::new(alloc);
     append_history(alloc, &mut text, calls, table)?;
     append_arrivals(alloc, &mut text, calls.number(), table, judge, lines)?;
-    // The bytes of a text are fewer than 2^63, and no history has more happenings.
-    let _told = text.as_slice();
-    let counts = count_connection(alloc, calls)?;
-    Ok(Made { text, counts })
+    Ok(text)
 }

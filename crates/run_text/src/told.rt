@@ -1,21 +1,22 @@
-//! The whole text of what a run tells.
+//! The whole text of what a run tells, and its counts.
 
-ghost use Rattle.std.specs.Prelude.{◌≡◌, ◌++◌, ◌∷◌, [], ℕ, List, All, IfOk, IfSome, OnOk, length, map};
+ghost use Rattle.std.specs.Prelude.{◌≡◌, ◌++◌, ◌∷◌, [], ℕ, List, All, IfOk, OnOk, false, map, true};
 ghost use Rattle.std.specs.List.{AllZip, concat, flat_map};
 ghost use Rattle.telemetry.specs.declared.counts.Counts.{Counts};
 ghost use Rattle.telemetry.specs.Totals.{IsCountOf, IsTotals, totals_text};
 ghost use Rattle.run_text.specs.Counting.{counted_in};
-ghost use Rattle.run_text.specs.Counts.{AreCountsOf};
-ghost use Rattle.run_text.specs.Fronts.{AreMade, IsMade, front_of, making_of, served_front};
+ghost use Rattle.run_text.specs.Counts.{AreCountsOf, HaveCounted};
+ghost use Rattle.run_text.specs.Fronts.{AreMade, IsMade, Making, front_of, making_of, served_front};
 ghost use Rattle.run_text.specs.Told.{IsRunText, IsServedText, IsShownText, IsTellable, IsTellableConn, rounds_line, rounds_of, rounds_words};
 
 use crate::arrived::append_false_reclaims;
 use crate::connection::append_standing_calls;
 use crate::counting::add_up;
-use crate::fronts::{Made, all_fronts};
+use crate::fronts::{Made, make_of};
 use crate::left::append_left;
 use crate::shown::{Rounds, Shown, ShownConn};
 use arrival_text::append_unbound;
+use frame_transport::one_split;
 use mrpc_table::{Bytes, Memory};
 use std::alloc::Global;
 use std::thread::Threads;
@@ -43,14 +44,66 @@ pub fn run_text<R: Threads + Sync>(
     ensures totals { IfOk result (λ told. IsTotals told.totals) }
 {
     totals_are_counts();
-    let made = all_fronts(rt, alloc, shown)?;
+    let made = make_of(rt, alloc, shown, true)?;
     let mut counts = Vec::new(alloc);
     let mut parts = texts_of(alloc, shown, made, &mut counts)?;
-    let most = length_of(parts.as_slice())?;
-    let totals = add_up(alloc, shown, counts.as_slice(), most)?;
+    let totals = add_up(alloc, shown, counts.as_slice())?;
     let last = ending(alloc, shown, &totals)?;
     parts.push(last)?;
     Ok(RunText { parts, totals })
+}
+
+/// How often each happened that the lines of a run tell, of connections in this order. The text of the run is there, but
+/// isn't made. The lines of each connection are counted in a thread of its own, where one can be made. The only error is
+/// `Memory`.
+pub fn run_counts<R: Threads + Sync>(
+    rt: &R,
+    alloc: Global,
+    shown: &[Shown<'_, '_>],
+) -> Result<Totals, Memory>
+    requires { All IsTellable shown.now }
+    ensures text { IfOk result (λ _. (text : List ℕ) × IsRunText shown.now text) }
+    ensures counts { IfOk result (λ totals. IsCountOf (flat_map counted_in shown.now) totals) }
+    ensures totals { IfOk result (λ totals. IsTotals totals) }
+{
+    one_split();
+    totals_are_counts();
+    let made = make_of(rt, alloc, shown, false)?;
+    let counts = counts_of(alloc, shown, made)?;
+    let totals = add_up(alloc, shown, counts.as_slice())?;
+    let _sums = totals.sums();
+    Ok(totals)
+}
+
+// The counts of each connection, by what was made of it.
+fn counts_of(
+    alloc: Global,
+    shown: &[Shown<'_, '_>],
+    made: Vec<Result<Made, Memory>>,
+) -> Result<Vec<Totals>, Memory>
+    requires { AreMade (map (making_of false) shown.now) made.items }
+    ensures { IfOk result (λ counts. AllZip AreCountsOf shown.now counts.items) }
+{
+    let mut counts = Vec::new(alloc);
+    let mut rest = made.into_iter();
+    for _one in shown {
+        let Some(made) = rest.next() else {
+            unreachable!()
+        };
+        counts.push(counts_in(made)?)?;
+    }
+    Ok(counts)
+}
+
+// The counts of a connection, by what was made of it, if memory was found.
+fn counts_in(made: Result<Made, Memory>) -> Result<Totals, Memory>
+    ensures { (making : Making) → IfOk made (IsMade making) → IfOk result (HaveCounted making.counted) }
+{
+    let Made {
+        text: _text,
+        counts,
+    } = made?;
+    Ok(counts)
 }
 
 // What is told of each connection, behind what was made of it. Its counts are put with those of the others.
@@ -61,7 +114,7 @@ fn texts_of(
     counts: &mut Vec<Totals>,
 ) -> Result<Vec<Bytes>, Memory>
     requires tellable { All IsTellable shown.now }
-    requires made { AreMade (map making_of shown.now) made.items }
+    requires made { AreMade (map (making_of true) shown.now) made.items }
     requires none { counts.old.items ≡ [] }
     ensures texts { IfOk result (λ texts. AllZip IsShownText shown.now texts.items) }
     ensures counts { OnOk result (AllZip AreCountsOf shown.now counts.new.items) }
@@ -84,7 +137,7 @@ fn text_of(
     counts: &mut Vec<Totals>,
 ) -> Result<Bytes, Memory>
     requires tellable { IsTellable shown.now }
-    requires made { IfOk made (IsMade (making_of shown.now)) }
+    requires made { IfOk made (IsMade (making_of true shown.now)) }
     ensures text { IfOk result (λ text. IsShownText shown.now text) }
     ensures counts { OnOk result ((own : List (ℕ × Counts)) × AreCountsOf shown.now own
         × (counts.new.items ≡ counts.old.items ++ own ∷ [])) }
@@ -97,7 +150,7 @@ fn text_of(
 // What is told of a connection, behind its front.
 fn whole_text(shown: &Shown<'_, '_>, front: Bytes) -> Result<Bytes, Memory>
     requires tellable { IsTellable shown.now }
-    requires front { front ≡ front_of shown.now }
+    requires front { front ≡ front_of true shown.now }
     ensures { IfOk result (λ text. IsShownText shown.now text) }
 {
     let mut text = front;
@@ -108,7 +161,7 @@ fn whole_text(shown: &Shown<'_, '_>, front: Bytes) -> Result<Bytes, Memory>
 // Appends to the front of a connection what else is told of it.
 fn append_rest(out: &mut Bytes, shown: &Shown<'_, '_>) -> Result<(), Memory>
     requires tellable { IsTellable shown.now }
-    requires front { out.old ≡ front_of shown.now }
+    requires front { out.old ≡ front_of true shown.now }
     ensures { OnOk result (IsShownText shown.now out.new) }
 {
     match shown {
@@ -128,27 +181,6 @@ fn append_served(out: &mut Bytes, served: &ShownConn<'_, '_>) -> Result<(), Memo
     append_false_reclaims(out, conn, served.not_held)?;
     append_left(out, conn, served.calls.ended(), served.arrivals)?;
     append_standing_calls(out, served.calls)
-}
-
-// How long texts are together. No memory has texts whose lengths have no sum.
-fn length_of(texts: &[Bytes]) -> Result<usize, Memory>
-    ensures { IfOk result (λ long. long ≡ length (concat texts.now)) }
-{
-    match sum_of_lengths(texts) {
-        Some(long) => Ok(long),
-        None => Err(Memory),
-    }
-}
-
-// The sum of the lengths of texts, if it is a number.
-fn sum_of_lengths(texts: &[Bytes]) -> Option<usize>
-    ensures { IfSome result (λ long. long ≡ length (concat texts.now)) }
-{
-    let mut long: usize = 0;
-    for text in texts {
-        long = long.checked_add(text.len())?;
-    }
-    Some(long)
 }
 
 // What is told behind all connections: the accounts of those that have one, and the counts of all lines.

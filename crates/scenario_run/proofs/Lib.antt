@@ -1,6 +1,4 @@
 mod Judging
-mod Links
-mod Sending
 mod Shown
 mod Tellable
 mod Weighing

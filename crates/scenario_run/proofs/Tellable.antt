@@ -1,6 +1,6 @@
 -- Connections that were served can be told, with what became of their links.
-use Rattle.std.proofs.Common.{◌≡◌, ℕ, true, false, List, [], ◌∷◌, All, Contains, Option, Some, sym, ap, ◌∙◌, subst}
-use Rattle.std.specs.List.{AllZip, concat, flat_map}
+use Rattle.std.proofs.Common.{◌≡◌, ℕ, Bool, true, false, List, [], ◌∷◌, All, Contains, Option, Some, sym, ap, ◌∙◌, subst}
+use Rattle.std.specs.List.{AllZip}
 use Rattle.std.specs.Option.{option_copied}
 use Rattle.std.proofs.lemmas.Bool.{false_from_ne_true}
 use Rattle.std.proofs.lemmas.List.Elements.{All-cons, All-contains, All-head, All-nil, All-tail}
@@ -18,18 +18,14 @@ use Rattle.run_plan.specs.Chains.{table_of}
 use Rattle.run_plan.specs.Ports.{application_in}
 use Rattle.run_plan.specs.declared.application.Application.{Application}
 use Rattle.run_plan.specs.declared.plan.Plan.{Plan}
-use Rattle.run_text.specs.Counting.{counted_in}
-use Rattle.run_text.specs.Told.{IsRunText}
-use Rattle.run_text.specs.declared.shown.Shown.{Shown}
-use Rattle.telemetry.specs.Totals.{IsCountOf}
+use Rattle.telemetry.specs.declared.counts.Counts.{Counts}
 use Rattle.service.specs.Served.{Became, WasRefused, WasServed, WasServedBound}
 use Rattle.service.specs.declared.served.Outcome.{Outcome}
 use Rattle.service.specs.declared.served.Outcome.TheVariants.{Bound, Unbound}
 use Rattle.service.specs.declared.served.ServedConn.{ServedConn}
 use Rattle.service_run.specs.declared.served.BoundConn.{BoundConn}
-use Rattle.scenario_run.specs.Running.{HasFailed, NeverFailed, Shows, by_number}
-use Rattle.scenario_run.specs.declared.running.Run.{Run}
-use Rattle.scenario_run.specs.Telling.{IsToldRun, AreTellable, CanTell, IsTellableConn, TellsFailure}
+use Rattle.scenario_run.specs.Running.{HasFailed, NeverFailed}
+use Rattle.scenario_run.specs.Telling.{AreTellable, AreTold, CanTell, IsTellableConn, IsToldRun, TellsFailure}
 
 -- the transport leaves a connection unbound where its stream failed alone
 transport-failed : (T : Table) (service stream : List ℕ) (fault : Option FeedFault) (state : Stream) (why : Cause)
@@ -120,18 +116,14 @@ none-failed {L} of_link plan (s ∷ conns) all none =
     ((All-head (IsTellableConn of_link plan) s conns all).works (All-head tells s conns none))
     (none-failed of_link plan conns (All-tail (IsTellableConn of_link plan) s conns all) (All-tail tells s conns none))
 
-pub told-run : {L : Type 0} (of_link : LinkMembers L) (plan : Plan) (conns first second : List (ServedConn L)) (r : Run)
-    → first ≡ conns → second ≡ conns → AreTellable of_link plan conns
-    → (r.failed ≡ true → (s : ServedConn L) × Contains first s × TellsFailure s.outcome)
-    → (r.failed ≡ false → All (λ (s : ServedConn L). TellsFailure s.outcome → ⊥) first)
-    → (shown : List Shown) × AllZip (Shows plan) (by_number second) shown × IsRunText shown (concat r.parts.items)
-    × IsCountOf (flat_map counted_in shown) r.totals
-    → IsToldRun of_link plan conns r
-told-run {L} of_link plan conns first second r at-first at-second all if-failed if-works told = record {
-  told = told.0;
-  shows = subst (λ (l : List (ServedConn L)). AllZip (Shows plan) (by_number l) told.0) at-second told.1;
-  text = told.2;
-  counts = told.3;
+pub told-run : {L : Type 0} (of_link : LinkMembers L) (plan : Plan) (conns first second : List (ServedConn L))
+    (text : List ℕ) (totals : List (ℕ × Counts)) (one : Bool) → first ≡ conns → second ≡ conns
+    → AreTellable of_link plan conns
+    → (one ≡ true → (s : ServedConn L) × Contains first s × TellsFailure s.outcome)
+    → (one ≡ false → All (λ (s : ServedConn L). TellsFailure s.outcome → ⊥) first)
+    → AreTold plan second text totals → IsToldRun of_link plan conns text totals one
+told-run {L} of_link plan conns first second text totals one at-first at-second all if-failed if-works tells = record {
+  tells = subst (λ (l : List (ServedConn L)). AreTold plan l text totals) at-second tells;
   one_failed = λ failed.
       let found = if-failed failed in
       let among = subst (λ (l : List (ServedConn L)). Contains l found.0) at-first found.1 in

@@ -1,6 +1,6 @@
 -- Lists, place by place, that go on.
-use Rattle.std.proofs.Common.{◌≡◌, ◌<◌, ℕ, zero, suc, ◌+◌, List, [], ◌∷◌, ◌++◌, length, Option, Some, None, refl, ap, ◌∙◌, arith}
-use Rattle.std.specs.Prelude.{option_to_list, slice_index_or}
+use Rattle.std.proofs.Common.{◌≡◌, ℕ, zero, suc, ◌+◌, List, [], ◌∷◌, ◌++◌, Option, Some, None, refl, ap, ◌∙◌, arith}
+use Rattle.std.specs.Prelude.{option_to_list}
 use Rattle.std.specs.List.{AllZip, filter_map, range_with_len}
 use Rattle.std.proofs.lemmas.List.Elements.{filter_map-append}
 
@@ -29,14 +29,3 @@ given-more h a n =
     ap (λ k. filter_map h (range_with_len a k)) next ∙ ap (filter_map h) (range-more a n)
     ∙ filter_map-append h (range_with_len a n) ((a + n) ∷ [])
     ∙ ap (λ last. filter_map h (range_with_len a n) ++ last) (given-one h (a + n) (h (a + n)) refl)
-
--- where a relation holds of the items at each place, it holds place by place
-pub zip-places : {X Y : Type 0} (R : X → Y → Type 0) (xs : List X) (ys : List Y) → length ys ≡ length xs
-    → ((k : ℕ) (d : X) (e : Y) → k < length xs → R (slice_index_or xs k d) (slice_index_or ys k e)) → AllZip R xs ys
-zip-places R [] [] same each = tt
-zip-places R [] (y ∷ ys) same each = absurd (omega (arith, same))
-zip-places R (x ∷ xs) [] same each = absurd (omega (arith, same))
-zip-places R (x ∷ xs) (y ∷ ys) same each = (
-  each 0 x y (omega arith),
-  zip-places R xs ys (omega (arith, same)) (λ k d e less. each (suc k) d e (omega (arith, less))),
-)

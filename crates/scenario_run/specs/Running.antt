@@ -1,11 +1,12 @@
 -- What a run of a plan did, and what it tells (this project's own).
-use Rattle.std.specs.Prelude.{◌≡◌, ◌==◌, ◌<◌, ◌^◌, ℕ, true, false, List, ◌++◌, All, Contains, find, map, length, IsPermutation, Option, option_and_then, option_map}
-use Rattle.std.specs.List.{AllZip, concat, flat_map, filter_map, range_with_len}
+use Rattle.std.specs.Prelude.{◌≡◌, ◌==◌, ◌<◌, ◌^◌, ℕ, Bool, true, false, List, ◌++◌, All, Contains, find, map, length, IsPermutation, Option, option_and_then, option_map}
+use Rattle.std.specs.List.{AllZip, flat_map, filter_map, range_with_len}
 use Rattle.mrpc_base.specs.Faults.{Rose}
 use Rattle.mrpc_base.specs.declared.clock.Clock.{Ghosts as ClockMembers}
 use Rattle.mrpc_base.specs.declared.link.Link.{Ghosts as LinkMembers}
 use Rattle.mrpc_base.specs.declared.tickets.TheConstants.{WINDOWS}
 use Rattle.tenant_quota.specs.Drawing.{EachOnce}
+use Rattle.conn_core.specs.Connections.{IsConnection}
 use Rattle.arrival_text.specs.Lines.{Judging, judging_of}
 use Rattle.policy_access.specs.Verdict.{AccessPolicy}
 use Rattle.run_plan.specs.Chains.{inbound_of, label_at}
@@ -20,13 +21,13 @@ use Rattle.run_text.specs.declared.shown.Shown.{Shown}
 use Rattle.run_text.specs.declared.shown.Shown.TheVariants as shown
 use Rattle.run_text.specs.declared.shown.ShownConn.{ShownConn}
 use Rattle.telemetry.specs.Totals.{IsCountOf}
+use Rattle.telemetry.specs.declared.counts.Counts.{Counts}
 use Rattle.service_loop.specs.declared.share.Share.{Share}
 use Rattle.service_run.specs.declared.served.BoundConn.{BoundConn}
 use Rattle.service.specs.Served.{ArePairs, WasServed, all_tickets}
 use Rattle.service.specs.declared.served.Outcome.{Outcome}
 use Rattle.service.specs.declared.served.Outcome.TheVariants.{Bound, Unbound}
 use Rattle.service.specs.declared.served.ServedConn.{ServedConn}
-use Rattle.scenario_run.specs.declared.running.Run.{Run}
 
 -- ---- what is told
 
@@ -47,9 +48,11 @@ judging_on plan conn = option_and_then (judging_by plan) (application_in plan.ap
 abbrev pub rounds_in : Share → Rounds
 rounds_in share = record { weight = share.weight; account = share.account }
 
--- a connection that was bound is told by what it served
+-- a connection that was bound is told by what it served; all holds of it that holds of connections, so its history is
+-- legal
 pub record ShowsBound (plan : Plan) (conn : ℕ) (b : BoundConn) (s : ShownConn) : Type 0 where
   pub calls : s.calls.now ≡ b.submissions.conn
+  pub connection : IsConnection b.submissions.conn
   pub arrivals : s.arrivals.now ≡ b.arrivals
   pub judging : judging_of s.judge ≡ judging_on plan conn
   pub not_held : s.not_held.now ≡ b.reclaims.not_held.items
@@ -77,10 +80,6 @@ by_number conns = filter_map (conn_in conns) (range_with_len 1 MAX_CONNECTIONS)
 abbrev pub link_of : {L : Type 0} → ServedConn L → ℕ × L
 link_of s = (s.conn, s.link)
 
--- a link is that of a connection, with its number
-abbrev pub IsLinkOf : {L : Type 0} → ServedConn L → ℕ × L → Type 0
-IsLinkOf s link = link ≡ link_of s
-
 -- whether the link of a connection failed
 abbrev pub HasFailed : {L : Type 0} → LinkMembers L → ServedConn L → Type 0
 HasFailed of_link s = Rose 0 (of_link.faults s.link)
@@ -92,10 +91,11 @@ NeverFailed of_link s = of_link.faults s.link ≡ 0
 
 -- A run of a plan over a fabric that had some links back and has others now. Each connection of the plan was served, or
 -- left unbound for what its link gave; each two have the ends of one link; and the tickets of a tenant's window are 0,
--- 1, 2 and so on, each once. The text is that of these connections, by ascending number. The fabric has all their links
--- back, of which one failed or none.
+-- 1, 2 and so on, each once. This is the text of these connections, by ascending number, and these are the counts of its
+-- lines. The fabric has all their links back, of which one failed or none.
 pub record HasRun {C L : Type 0} (of_clock : ClockMembers C) (of_link : LinkMembers L) (pair : L → L → Type 0)
-    (plan : Plan) (clock : C) (back back' : List (ℕ × L)) (r : Run) : Type 0 where
+    (plan : Plan) (clock : C) (back back' : List (ℕ × L)) (text : List ℕ) (totals : List (ℕ × Counts)) (failed : Bool)
+    : Type 0 where
   pub conns : List (ServedConn L)
   pub served : AllZip (WasServed of_clock of_link plan clock) (all_ends plan.links) conns
   pub pairs : ArePairs (λ s. s.link) pair conns
@@ -103,8 +103,8 @@ pub record HasRun {C L : Type 0} (of_clock : ClockMembers C) (of_link : LinkMemb
       → length (all_tickets tenant window conns) < 2 ^ 64 → EachOnce (all_tickets tenant window conns)
   pub told : List Shown
   pub shows : AllZip (Shows plan) (by_number conns) told
-  pub text : IsRunText told (concat r.parts.items)
-  pub counts : IsCountOf (flat_map counted_in told) r.totals
+  pub is_text : IsRunText told text
+  pub counts : IsCountOf (flat_map counted_in told) totals
   pub given_back : IsPermutation back' (map link_of conns ++ back)
-  pub one_failed : r.failed ≡ true → (s : ServedConn L) × Contains conns s × HasFailed of_link s
-  pub none_failed : r.failed ≡ false → All (NeverFailed of_link) conns
+  pub one_failed : failed ≡ true → (s : ServedConn L) × Contains conns s × HasFailed of_link s
+  pub none_failed : failed ≡ false → All (NeverFailed of_link) conns

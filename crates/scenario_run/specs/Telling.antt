@@ -1,5 +1,5 @@
 -- The code's own: connections that can be told, and what is told of them.
-use Rattle.std.specs.Prelude.{◌≡◌, ℕ, true, false, List, All, Contains, Some}
+use Rattle.std.specs.Prelude.{◌≡◌, ℕ, Bool, true, false, List, All, Contains, Some}
 use Rattle.std.specs.List.{AllZip, concat, flat_map}
 use Rattle.mrpc_base.specs.declared.link.Link.{Ghosts as LinkMembers}
 use Rattle.deliveries.specs.Arriving.{AreArriving}
@@ -18,8 +18,8 @@ use Rattle.service.specs.declared.served.Outcome.TheVariants.{Bound, Unbound}
 use Rattle.link_greeting.specs.declared.unbound.Unbound.TheVariants.{Transport}
 use Rattle.service.specs.declared.served.ServedConn.{ServedConn}
 use Rattle.telemetry.specs.Totals.{IsCountOf}
+use Rattle.telemetry.specs.declared.counts.Counts.{Counts}
 use Rattle.scenario_run.specs.Running.{HasFailed, NeverFailed, Shows, by_number}
-use Rattle.scenario_run.specs.declared.running.Run.{Run}
 
 -- A connection that was bound can be told: it is that of an application of the plan, what arrived was judged by the
 -- application's table and policy, and its calls are of the same table.
@@ -47,12 +47,22 @@ pub record IsTellableConn {L : Type 0} (of_link : LinkMembers L) (plan : Plan) (
 abbrev pub AreTellable : {L : Type 0} → LinkMembers L → Plan → List (ServedConn L) → Type 0
 AreTellable of_link plan conns = All (IsTellableConn of_link plan) conns
 
--- a run tells these connections
-pub record IsToldRun {L : Type 0} (of_link : LinkMembers L) (plan : Plan) (conns : List (ServedConn L)) (r : Run)
+-- these are the text of connections and its counts
+pub record AreTold {L : Type 0} (plan : Plan) (conns : List (ServedConn L)) (text : List ℕ) (totals : List (ℕ × Counts))
     : Type 0 where
   pub told : List Shown
   pub shows : AllZip (Shows plan) (by_number conns) told
-  pub text : IsRunText told (concat r.parts.items)
-  pub counts : IsCountOf (flat_map counted_in told) r.totals
-  pub one_failed : r.failed ≡ true → (s : ServedConn L) × Contains conns s × HasFailed of_link s
-  pub none_failed : r.failed ≡ false → All (NeverFailed of_link) conns
+  pub is_text : IsRunText told text
+  pub counts : IsCountOf (flat_map counted_in told) totals
+
+-- parts that follow one another are a text, where it is made
+abbrev pub ArePartsOf : (made : Bool) → List ℕ → List (List ℕ) → Type 0
+ArePartsOf true text parts = text ≡ concat parts
+ArePartsOf false text parts = Unit {0}
+
+-- a run tells these connections
+pub record IsToldRun {L : Type 0} (of_link : LinkMembers L) (plan : Plan) (conns : List (ServedConn L)) (text : List ℕ)
+    (totals : List (ℕ × Counts)) (failed : Bool) : Type 0 where
+  pub tells : AreTold plan conns text totals
+  pub one_failed : failed ≡ true → (s : ServedConn L) × Contains conns s × HasFailed of_link s
+  pub none_failed : failed ≡ false → All (NeverFailed of_link) conns

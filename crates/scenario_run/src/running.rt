@@ -1,14 +1,15 @@
 //! A run.
 
-ghost use Rattle.std.specs.Prelude.{◌≡◌, ◌+◌, ◌≤◌, ◌++◌, IfOk, OnOk, IsErrOf, IsPermutation, length, map};
+ghost use Rattle.std.specs.Prelude.{◌≡◌, ◌+◌, ◌≤◌, ◌++◌, ℕ, List, IfOk, OnOk, IsErrOf, IsPermutation, length, map};
+ghost use Rattle.std.specs.List.{concat};
 ghost use Rattle.mrpc_base.specs.Faults.{HasCause};
 ghost use Rattle.run_plan.specs.Plans.{IsPlan};
 ghost use Rattle.service.specs.Prepared.{IsPrepared};
 ghost use Rattle.service_wiring.specs.Weighing.{GoesBy};
 ghost use Rattle.scenario_run.specs.Running.{HasRun, link_of};
-ghost use Rattle.scenario_run.specs.Telling.{AreTellable, IsToldRun};
+ghost use Rattle.scenario_run.specs.Telling.{ArePartsOf, AreTellable, IsToldRun};
 
-use crate::giving_back::{give_back, links_alone};
+use crate::giving_back::give_back;
 use crate::ordering::weighted;
 use crate::telling::{has_failed, tell};
 use mrpc_base::{Clock, Fabric, Gate, PlainOrder, ReadyOrder};
@@ -32,8 +33,18 @@ pub struct Run {
     pub failed: bool,
 }
 
+/// What a run of a plan came to that is counted, and not told.
+#[derive(Drop)]
+pub struct Counted {
+    /// How many calls of each method were taken, sent, refused and left standing.
+    pub totals: Totals,
+    /// Whether a link failed.
+    pub failed: bool,
+}
+
 /// Runs a plan over links of a fabric, and gives them back. It waits for the connections. `Fabric` comes where the fabric
-/// failed to open a link, and `Memory` where no memory was found; links that were opened are then dropped.
+/// failed to open a link, and `Memory` where no memory was found; links that were opened are then dropped. What else
+/// the connections of a run keep is left to the end of the process.
 pub fn serve_plan<R: Threads + Wait + Sync, F: Fabric, C: Clock, G: Gate>(
     rt: &R,
     alloc: Global,
@@ -43,16 +54,71 @@ pub fn serve_plan<R: Threads + Wait + Sync, F: Fabric, C: Clock, G: Gate>(
     gate: &G,
 ) -> Result<Run, ServeFault>
     requires { IsPlan plan.now }
-    ensures ran { IfOk result (HasRun C.Clock F.L.Link F.pair plan.now clock.now (F.back fabric.old) (F.back fabric.new)) }
+    ensures ran { IfOk result (λ ran. HasRun C.Clock F.L.Link F.pair plan.now clock.now (F.back fabric.old)
+        (F.back fabric.new) (concat ran.parts.items) ran.totals ran.failed) }
+    ensures away { IfOk result (λ ran. F.away fabric.new ≡ F.away fabric.old) }
+    ensures cause { HasCause (IsErrOf result ServeFault.Fabric) (F.faults fabric.old) (F.faults fabric.new) }
+{
+    serve_or_count(rt, alloc, plan, fabric, clock, gate, true)
+}
+
+/// Runs a plan as [`serve_plan`] does, and counts what happened without telling it: the text of the run isn't made.
+pub fn count_plan<R: Threads + Wait + Sync, F: Fabric, C: Clock, G: Gate>(
+    rt: &R,
+    alloc: Global,
+    plan: &Plan,
+    fabric: &mut F,
+    clock: &C,
+    gate: &G,
+) -> Result<Counted, ServeFault>
+    requires { IsPlan plan.now }
+    ensures ran { IfOk result (λ counted. (text : List ℕ) × HasRun C.Clock F.L.Link F.pair plan.now clock.now
+        (F.back fabric.old) (F.back fabric.new) text counted.totals counted.failed) }
+    ensures away { IfOk result (λ counted. F.away fabric.new ≡ F.away fabric.old) }
+    ensures cause { HasCause (IsErrOf result ServeFault.Fabric) (F.faults fabric.old) (F.faults fabric.new) }
+{
+    let Run {
+        parts: _parts,
+        totals,
+        failed,
+    } = serve_or_count(rt, alloc, plan, fabric, clock, gate, false)?;
+    Ok(Counted { totals, failed })
+}
+
+// Runs a plan, and tells its run, or counts it alone.
+fn serve_or_count<R: Threads + Wait + Sync, F: Fabric, C: Clock, G: Gate>(
+    rt: &R,
+    alloc: Global,
+    plan: &Plan,
+    fabric: &mut F,
+    clock: &C,
+    gate: &G,
+    made: bool,
+) -> Result<Run, ServeFault>
+    requires { IsPlan plan.now }
+    ensures ran { IfOk result (λ ran. (text : List ℕ) × ArePartsOf made text ran.parts.items × HasRun C.Clock F.L.Link
+        F.pair plan.now clock.now (F.back fabric.old) (F.back fabric.new) text ran.totals ran.failed) }
     ensures away { IfOk result (λ ran. F.away fabric.new ≡ F.away fabric.old) }
     ensures cause { HasCause (IsErrOf result ServeFault.Fabric) (F.faults fabric.old) (F.faults fabric.new) }
 {
     let prepared = prepare(alloc, plan)?;
     if !plan.weighted {
-        return run_in_order(rt, alloc, plan, &prepared, fabric, clock, gate, &PlainOrder);
+        return run_in_order(
+            rt,
+            alloc,
+            plan,
+            &prepared,
+            fabric,
+            clock,
+            gate,
+            &PlainOrder,
+            made,
+        );
     }
     let order = weighted(alloc, plan)?;
-    run_in_order(rt, alloc, plan, &prepared, fabric, clock, gate, &order)
+    run_in_order(
+        rt, alloc, plan, &prepared, fabric, clock, gate, &order, made,
+    )
 }
 
 // Runs a plan that was prepared, in which connections get rounds in this order.
@@ -65,38 +131,41 @@ fn run_in_order<R: Threads + Wait + Sync, F: Fabric, C: Clock, G: Gate, O: Ready
     clock: &C,
     gate: &G,
     order: &O,
+    made: bool,
 ) -> Result<Run, ServeFault>
     requires plan { IsPlan plan.now }
     requires prepared { IsPrepared plan.now prepared.now }
     requires order { GoesBy plan.now (O.grant_of order.now) }
-    ensures ran { IfOk result (HasRun C.Clock F.L.Link F.pair plan.now clock.now (F.back fabric.old) (F.back fabric.new)) }
+    ensures ran { IfOk result (λ ran. (text : List ℕ) × ArePartsOf made text ran.parts.items × HasRun C.Clock F.L.Link
+        F.pair plan.now clock.now (F.back fabric.old) (F.back fabric.new) text ran.totals ran.failed) }
     ensures away { IfOk result (λ ran. F.away fabric.new ≡ F.away fabric.old) }
     ensures cause { HasCause (IsErrOf result ServeFault.Fabric) (F.faults fabric.old) (F.faults fabric.new) }
 {
     let served = serve(rt, alloc, plan, prepared, fabric, clock, gate, order)?;
-    Ok(conclude(rt, alloc, plan, fabric, served)?)
+    Ok(conclude(rt, alloc, plan, fabric, served, made)?)
 }
 
-// Tells a run that is over, and gives its links back.
+// Tells a run that is over, or counts it alone, and gives its links back.
 fn conclude<R: Threads + Sync, F: Fabric>(
     rt: &R,
     alloc: Global,
     plan: &Plan,
     fabric: &mut F,
     served: Served<'_, F::L>,
+    made: bool,
 ) -> Result<Run, Memory>
     requires plan { IsPlan plan.now }
     requires told { AreTellable F.L.Link plan.now served.conns.items }
     requires away { length served.conns.items ≤ F.away fabric.old }
-    ensures told { IfOk result (IsToldRun F.L.Link plan.now served.entry.conns.items) }
+    ensures told { IfOk result (λ ran. (text : List ℕ) × ArePartsOf made text ran.parts.items
+        × IsToldRun F.L.Link plan.now served.entry.conns.items text ran.totals ran.failed) }
     ensures back { OnOk result (IsPermutation (F.back fabric.new) (map link_of served.entry.conns.items ++ F.back fabric.old)) }
     ensures away { OnOk result (F.away fabric.new + length served.entry.conns.items ≡ F.away fabric.old) }
     ensures faults { F.faults fabric.new ≡ F.faults fabric.old }
 {
     let failed = has_failed(served.conns.as_slice());
-    let RunText { parts, totals } = tell(rt, alloc, plan, served.conns.as_slice())?;
-    let links = links_alone(rt, served.conns)?;
-    give_back(fabric, links);
+    let RunText { parts, totals } = tell(rt, alloc, plan, served.conns.as_slice(), made)?;
+    give_back(fabric, served.conns);
     Ok(Run {
         parts,
         totals,

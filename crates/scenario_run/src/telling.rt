@@ -1,45 +1,51 @@
-//! What a run tells of its connections.
+//! What a run tells of its connections, and its counts.
 
-ghost use Rattle.std.specs.Prelude.{◌≡◌, ◌++◌, List, All, Contains, IfOk, OnOk, IsTrue, Some, false, flat_map, option_map, option_to_list, true};
-ghost use Rattle.std.specs.List.{AllZip, concat};
+ghost use Rattle.std.specs.Prelude.{◌≡◌, ◌++◌, ℕ, List, All, Contains, IfOk, OnOk, Some, false, option_map, option_to_list, true};
+ghost use Rattle.std.specs.List.{AllZip};
 ghost use Rattle.std.specs.Option.{option_copied};
 ghost use Rattle.arrival_text.specs.Lines.{judging_of};
 ghost use Rattle.run_plan.specs.Plans.{IsPlan};
 ghost use Rattle.run_plan.specs.Ports.{application_in};
-ghost use Rattle.run_text.specs.Counting.{counted_in};
-ghost use Rattle.run_text.specs.Told.{IsRunText, IsTellable};
+ghost use Rattle.run_text.specs.Told.{IsTellable};
 ghost use Rattle.run_text.specs.declared.shown.Shown.{Shown as TheShown};
 ghost use Rattle.service.specs.declared.served.ServedConn.{ServedConn as TheConn};
-ghost use Rattle.telemetry.specs.Totals.{IsCountOf};
 ghost use Rattle.scenario_run.specs.Running.{HasFailed, NeverFailed, Shows, ShowsBound, by_number, conn_in, judging_by, judging_on, rounds_in};
-ghost use Rattle.scenario_run.specs.Telling.{AreTellable, CanTell, IsTellableBound, TellsFailure};
+ghost use Rattle.scenario_run.specs.Telling.{ArePartsOf, AreTellable, AreTold, CanTell, IsTellableBound, TellsFailure};
 
 use arrival_text::Judge;
 use link_greeting::Unbound;
 use mrpc_base::Link;
 use mrpc_table::Memory;
 use run_plan::{Application, MAX_CONNECTIONS, Plan};
-use run_text::{Rounds, RunText, Shown, ShownConn, run_text};
+use run_text::{Rounds, RunText, Shown, ShownConn, run_counts, run_text};
 use service::{Outcome, ServedConn};
 use service_loop::Share;
 use service_run::BoundConn;
 use std::alloc::Global;
 use std::thread::Threads;
 
-// The whole text, by ascending number of the connection.
+// The whole text, by ascending number of the connection, or its counts alone.
 pub(crate) fn tell<R: Threads + Sync, L: Link>(
     rt: &R,
     alloc: Global,
     plan: &Plan,
     conns: &[ServedConn<'_, L>],
+    made: bool,
 ) -> Result<RunText, Memory>
     requires plan { IsPlan plan.now }
     requires can { All (λ s. CanTell plan.now s.conn s.outcome) conns.now }
-    ensures { IfOk result (λ told. (shown : List TheShown) × AllZip (Shows plan.now) (by_number conns.now) shown
-        × IsRunText shown (concat told.parts.items) × IsCountOf (flat_map counted_in shown) told.totals) }
+    ensures { IfOk result (λ told. (text : List ℕ) × ArePartsOf made text told.parts.items
+        × AreTold plan.now conns.now text told.totals) }
 {
     let shown = shown_all(alloc, plan, conns)?;
-    run_text(rt, alloc, shown.as_slice())
+    if made {
+        return run_text(rt, alloc, shown.as_slice());
+    }
+    let totals = run_counts(rt, alloc, shown.as_slice())?;
+    Ok(RunText {
+        parts: Vec::new(alloc),
+        totals,
+    })
 }
 
 // All connections, as they are told.
@@ -107,6 +113,7 @@ fn shown_of<'a, 't, L: Link>(plan: &'a Plan, served: &'a ServedConn<'t, L>) -> S
 fn shown_conn<'a, 't>(plan: &'a Plan, conn: u32, bound: &'a BoundConn<'t>) -> ShownConn<'a, 't>
     ensures { ShowsBound plan.now conn bound.now result }
 {
+    bound.submissions.conn.is_connection();
     ShownConn {
         calls: &bound.submissions.conn,
         arrivals: &bound.arrivals,

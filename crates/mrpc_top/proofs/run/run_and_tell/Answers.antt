@@ -1,39 +1,48 @@
-use Rattle.std.proofs.Common.{arith, inl, inr, refl}
+use Rattle.std.proofs.Common.{inl, inr, refl}
 use Rattle.mrpc_top.specs.Runs.StopsRun.{in_telling, silent}
-use Rattle.mrpc_top.proofs.KnownBytes.{appends-nothing}
-use Rattle.mrpc_top.proofs.RunAnswers.{may-tell, nothing-told}
+use Rattle.mrpc_top.proofs.RunAnswers.{nothing-told, tells-drill, tells-scenario}
 use Rattle.mrpc_top.proofs.run.run_and_tell.Goals as goal
-
-pub returns-in-Ok-clause-done : goal.returns-in-Ok-clause-done
-returns-in-Ok-clause-done g c left says done =
-    let told = c.tell_run-status.ensures.done done in
-    record {
-      told = told.1.told;
-      may = may-tell _ _ _ _ _ _ _ c.args.running left c.args.plan.now c.in-Ok.run' told.1.told
-          c.totals_are_counts.ensures.sums says c.in-Ok.ensures.ran told.0 told.1.is_told;
-      written = told.1.written;
-    }
-
-pub returns-in-Ok-clause-link : goal.returns-in-Ok-clause-link
-returns-in-Ok-clause-link g c left says failed =
-    let told = c.tell_run-status.ensures.link failed in
-    record {
-      told = told.1.told;
-      may = may-tell _ _ _ _ _ _ _ c.args.running left c.args.plan.now c.in-Ok.run' told.1.told
-          c.totals_are_counts.ensures.sums says c.in-Ok.ensures.ran told.0 told.1.is_told;
-      written = told.1.written;
-    }
 
 pub returns-in-Ok-clause-cut_short : goal.returns-in-Ok-clause-cut_short
 returns-in-Ok-clause-cut_short g c left left' says e =
     elim e [
-      | inl memory ↦ silent (nothing-told g.K.Sink.written c.args.out.now c.tell_run-status.new.out (c.tell_run-status.ensures.silent memory))
+      | inl memory ↦ absurd (c.tell_run-status.ensures.memory memory)
       | inr failed ↦
-          let front = c.tell_run-status.ensures.front failed in
-          in_telling c.in-Ok.run'.failed front.told
-          (may-tell _ _ _ _ _ _ _ c.args.running left c.args.plan.now c.in-Ok.run' front.told
-          c.totals_are_counts.ensures.sums says c.in-Ok.ensures.ran refl front.is_told) front.written
+          in_telling _ _
+          (tells-scenario _ _ _ _ _ _ c.args.running left c.args.plan.now _ _ _ refl _ c.in-Scenario.is says
+          c.in-Ok.ensures.ran) (c.tell_run-status.ensures.front failed)
     ]
 
-pub returns-in-Err-clause-cut_short : goal.returns-in-Err-clause-cut_short
-returns-in-Err-clause-cut_short g c left left' says e = silent (appends-nothing _)
+pub returns-in-Ok-count_plan-clause-done : goal.returns-in-Ok-count_plan-clause-done
+returns-in-Ok-count_plan-clause-done g c left says done =
+    let told = c.tell_counts-status.ensures.done done in
+    let ran = c.in-Ok-count_plan.ensures.ran in
+    record {
+      told = told.1.0;
+      may = tells-drill _ _ _ _ _ _ c.args.running left c.args.plan.now _ _ _ told.0 _ ran.0 told.1.0
+          c.totals_are_counts.ensures.sums c.in-Drill.is says ran.1 told.1.1;
+      written = told.1.2;
+    }
+
+pub returns-in-Ok-count_plan-clause-link : goal.returns-in-Ok-count_plan-clause-link
+returns-in-Ok-count_plan-clause-link g c left says failed =
+    let told = c.tell_counts-status.ensures.link failed in
+    let ran = c.in-Ok-count_plan.ensures.ran in
+    record {
+      told = told.1.0;
+      may = tells-drill _ _ _ _ _ _ c.args.running left c.args.plan.now _ _ _ told.0 _ ran.0 told.1.0
+          c.totals_are_counts.ensures.sums c.in-Drill.is says ran.1 told.1.1;
+      written = told.1.2;
+    }
+
+pub returns-in-Ok-count_plan-clause-cut_short : goal.returns-in-Ok-count_plan-clause-cut_short
+returns-in-Ok-count_plan-clause-cut_short g c left left' says e =
+    let ran = c.in-Ok-count_plan.ensures.ran in
+    elim e [
+      | inl memory ↦ silent (nothing-told g.K.Sink.written c.args.out.now c.tell_counts-status.new.out (c.tell_counts-status.ensures.silent memory))
+      | inr failed ↦
+          let front = c.tell_counts-status.ensures.front failed in
+          in_telling _ front.0
+          (tells-drill _ _ _ _ _ _ c.args.running left c.args.plan.now _ _ _ refl _ ran.0 front.0
+          c.totals_are_counts.ensures.sums c.in-Drill.is says ran.1 front.1) front.2
+    ]

@@ -13,7 +13,7 @@ use Rattle.run_text.proofs.counting.add_up.Goals as goal
 
 pub bounds-counts-place : goal.bounds-counts-place
 bounds-counts-place c =
-    omega (arith, zip-length AreCountsOf c.args.shown.now c.args.counts.now c.requires.each, c.loop-place-test.true)
+    omega (arith, zip-length AreCountsOf c.args.shown.now c.args.counts.now c.requires, c.loop-place-test.true)
 
 pub merge-requires : goal.merge-requires
 merge-requires c =
@@ -23,14 +23,14 @@ merge-requires c =
     let one : (s : Shown) × (slice_get shown i ≡ Some s) = there shown i low in
     let own = c.index-counts-place.result in
     let its : HaveCounted (counted_in one.0) own =
-    zip-at AreCountsOf shown c.args.counts.now i one.0 own c.requires.each one.1 c.index-counts-place.is in
+    zip-at AreCountsOf shown c.args.counts.now i one.0 own c.requires one.1 c.index-counts-place.is in
     let done = flat_map counted_in (take i shown) in
     let more : flat_map counted_in (take (suc i) shown) ≡ done ++ counted_in one.0 = one-more counted_in shown i one.0 one.1 in
     let both : length (flat_map counted_in (take (suc i) shown)) ≡ length done + length (counted_in one.0) =
     ap length more ∙ length-append done (counted_in one.0) in
     let within = part-within counted_in shown (suc i) in
     plus-small (sums_of c.loop-place.all) (sums_of own)
-    (omega (arith, both, within, c.loop-place.invariant.all, its.all, c.requires.few, c.ranges.most))
+    (omega (arith, both, within, c.loop-place.invariant.all, its.all, c.in-Some.ensures))
 
 pub loop-place-preserved : goal.loop-place-preserved
 loop-place-preserved c =
@@ -40,7 +40,7 @@ loop-place-preserved c =
     let one : (s : Shown) × (slice_get shown i ≡ Some s) = there shown i low in
     let own = c.index-counts-place.result in
     let its : HaveCounted (counted_in one.0) own =
-    zip-at AreCountsOf shown c.args.counts.now i one.0 own c.requires.each one.1 c.index-counts-place.is in
+    zip-at AreCountsOf shown c.args.counts.now i one.0 own c.requires one.1 c.index-counts-place.is in
     let done = flat_map counted_in (take i shown) in
     let place : suc i ≡ i + 1 = omega arith in
     let more : done ++ counted_in one.0 ≡ flat_map counted_in (take (i + 1) shown) =

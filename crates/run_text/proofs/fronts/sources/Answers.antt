@@ -10,6 +10,7 @@ use Rattle.run_text.proofs.fronts.sources.Goals as goal
 pub loop-one-preserved : goal.loop-one-preserved
 loop-one-preserved c =
     let shown = c.args.shown.now in
+    let making = making_of c.args.told in
     let i = c.loop-one.one-index in
     let one = c.one-item.result in
     let source = c.source_of.result in
@@ -19,11 +20,11 @@ loop-one-preserved c =
     let next : take i shown ++ one ∷ [] ≡ take (i + 1) shown =
     ap (λ (x : Shown). take i shown ++ x ∷ []) c.one-item.is
     ∙ sym (take-suc shown i one c.loop-one-test.true) ∙ ap (λ n. take n shown) place in
-    let texts : map making_by (before ++ source ∷ []) ≡ map making_of (take (i + 1) shown) =
+    let texts : map making_by (before ++ source ∷ []) ≡ map making (take (i + 1) shown) =
     map-append making_by before (source ∷ []) ∙ ap (λ l. l ++ making_by source ∷ []) so.0
-    ∙ ap (λ t. map making_of (take i shown) ++ t ∷ []) c.source_of.ensures.same
-    ∙ sym (map-append making_of (take i shown) (one ∷ [])) ∙ ap (map making_of) next in
+    ∙ ap (λ t. map making (take i shown) ++ t ∷ []) c.source_of.ensures.same
+    ∙ sym (map-append making (take i shown) (one ∷ [])) ∙ ap (map making) next in
     let can : All CanMake (before ++ source ∷ []) = All-append CanMake before (source ∷ []) so.1
     (all-one CanMake source c.source_of.ensures.can) in
-    subst (λ items. (map making_by items ≡ map making_of (take (i + 1) shown)) × All CanMake items)
+    subst (λ items. (map making_by items ≡ map making (take (i + 1) shown)) × All CanMake items)
     (sym c.in_ok-push.ensures.items) (texts, can)

@@ -1,4 +1,4 @@
-use Rattle.std.proofs.Common.{drop, map, take}
+use Rattle.std.proofs.Common.{drop, map, take, true}
 use Rattle.std.specs.List.{AllZip}
 use Rattle.std.specs.Vec.Iter.{into_iter_items}
 use Rattle.run_text.specs.Counts.{AreCountsOf}
@@ -7,5 +7,5 @@ use Rattle.run_text.specs.Told.{IsShownText}
 use Rattle.run_text.proofs.told.texts_of.Given as goal
 
 abbrev pub invariant-loop-one : goal.invariant-loop-one
-invariant-loop-one l = AreMade (map making_of (drop l.one-index l.shown)) (into_iter_items l.rest)
+invariant-loop-one l = AreMade (map (making_of true) (drop l.one-index l.shown)) (into_iter_items l.rest)
     × AllZip IsShownText (take l.one-index l.shown) l.texts.items × AllZip AreCountsOf (take l.one-index l.shown) l.counts.items

@@ -12,21 +12,26 @@ conclude-requires-clause-told g c κs within =
 
 pub returns-clause-ran : goal.returns-clause-ran
 returns-clause-ran g c =
-    let told = c.in_ok-conclude.ensures.told in record {
-      conns = c.in_ok-served.served.conns.items;
-      served = c.in_ok-served.ensures.served;
-      pairs = c.in_ok-served.ensures.pairs;
-      tickets = c.in_ok-served.ensures.tickets;
-      told = told.told;
-      shows = told.shows;
-      text = told.text;
-      counts = told.counts;
-      given_back =
-          subst (λ (l : List (ℕ × g.row.F-L.Denot)). IsPermutation (g.F.Fabric.back c.conclude.new.fabric)
-          (map link_of c.in_ok-served.served.conns.items ++ l)) c.in_ok-served.ensures.back c.in_ok-conclude.ensures.back;
-      one_failed = told.one_failed;
-      none_failed = told.none_failed;
-    }
+    let told = c.in_ok-conclude.ensures.told in
+    let run = told.2 in (
+      told.0,
+      told.1,
+      record {
+        conns = c.in_ok-served.served.conns.items;
+        served = c.in_ok-served.ensures.served;
+        pairs = c.in_ok-served.ensures.pairs;
+        tickets = c.in_ok-served.ensures.tickets;
+        told = run.tells.told;
+        shows = run.tells.shows;
+        is_text = run.tells.is_text;
+        counts = run.tells.counts;
+        given_back =
+            subst (λ (l : List (ℕ × g.row.F-L.Denot)). IsPermutation (g.F.Fabric.back c.conclude.new.fabric)
+            (map link_of c.in_ok-served.served.conns.items ++ l)) c.in_ok-served.ensures.back c.in_ok-conclude.ensures.back;
+        one_failed = run.one_failed;
+        none_failed = run.none_failed;
+      },
+    )
 
 pub returns-clause-away : goal.returns-clause-away
 returns-clause-away g c = omega (arith, c.in_ok-conclude.ensures.away, c.in_ok-served.ensures.away)

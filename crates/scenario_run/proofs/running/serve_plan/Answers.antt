@@ -1,6 +1,11 @@
-use Rattle.std.proofs.Common.{◌≡◌, true, false, sym, ◌∙◌}
+use Rattle.std.proofs.Common.{ℕ, List, subst}
+use Rattle.std.proofs.lemmas.Result.{IfOk-weaker}
+use Rattle.scenario_run.specs.Running.{HasRun}
 use Rattle.scenario_run.proofs.running.serve_plan.Goals as goal
 
-pub run_in_order-requires-clause-order : goal.run_in_order-requires-clause-order
-run_in_order-requires-clause-order g c κs within = λ weighted.
-    absurd (let wrong : true ≡ false = sym weighted ∙ c.if-not-plan.true in cc)
+pub returns-clause-ran : goal.returns-clause-ran
+returns-clause-ran g c =
+    IfOk-weaker c.serve_or_count.result _ _ (λ ran told.
+    subst (λ (text : List ℕ). HasRun g.C.Clock g.F.L.Link g.F.Fabric.pair c.args.plan.now c.args.clock.now
+    (g.F.Fabric.back c.args.fabric.now) (g.F.Fabric.back c.serve_or_count.new.fabric) text ran.totals ran.failed) told.1 told.2)
+    c.serve_or_count.ensures.ran
