@@ -1,0 +1,6 @@
+mod Fates
+mod Counted
+mod Holding
+mod Planned
+mod Told
+mod Drilled

@@ -1,0 +1,56 @@
+//! What the counts of a run tell, and those of a drill. These functions do nothing; their clauses hold.
+
+ghost use Rattle.std.specs.Prelude.{◌≡◌, ◌+◌, ◌*◌, ◌≤◌, ℕ, List, [], All};
+ghost use Rattle.std.specs.List.{AllZip};
+ghost use Rattle.conn_core.specs.Connections.{Connection, IsConnection};
+ghost use Rattle.drill_plan.specs.Drill.{drill};
+ghost use Rattle.run_plan.specs.declared.plan.Plan.{Plan};
+ghost use Rattle.run_text.specs.Counting.{counted_on};
+ghost use Rattle.run_text.specs.declared.shown.Shown.{Shown};
+ghost use Rattle.scenario_run.specs.Running.{NeverFailed, Shows, by_number};
+ghost use Rattle.service.specs.declared.served.ServedConn.{ServedConn};
+ghost use Rattle.service_loop.specs.Serving.{IsServed};
+ghost use Rattle.service_loop.specs.declared.submissions.Submissions.{Submissions};
+ghost use Rattle.telemetry.specs.Counts.{all_counts};
+ghost use Rattle.drill_laws.specs.Counting.{AddUp, counts_told};
+ghost use Rattle.drill_laws.specs.Holding.{NoneHolds, StepNeverHolds};
+ghost use Rattle.drill_laws.specs.Runs.{IsToldBound, TellsRun};
+
+use call_history::standing_goes_on;
+use mrpc_base::{Clock, Link};
+
+/// Each call that was accepted is counted once more, as sent, as refused, or as standing: of a connection as of all that
+/// are told of a run.
+pub fn each_call_is_counted_once<L: Link>()
+    ensures connection { (c : Connection) → IsConnection c → AddUp (all_counts (counted_on c)) }
+    ensures run { (plan : Plan) (conns : List (ServedConn L)) (told : List Shown)
+        → AllZip (Shows plan) (by_number conns) told → AddUp (counts_told told) }
+{
+    standing_goes_on();
+}
+
+/// Where no policy ever holds a call, none stands once no call can go on: on a connection, where no step of an operator
+/// names a policy that may hold one, and at the end of a run, where its plan has none.
+pub fn none_stands_unheld<C: Clock, L: Link>()
+    ensures connection { (s : Submissions) → IsConnection s.conn → IsServed s → All StepNeverHolds s.steps.now
+        → s.conn.chain.row ≡ [] }
+    ensures run { (plan : Plan) (clock : C) (conns : List (ServedConn L)) (told : List Shown) → NoneHolds plan
+        → TellsRun C.Clock L.Link plan clock conns told → (counts_told told).standing ≡ 0 }
+{}
+
+/// What a drill tells adds up: no call stands, and as many were taken as were sent and refused. Where no link failed
+/// and each connection was bound, at least those were taken that its four clients submit. That each was bound is a
+/// premise: what a run says of a connection that wasn't doesn't rule it out over links in memory.
+pub fn drills_add_up<C: Clock, L: Link>()
+    ensures none_stands { (calls : ℕ) (clock : C) (conns : List (ServedConn L)) (told : List Shown)
+        → TellsRun C.Clock L.Link (drill calls) clock conns told → (counts_told told).standing ≡ 0 }
+    ensures all_went { (calls : ℕ) (clock : C) (conns : List (ServedConn L)) (told : List Shown)
+        → TellsRun C.Clock L.Link (drill calls) clock conns told
+        → (counts_told told).took ≡ (counts_told told).sent + (counts_told told).refused }
+    ensures took { (calls : ℕ) (clock : C) (conns : List (ServedConn L)) (told : List Shown)
+        → TellsRun C.Clock L.Link (drill calls) clock conns told → All (NeverFailed L.Link) conns
+        → All IsToldBound told → 4 * calls ≤ (counts_told told).took }
+{
+    each_call_is_counted_once::<L>();
+    none_stands_unheld::<C, L>();
+}
