@@ -11,7 +11,15 @@ mod left;
 #[cfg(test)]
 mod lines;
 #[cfg(test)]
+mod meetings;
+#[cfg(test)]
+mod moments;
+#[cfg(test)]
+mod noting;
+#[cfg(test)]
 mod prepared;
+#[cfg(test)]
+mod rounds;
 #[cfg(test)]
 mod runs;
 #[cfg(test)]

@@ -37,7 +37,7 @@ impl Prepared {
         }
     }
 
-    fn into_link(self, alloc: Global) -> MemLink
+    pub(crate) fn into_link(self, alloc: Global) -> MemLink
         ensures handed { result.handed ≡ [] }
         ensures given { result.given ≡ [] }
         ensures ended { result.ended ≡ false }

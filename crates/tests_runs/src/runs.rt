@@ -42,18 +42,32 @@ pub(crate) struct Told {
     pub failed: bool,
 }
 
-// What a run of a plan tells, over links of a fabric, at a clock that stands still at 0. Plan and fabric are owned here:
-// what a drop comes to is proved in each function that has one.
+// What a run of a plan tells, over links of a fabric, at a clock that stands still at 0.
 pub(crate) fn ran<R: Abort + Threads + Wait + Sync, F: Fabric + Drop, G: Gate>(
     rt: &R,
     alloc: Global,
     plan: Plan,
-    mut fabric: F,
+    fabric: F,
     gate: &G,
 ) -> Told
     requires { IsPlan plan }
 {
-    let run = serve_plan(rt, alloc, &plan, &mut fabric, &FixedClock(0), gate);
+    ran_at(rt, alloc, plan, fabric, 0, gate)
+}
+
+// The same at a clock that stands still at a moment. Plan and fabric are owned here: what a drop comes to is proved in
+// each function that has one.
+pub(crate) fn ran_at<R: Abort + Threads + Wait + Sync, F: Fabric + Drop, G: Gate>(
+    rt: &R,
+    alloc: Global,
+    plan: Plan,
+    mut fabric: F,
+    moment: u64,
+    gate: &G,
+) -> Told
+    requires { IsPlan plan }
+{
+    let run = serve_plan(rt, alloc, &plan, &mut fabric, &FixedClock(moment), gate);
     discard(plan);
     told_of(rt, alloc, run.ok().expect(rt, "a run"))
 }

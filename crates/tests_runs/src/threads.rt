@@ -1,4 +1,5 @@
 //! That workers run beside each other, and that frames leave in threads of their own.
+ghost use Rattle.std.specs.Prelude.{◌≡◌, []};
 
 use crate::gates::MeetingGate;
 use crate::runs::{ONE_CALL, plan_of, ran};
@@ -17,7 +18,9 @@ const ONE_CALL_TOLD: &[u8] =
     method 0 2 2 0 0\ntotals 2 2 0 0\n";
 
 // Links in memory of which none fails.
-pub(crate) fn memory<'r, R: Abort + Wait>(rt: &'r R, alloc: Global) -> MemFabric<'r, R> {
+pub(crate) fn memory<'r, R: Abort + Wait>(rt: &'r R, alloc: Global) -> MemFabric<'r, R>
+    ensures { result.back ≡ [] }
+{
     let faults = ListedFaults {
         openings: Vec::new(alloc),
         sends: Vec::new(alloc),

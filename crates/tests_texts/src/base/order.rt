@@ -64,6 +64,42 @@ fn a_wheel_counts_its_visits(rt: HostRuntime) {
     discard(wheel);
 }
 
+// A connection that comes first, its grant, how many rounds it is given, and how the visit ends.
+type Row = (u32, u64, u64, Ending);
+
+const ROWS: [Row; 5] = [
+    (1, 3, 3, Ending::Given),
+    (3, 1, 1, Ending::Given),
+    (1, 3, 1, Ending::Shut),
+    (3, 1, 1, Ending::Given),
+    (1, 5, 5, Ending::Given),
+];
+
+// Makes the visits of the rows.
+fn is_visited(rt: &impl Abort, wheel: &mut Wheel, rows: &[Row]) {
+    for (conn, grant, given, ending) in rows {
+        assert!(rt; wheel.first() == Some(*conn));
+        assert!(rt; wheel.first_grant() == *grant);
+        visit(wheel, *given, *ending, false);
+    }
+}
+
+// What is left of a shut visit is given in the next one, and what is left of an idle one is dropped.
+fn is_shared(rt: &impl Abort, wheel: &mut Wheel) {
+    is_visited(rt, wheel, &ROWS);
+    assert!(rt; is_account(wheel, 1, 3, 9, 0, 0));
+    assert!(rt; is_account(wheel, 3, 2, 2, 0, 0));
+    visit(wheel, 0, Ending::Idle, false);
+    assert!(rt; is_account(wheel, 3, 3, 2, 0, 1));
+}
+
+#[test]
+fn accounts_add_up_over_shut_and_idle_visits(rt: HostRuntime) {
+    let mut wheel = wheel_of(&rt, rt.alloc(), &[(1, 3), (3, 1)]);
+    is_shared(&rt, &mut wheel);
+    discard(wheel);
+}
+
 // The second of three connections leaves, then the others.
 fn is_left(rt: &impl Abort, wheel: &mut Wheel) {
     visit(wheel, 0, Ending::Given, false);
@@ -94,6 +130,8 @@ fn fault_of(rt: &impl Abort, alloc: Global, entries: &[(u32, u64)]) -> WeightFau
 fn the_first_fault_counts(rt: HostRuntime) {
     let range = fault_of(&rt, rt.alloc(), &[(4, 1), (2, 100), (4, 101)]);
     assert!(rt; matches!(range, WeightFault::Range { conn: 4 }));
+    let none = fault_of(&rt, rt.alloc(), &[(1, 0)]);
+    assert!(rt; matches!(none, WeightFault::Range { conn: 1 }));
     let twice = fault_of(&rt, rt.alloc(), &[(4, 1), (2, 9), (2, 5), (4, 7), (8, 0)]);
     assert!(rt; matches!(twice, WeightFault::Twice { conn: 2 }));
 }

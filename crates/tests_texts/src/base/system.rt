@@ -1,10 +1,10 @@
-//! Objects of the system: a reader and a writer that fail where a test says so.
+//! Objects of the system: a reader and a writer that fail where a test says so, and the clock.
 ghost use Rattle.std.specs.Prelude.{◌≤◌, IfOk};
 
-use mrpc_base::{Got, Put, Sink, Source};
+use mrpc_base::{Clock, Got, Put, Sink, Source};
 use std::io;
 use std::io::{ErrorKind, Read, Write};
-use system_io::{StandardInput, StandardOutput};
+use system_io::{StandardInput, StandardOutput, SystemClock};
 
 // A device that answers its calls by a list: a count, or a failure.
 #[derive(Drop)]
@@ -68,4 +68,12 @@ fn a_writer_that_takes_nothing_has_failed(rt: HostRuntime) {
     assert!(rt; sink.write(b"abc") == Put::Took(2));
     assert!(rt; sink.write(b"c") == Put::Failed);
     assert!(rt; sink.write(b"c") == Put::Failed);
+}
+
+#[test]
+fn the_clock_never_goes_back(rt: HostRuntime) {
+    let clock = SystemClock::new(&rt);
+    let first = clock.now();
+    let second = clock.now();
+    assert!(rt; first <= second);
 }

@@ -9,6 +9,9 @@ use std::process::Abort;
 
 const TEXT: &[u8] = b"message M\nfield 1 plain uint64 a\nmethod 0 S Get M M\n";
 
+// The same with another name for the field.
+const OTHER_NAME: &[u8] = b"message M\nfield 1 plain uint64 b\nmethod 0 S Get M M\n";
+
 const MORE_METHODS: &[u8] = b"message M
 field 1 plain uint64 a
 method 0 S Get M M
@@ -29,6 +32,14 @@ fn mismatch(rt: &impl Abort, alloc: Global, ours: &[u8], theirs: &[u8]) -> (u64,
         }
         _ => (0, 0, 0),
     }
+}
+
+#[test]
+fn the_first_byte_that_differs_is_told(rt: HostRuntime) {
+    let (byte, ours, theirs) = mismatch(&rt, rt.alloc(), TEXT, OTHER_NAME);
+    assert!(rt; byte == 31);
+    assert!(rt; ours == 97);
+    assert!(rt; theirs == 98);
 }
 
 // In a run neither text ends where the other one goes on.
