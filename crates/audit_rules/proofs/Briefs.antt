@@ -23,7 +23,7 @@ use Rattle.audit_rules.specs.declared.left.Left.{Left}
 use Rattle.audit_rules.specs.declared.left.Left.TheVariants as lefts
 use Rattle.audit_rules.specs.declared.rule.Rule.{Rule}
 use Rattle.audit_rules.specs.declared.rule.Rule.TheVariants as rules
-use Rattle.audit_rules.proofs.Firsts.{breaks-first, breaks-malformed, if-none-both, may-come}
+use Rattle.audit_rules.proofs.Firsts.{breaks-first, if-none-both, may-come}
 use Rattle.audit_rules.proofs.Known.{unmap-at}
 use Rattle.audit_rules.proofs.States.{at-once}
 use Rattle.audit_rules.proofs.Stepping.{one-some}
@@ -132,9 +132,6 @@ linked past what true of is = (λ same. absurd cc, λ ends. absurd (not-standing
 module _ (T : Table) (past : Behind) (what : Happening) (c : Checker) (of : IsOfCall what) (knows : Knows T past c) where
   abbrev pub u : Under
   u = under T c
-
-  pub breaks-waiting : is_waiting c.left ≡ true → BreaksFirst u past what rules.B
-  breaks-waiting is = breaks-malformed u past what (numbered u past what of) (waits past what c.left of knows.left is)
 
   module _ (own : Rule) (kept settled link : Bool) (result : Option Rule) (is_own : own ≡ own_rule what) (free : is_waiting c.left ≡ false)
       (is_settled : settled ≡ is_nothing c.left) (is_linked : link ≡ not c.failed) (is : result ≡ first_of own kept settled link) where

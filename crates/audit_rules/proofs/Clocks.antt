@@ -1,5 +1,5 @@
 -- Items of a list that are changed one after another, and engines that were lent.
-use Rattle.std.proofs.Common.{◌≡◌, ℕ, ◌+◌, ◌-◌, ◌<◌, List, [], ◌∷◌, ◌++◌, length, take, drop, set, get_or, map, ap, sym, ◌∙◌, arith, get_or-drop}
+use Rattle.std.proofs.Common.{◌≡◌, ℕ, ◌+◌, ◌<◌, List, [], ◌∷◌, ◌++◌, length, take, drop, set, get_or, map, ap, sym, ◌∙◌, arith, get_or-drop}
 use Rattle.std.proofs.lemmas.List.{drop-drop, drop-set-lt, map_more, take_at, take_more_set}
 
 -- ---- one item more

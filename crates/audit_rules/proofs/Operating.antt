@@ -1,4 +1,4 @@
--- What a checker knows behind a step of an operator, and behind a call that was sent away.
+-- What a checker knows behind a step of an operator, and behind a call that was turned away.
 use Rattle.std.proofs.Common.{◌≡◌, ℕ, ◌+◌, ◌≤◌, min, zero, suc, List, [], ◌∷◌, length, map, take, refl, sym, ap, subst, arith}
 use Rattle.std.specs.Prelude.{All}
 use Rattle.std.specs.List.{AllZip}
@@ -22,7 +22,7 @@ use Rattle.audit_rules.proofs.Asked.{lets-less}
 use Rattle.audit_rules.proofs.Going.{IsApart, all-on, apart-latest, apart-lets, lets-on, zip-on}
 use Rattle.audit_rules.proofs.States.{not-left}
 
--- ---- a call is sent away
+-- ---- a call is turned away
 
 pub knows-away : (T : Table) (past : Behind) (method number addr : ℕ) (c : Checker) → Knows T past c → May (under T c) past (Away method number addr)
     → ((conn : ℕ) (past : Behind) (es : List EngineParts) (n : ℕ) (calls : List StandingCall) (method number addr : ℕ) → AreTied conn past es n calls

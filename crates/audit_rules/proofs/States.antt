@@ -1,4 +1,4 @@
--- What a checker knows behind one more happening: a moment, a call that is sent away, and one that leaves.
+-- What a checker knows behind one more happening: a moment, a call that is turned away, and one that leaves.
 use Rattle.std.proofs.Common.{◌≡◌, ℕ, ◌+◌, ◌≤◌, ◌==◌, Bool, not, List, [], ◌∷◌, length, map, remove, slice_get, refl, sym, ap, ◌∙◌, subst, arith}
 use Rattle.std.specs.Prelude.{All, Some, filter, vec_capacity}
 use Rattle.std.specs.List.{AllZip}

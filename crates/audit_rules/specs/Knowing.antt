@@ -69,11 +69,12 @@ IsFree Nothing = Unit {0}
 IsFree (Waits seq) = ⊥
 IsFree (Over seq at ticket cap) = Unit {0}
 
--- a call is refused for being malformed where one waits for that alone
+-- the code's own: a call is refused for being malformed where one waits for that alone
 abbrev pub IsFreeFor : Cause → Left → Type 0
 IsFreeFor cause.Malformed left = Unit {0}
 IsFreeFor _ left = IsFree left
 
+-- the code's own: nothing is left that has to come before a happening
 abbrev pub IsFreeBefore : Happening → Left → Type 0
 IsFreeBefore (Refused seq why) left = IsFreeFor why left
 IsFreeBefore _ left = IsFree left
@@ -137,7 +138,7 @@ pub record KnowsTold (T : Table) (past : Behind) (positions : List ℕ) (c : Che
 
 -- ---- what a happening is asked by itself
 
--- the rules that a happening is asked by its own kind
+-- the code's own: the rules that a happening is asked by its own kind
 abbrev pub Owns : Under → Behind → Happening → Rule → Type 0
 Owns u past next C = KeepsChain past next
 Owns u past next D = NotesWhatIsDue u past next

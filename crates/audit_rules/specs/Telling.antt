@@ -1,6 +1,5 @@
 -- What a line tells of a call that stands (this project's own).
-use Rattle.std.specs.Prelude.{◌≡◌, ℕ, ◌<◌, ◌≤◌, List, All, length, take, codes, option_map, unwrap_or, slice_get, Option, Some, None}
-use Rattle.std.specs.List.{AllZip}
+use Rattle.std.specs.Prelude.{◌≡◌, ℕ, ◌<◌, ◌≤◌, List, All, length, codes, option_map, unwrap_or, slice_get, Option, Some, None}
 use Rattle.engine_core.specs.Chains.{Entry}
 use Rattle.call_history.specs.Behind.{Behind, chain, standing}
 use Rattle.call_history.specs.Places.{IsHeld, MayStandAt}
@@ -30,8 +29,3 @@ pub record TellsNext (u : Under) (past : Behind) (before : List ℕ) (seq positi
   pub falls : All (λ p. position ≤ p) before
   pub named : name ≡ name_at (chain past).entries position
   pub tells : TellsHeld u past before call position held
-
--- positions may be those of the first calls that stand, in order
-pub record ArePlaced (u : Under) (past : Behind) (positions : List ℕ) : Type 0 where
-  pub few : length positions ≤ length (standing past)
-  pub each : AllZip (MayStandAt u past) (take (length positions) (standing past)) positions

@@ -129,7 +129,7 @@ impl Checker {
         }
     }
 
-    // Whether a call that is taken has the next number, and one that is sent away is one too many.
+    // Whether a call that is taken has the next number, and one that is turned away is one too many.
     fn is_numbered(&self, table: &Table, what: &Happening) -> bool
         requires { IsReadable table.now what.now }
         ensures { (past : Behind) → Knows table.now past self.now
@@ -283,7 +283,7 @@ impl Checker {
         }
     }
 
-    // A call was sent away.
+    // A call was turned away.
     fn turn_away(&self)
         ensures { (T : TheTable) (past : Behind) (method number addr : ℕ) → Knows T past self.now
             → May (under T self.now) past (Away method number addr)

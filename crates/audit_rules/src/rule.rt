@@ -3,8 +3,8 @@
 /// A rule of legal histories.
 #[derive(Clone, Copy, PartialEq, Eq)]
 pub enum Rule {
-    /// Calls are numbered one after another, few enough stand, no more was loaded than the limit, and one is sent away
-    /// exactly where as many stand as may.
+    /// Calls are numbered one after another, few enough stand, no more was loaded than the limit, and one is turned
+    /// away exactly where as many stand as may.
     A,
     /// A malformed call is refused at once, and for this cause no other is.
     B,

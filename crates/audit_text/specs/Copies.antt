@@ -17,7 +17,7 @@ use Rattle.audit_text.specs.Reading.{◌>>=◌, first_said, last_said, number_sa
 use Rattle.audit_text.specs.declared.copy.CallNumbers.{CallNumbers}
 
 -- a normal tree of a message, whose encoding has a length of 64 bits
-pub record IsCopied (T : Table) (msg : ℕ) (tree : Node) : Type 0 where
+pub record HasShortEncoding (T : Table) (msg : ℕ) (tree : Node) : Type 0 where
   pub normal : IsNormal T msg tree
   pub short : length (encoding T msg tree) < 2 ^ 64
 

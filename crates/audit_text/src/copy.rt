@@ -10,7 +10,7 @@ ghost use Rattle.wire_base.specs.Encoding.{encoding};
 ghost use Rattle.call_history.specs.declared.happening.Taken.{Taken};
 ghost use Rattle.audit_text.specs.Lines.{copy_words, hex_word};
 ghost use Rattle.audit_text.specs.Writable.{IsAcceptance, IsCopyTaken};
-ghost use Rattle.audit_text.specs.Copies.{head_said, malformed_said, reason_said, taken_words, IsCopied};
+ghost use Rattle.audit_text.specs.Copies.{head_said, malformed_said, reason_said, taken_words, HasShortEncoding};
 ghost use Rattle.audit_text.specs.Reading.{words_in, Reads};
 
 use crate::hexadecimal::read_bytes;
@@ -112,7 +112,7 @@ fn meant(
 ) -> Result<Option<Tree>, Memory>
     requires valid { IsValid table.now }
     requires known { message < length table.now.messages }
-    ensures { Reads (IsCopied table.now message) (λ t. encoding table.now message t ∷ []) (bytes.now ∷ []) result }
+    ensures { Reads (HasShortEncoding table.now message) (λ t. encoding table.now message t ∷ []) (bytes.now ∷ []) result }
 {
     let Some(tree) = decoded(alloc, bytes, table, message)? else {
         return Ok(None);
@@ -129,7 +129,7 @@ fn decoded(alloc: Global, bytes: &[u8], table: &Table, message: u32) -> Result<O
     requires valid { IsValid table.now }
     requires known { message < length table.now.messages }
     ensures normal { IfOk result (λ r. IfSome r (λ t. IsNormal table.now message t)) }
-    ensures only { (t : Node) → IsCopied table.now message t → bytes.now ≡ encoding table.now message t
+    ensures only { (t : Node) → HasShortEncoding table.now message t → bytes.now ≡ encoding table.now message t
         → IfOk result (λ r. r ≡ Some t) }
 {
     meaning_of_encoding();
@@ -169,7 +169,7 @@ fn spelled(
     requires valid { IsValid table.now }
     requires known { message < length table.now.messages }
     requires room { length word.now ≤ 2 * length row.old }
-    ensures { Reads (IsCopied table.now message) (λ t. hex_word (encoding table.now message t) ∷ [])
+    ensures { Reads (HasShortEncoding table.now message) (λ t. hex_word (encoding table.now message t) ∷ [])
         (word.now ∷ []) result }
 {
     match read_bytes(row, word) {
@@ -188,7 +188,7 @@ fn copied(
 ) -> Result<Option<Tree>, Memory>
     requires valid { IsValid table.now }
     requires known { message < length table.now.messages }
-    ensures { Reads (IsCopied table.now message) (λ t. hex_word (encoding table.now message t) ∷ [])
+    ensures { Reads (HasShortEncoding table.now message) (λ t. hex_word (encoding table.now message t) ∷ [])
         (word.now ∷ []) result }
 {
     if word.len() > 2 * ROOM {
@@ -209,7 +209,7 @@ fn copy_at(
 ) -> Result<Option<Tree>, Memory>
     requires valid { IsValid table.now }
     requires known { message < length table.now.messages }
-    ensures { Reads (IsCopied table.now message) (λ t. hex_word (encoding table.now message t) ∷ [])
+    ensures { Reads (HasShortEncoding table.now message) (λ t. hex_word (encoding table.now message t) ∷ [])
         (words_in rest.entry) result }
 {
     match rest {

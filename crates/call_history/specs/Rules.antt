@@ -48,7 +48,7 @@ pub record MayTake (u : Under) (past : Behind) (call : Taken) : Type 0 where
   pub loads : call.count ≤ u.limit
   pub copy : IsTakenBy u.table call call.copy
 
--- (a) calls are numbered, and one is sent away exactly where as many stand as may
+-- (a) calls are numbered, and one is turned away exactly where as many stand as may
 abbrev pub IsNumbered : Under → Behind → Happening → Type 0
 IsNumbered u past (Took call) = MayTake u past call
 IsNumbered u past (Away method number addr) = length (standing past) ≡ MAX_CALLS

@@ -22,7 +22,6 @@ use Rattle.call_history.specs.Behind.{copied, with_tree}
 use Rattle.call_history.specs.Loads.{is_copied, is_malformed}
 use Rattle.call_history.specs.Rules.{IsTakenBy, payload}
 use Rattle.call_history.specs.declared.happening.Taken.{Taken}
-use Rattle.call_history.specs.declared.happening.TookCopy.TheVariants as took
 use Rattle.mrpc_table.specs.declared.memory.Memory.{Memory}
 use Rattle.conn_core.specs.Kept.{IsOfAnswer, IsTakenWell, copy_of}
 use Rattle.conn_core.specs.declared.taking.Submission.{Submission}

@@ -41,9 +41,11 @@ schema = record { messages = message ∷ []; enums = []; methods = method ∷ []
 
 -- ---- the policy: a request whose number is above 49 is denied
 
+-- the code's own: the first of the two lines by which the policy is written
 abbrev pub big_line : List ℕ
 big_line = codes "rule big deny method 0 where 1 gt 49"
 
+-- the code's own: and the second
 abbrev pub default_line : List ℕ
 default_line = codes "default allow"
 

@@ -45,7 +45,7 @@ past_by (Some Counted) = counted
 abbrev pub past_of : List Mark → ℕ → Past
 past_of marks attach = past_by (note_of marks attach)
 
--- a mark says that an access policy allowed the call
+-- the code's own: a mark says that an access policy allowed the call
 abbrev pub is_allowing : Note → Bool
 is_allowing (Allowed version) = true
 is_allowing _ = false

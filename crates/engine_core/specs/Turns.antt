@@ -18,7 +18,8 @@ refusal (Denied rule) = deny rule
 refusal (Short level cost) = refuse level cost
 refusal (Over ticket cap) = over ticket cap
 
--- a turn: first what is to be noted is noted, and then the call passes, is held or is refused
+-- a turn: first what is to be noted is noted, and then the call passes, is held or is refused, or fields are cleared
+-- from it, which ends the turn
 pub data ComesOut (policy : Policy) (level moment : ℕ) (form : Call) (past : Past) (outcome : Outcome) : Type 0 where
   passes : Answers policy level moment form past pass → outcome ≡ Passed Nothing
       → ComesOut policy level moment form past outcome

@@ -139,8 +139,8 @@ impl Engine {
     }
 
     /// Works on a call of the table, which has the marks of at most seven other engines. Each turn is one
-    /// of the engine's entry: what is to be noted is noted, and then the call passes, is held or is
-    /// refused. The bucket is as the last `clock` left it, and a quota's window is that of the moment.
+    /// of the engine's entry: what is to be noted is noted, and then the call passes, is held or is refused, or
+    /// it loses fields and begins again. The bucket is as `clock` left it, a quota's window the moment's.
     pub fn work<Q: Tickets>(
         &mut self,
         call: &mut Standing,
@@ -251,8 +251,8 @@ impl Engine {
         State { engine: self }
     }
 
-    /// The engine of a state, with a policy of the same kind: it has the next version, its level pays for
-    /// as many calls as before, and the rest stays.
+    /// The engine of a state, with a policy of the same kind: it has the next version, the rest stays, and its
+    /// level pays for as many calls as before, rounded down and up to a full bucket.
     pub fn restore(policy: Policy, state: State) -> Engine
         requires ranges { IsPolicy policy }
         requires kind { is_same_kind state.entry.policy policy ≡ true }

@@ -27,7 +27,7 @@ use std::thread;
 
 /// Receives until the first frame is there, and takes it where it is a hello. None where the connection is bound: with
 /// the table that the hello says its own agrees on the service. It waits for the other side. The only error is
-/// `Memory`, after which no more is said of the arrivals than that they are of the same table, policy and heap.
+/// `Memory`, after which no more is said of the arrivals than that they are of the same table, policy, heap and lines.
 pub fn hear_hello<R: Wait, L: Link>(
     rt: &R,
     alloc: Global,

@@ -78,7 +78,7 @@ TakesMany Repeated = Unit {0}
 TakesMany Packed = Unit {0}
 TakesMany _ = ⊥
 
--- a string is UTF-8, and bytes are any bytes
+-- the code's own: a string is UTF-8, and bytes are any bytes
 abbrev pub IsRun : Kind → List ℕ → Type 0
 IsRun Text bytes = IsUtf8 bytes
 IsRun Octets bytes = All (λ b. b < 256) bytes

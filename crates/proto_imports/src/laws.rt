@@ -36,7 +36,8 @@ pub fn one_reach()
     ensures { (set : List Member) (a b : Reach) → IsReach set a → IsReach set b → a ≡ b }
 {}
 
-/// Each set has a reach or a first fault, and never both.
+/// A set has never a reach and a first fault both, and one that isn't empty and whose files have paths of their own has one
+/// of them.
 pub fn reach_or_fault()
     ensures not_both { (set : List Member) (reach : Reach) (q : ImportReason) (i : ℕ) (s : Span) → IsReach set reach
         → HasFault set q i s → ⊥ }

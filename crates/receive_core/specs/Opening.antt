@@ -21,12 +21,13 @@ pub record IsOpened (T : Table) (conn : ℕ) (f : Frame) (o : Opened) : Type 0 w
   pub call : o.call ≡ call_of conn f o.call.tree
   pub words : o.words ≡ capped (block_words T (message_of_frame T f) o.call.tree)
 
--- what a frame is read as: its call, or the cause for which it is dropped under each policy and on each heap
+-- the code's own: what a frame is read as: its call, or the cause for which it is dropped under each policy and on each
+-- heap
 abbrev pub IsReading : Table → ℕ → Frame → Reading → Type 0
 IsReading T conn f (Reads o) = IsOpened T conn f o
 IsReading T conn f (Dropped why) = (policy : Option AccessPolicy) (words : ℕ) → IsFate T policy conn words f (drops why)
 
--- why a call is refused on a heap of so many words, or that it isn't
+-- the code's own: why a call is refused on a heap of so many words, or that it isn't
 abbrev pub IsRefusal : Option AccessPolicy → ℕ → Opened → Option DropCause → Type 0
 IsRefusal policy words o None = Allows policy o.call × (o.words ≤ words - 1)
 IsRefusal policy words o (Some why) = ((p : AccessPolicy) × (policy ≡ Some p)

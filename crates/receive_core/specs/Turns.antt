@@ -94,7 +94,7 @@ Turns T policy old new stores after (Waiting need largest) = LetsWait T policy o
 Turns T policy old new stores after (Arrived kind method number block tree) =
     TakesIn T policy old new stores after kind method number block tree
 
--- the call of the first frame was taken in
+-- the code's own: the call of the first frame was taken in
 abbrev pub TakesCall : Table → Receiving → Receiving → Frame → Opened → List (ℕ × ℕ) → List (ℕ × ℕ) → Arrival → Type 0
 TakesCall T old new f o stores after (Arrived kind method number block tree) = Gives old.fed f new.fed
     × ((f.kind ≡ kind) × (f.method ≡ method) × (f.number ≡ number)) × (tree ≡ o.call.tree)

@@ -34,8 +34,8 @@ pub fn frames_in_order()
 
 /// What the life of a receiver tells the layer above, whatever pieces and turns it had. Where no whole frame waits, each
 /// whole frame of the stream had its fate, but for a hello that was taken, and a stream without a fault is shorter than
-/// these frames and one more. For each fate at most the words of the heap behind its first were stored.
-/// The call does nothing.
+/// a hello, these frames and one more, each of the largest size. For each fate at most the words of the heap behind its
+/// first were stored. The call does nothing.
 pub fn life_of_receiver()
     ensures each { TakesEach }
     ensures short { StreamIsShort }

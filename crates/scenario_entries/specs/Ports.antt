@@ -17,6 +17,7 @@ pub record IsPortOf (ms : Members) (port : Port) : Type 0 where
   pub conn : port.conn ≡ conn_of ms
   pub role : role_of ms ≡ Some port.role
 
+-- the code's own: the word of a client
 abbrev pub is_client : RoleWord → Bool
 is_client role.Client = true
 is_client _ = false
@@ -27,13 +28,15 @@ is_on conn port = port.conn == conn
 abbrev pub has_port : List Port → ℕ → Bool
 has_port ports conn = list_any (is_on conn) ports
 
+-- the code's own: a client is on the connection
 abbrev pub has_client : List Port → ℕ → Bool
 has_client ports conn = list_any (λ port. (port.conn == conn) && is_client port.role) ports
 
+-- the code's own: a link has the connection
 abbrev pub is_linked : List Pair → ℕ → Bool
 is_linked links conn = list_any (λ link. (link.a == conn) || (link.b == conn)) links
 
--- but for the keys of the link, and their ranges
+-- the code's own: but for the keys of the link, and their ranges
 abbrev pub link_first : List Port → List Pair → ℕ → ℕ → Option ScenarioReason
 link_first ports links a b =
     earlier (reason_if (not (has_port ports a && has_port ports b)) Unknown)

@@ -19,7 +19,8 @@ use Rattle.script_words.specs.declared.sort.Sort.{Sort}
 use Rattle.scenario_lines.specs.Forms.{sorts_of}
 use Rattle.scenario_lines.specs.Lines.{FormSays, IsNoPlace, LineAgainst, LineSays, behind, in_words, no_form, no_place, place_in}
 use Rattle.scenario_lines.specs.Programs.{Each, ProgramAgainst, ProgramSays, SomeSay, ends_in_reply, in_line, is_reply, most_stores, no_reply, too_many_lines, too_many_stores}
-use Rattle.scenario_lines.specs.Reading.{HasRead, IsSoFar, LinesAgainst, Takes, added, blames, earlier, first_reason, is_too_long, keeps, lacks_reply, line_stores, noted, reason_if}
+use Rattle.scenario_lines.specs.Reading.{HasRead, IsSoFar, LinesAgainst}
+use Rattle.scenario_lines.specs.Taking.{Takes, added, blames, earlier, first_reason, is_too_long, keeps, lacks_reply, store_count, noted, reason_if}
 use Rattle.scenario_lines.specs.Reasons.{IsFirst, order_of}
 use Rattle.scenario_lines.specs.declared.form.LineForm.{LineForm}
 use Rattle.scenario_lines.specs.declared.form.LineForm.TheVariants as line
@@ -187,14 +188,14 @@ length-spun : (n : ℕ) (a b : ℕ × ℕ) → length (spun n a b) ≡ 2 * n
 length-spun zero a b = refl
 length-spun (suc n) a b = omega (arith, length-spun n a b)
 
-line_stores_are : (l : ProgramLine) → length (programs.line_stores l) ≡ line_stores l
+line_stores_are : (l : ProgramLine) → length (programs.line_stores l) ≡ store_count l
 line_stores_are (program.Store p v) = refl
 line_stores_are (program.Spin t p v w) = length-spun t (p, v) (p, w)
 line_stores_are (program.Submit m a) = refl
 line_stores_are (program.Reclaim b) = refl
 line_stores_are (program.Reply a) = refl
 
-stores_more : (xs : List ProgramLine) (l : ProgramLine) → length (stores_of (xs ++ l ∷ [])) ≡ length (stores_of xs) + line_stores l
+stores_more : (xs : List ProgramLine) (l : ProgramLine) → length (stores_of (xs ++ l ∷ [])) ≡ length (stores_of xs) + store_count l
 stores_more xs l =
     ap length (flat_map-append programs.line_stores xs (l ∷ [])) ∙ length-append (stores_of xs) (stores_of (l ∷ []))
     ∙ ap (λ n. length (stores_of xs) + n) (ap length (append-nil (programs.line_stores l)) ∙ line_stores_are l)
@@ -248,7 +249,7 @@ count_more s k total false e counted many new is =
 counts : (s new : ℕ) (xs : List ProgramLine) (l : ProgramLine) → (s ≤ MAX_STORES → s ≡ length (stores_of xs))
     → (MAX_STORES < s → MAX_STORES < length (stores_of xs)) → new ≡ added s l → IsCounted new (xs ++ l ∷ [])
 counts s new xs l counted many is =
-    let both = count_more s (line_stores l) (length (stores_of xs)) (nat_lt MAX_STORES s) refl counted many new is in
+    let both = count_more s (store_count l) (length (stores_of xs)) (nat_lt MAX_STORES s) refl counted many new is in
     let sum = stores_more xs l in
     record {
       counted = λ few. both.0 few ∙ sym sum;

@@ -6,3 +6,4 @@ pub mod Programs
 pub mod Reading
 pub mod Reasons
 pub mod Steps
+pub mod Taking

@@ -1,45 +1,14 @@
 -- What a reader of a program has read (this project's own).
-use Rattle.std.specs.Prelude.{◌≡◌, ℕ, [], ◌∷◌, ◌++◌, ◌+◌, ◌*◌, ◌<◌, ◌≤◌, nat_lt, nat_le, Bool, false, ◌&&◌, ◌||◌, not, if◌then◌else◌, List, length, Contains, Option, Some, None}
+use Rattle.std.specs.Prelude.{◌≡◌, ℕ, ◌<◌, ◌≤◌, List, length, Contains, Option, Some, None}
 use Rattle.std.specs.List.{list_any}
 use Rattle.app_program.specs.Programs.{stores_of}
-use Rattle.app_program.specs.declared.program.ProgramLine.{ProgramLine}
-use Rattle.app_program.specs.declared.program.ProgramLine.TheVariants.{Store, Spin}
-use Rattle.app_program.specs.declared.program.TheConstants.{MAX_LINES, MAX_STORES}
-use Rattle.scenario_lines.specs.Lines.{LineAgainst, LineSays}
-use Rattle.scenario_lines.specs.Programs.{SomeSay, ends_in_reply, is_reply, most_stores}
-use Rattle.scenario_lines.specs.Reasons.{IsFirst, order_of}
+use Rattle.app_program.specs.declared.program.TheConstants.{MAX_STORES}
+use Rattle.scenario_lines.specs.Lines.{LineAgainst}
+use Rattle.scenario_lines.specs.Programs.{SomeSay, ends_in_reply, is_reply}
+use Rattle.scenario_lines.specs.Reasons.{IsFirst}
 use Rattle.scenario_lines.specs.declared.form.ProgramRole.{ProgramRole}
-use Rattle.scenario_lines.specs.declared.form.ProgramRole.TheVariants.{Client, Server}
 use Rattle.scenario_lines.specs.declared.program.ProgramReader.{ProgramReader}
 use Rattle.scenario_lines.specs.declared.reason.LineReason.{LineReason}
-use Rattle.scenario_lines.specs.declared.reason.LineReason.TheVariants.{Number, Word}
-
-abbrev pub line_stores : ProgramLine → ℕ
-line_stores (Store place value) = 1
-line_stores (Spin times place first second) = 2 * times
-line_stores _ = 0
-
-abbrev pub added : ℕ → ProgramLine → ℕ
-added stores line = if nat_lt MAX_STORES stores then stores else stores + line_stores line
-
-abbrev pub earlier : Option LineReason → Option LineReason → Option LineReason
-earlier None other = other
-earlier (Some one) None = Some one
-earlier (Some one) (Some other) = Some (if nat_le (order_of one) (order_of other) then one else other)
-
-abbrev pub reason_if : Bool → LineReason → Option LineReason
-reason_if holds reason = if holds then Some reason else None
-
-abbrev pub is_too_long : ProgramReader → Bool
-is_too_long reader = nat_lt (most_stores reader.role) reader.stores || nat_lt MAX_LINES (length reader.lines)
-
-abbrev pub lacks_reply : ProgramRole → Bool → Bool
-lacks_reply Client ends = false
-lacks_reply Server ends = not ends
-
-abbrev pub first_reason : ProgramReader → Option LineReason
-first_reason reader =
-    earlier (earlier reader.first (reason_if (is_too_long reader) Number)) (reason_if (lacks_reply reader.role reader.ends) Word)
 
 -- the first of the reasons that stand, or none
 abbrev pub IsSoFar : (LineReason → Type 0) → Option LineReason → Type 0
@@ -59,19 +28,3 @@ pub record HasRead (r : ProgramRole) (heap : ℕ) (texts : List (List ℕ)) (rea
   pub many : MAX_STORES < reader.stores → MAX_STORES < length (stores_of reader.lines)
   pub replied : reader.replied ≡ list_any is_reply texts
   pub ends : reader.ends ≡ ends_in_reply texts
-
-abbrev pub kept : ProgramReader → ProgramLine → ProgramReader
-kept reader line = record reader { lines = reader.lines ++ line ∷ []; stores = added reader.stores line }
-
-abbrev pub blamed : ProgramReader → LineReason → ProgramReader
-blamed reader reason = record reader { first = earlier reader.first (Some reason) }
-
-abbrev pub noted : ProgramReader → Bool → ProgramReader
-noted reader replies = record reader { replied = reader.replied || replies; ends = not reader.replied && replies }
-
--- a line more was read, but for whether it has the form of a reply: what it says was kept, or the first reason against it
-pub data Takes (old : ProgramReader) (text : List ℕ) (new : ProgramReader) : Type 0 where
-  keeps : (line : ProgramLine) → LineSays old.role old.heap text line
-      → new ≡ kept old line → Takes old text new
-  blames : (reason : LineReason) → IsFirst (LineAgainst old.role old.heap text) reason
-      → new ≡ blamed old reason → Takes old text new

@@ -4,7 +4,8 @@ ghost use Rattle.std.specs.Prelude.{◌≡◌, ◌≤◌, ◌++◌, ◌∷◌, �
 ghost use Rattle.scenario_lines.specs.Programs.{ProgramAgainst, ProgramSays, is_reply, most_stores};
 ghost use Rattle.scenario_lines.specs.declared.form.ProgramRole.{ProgramRole as TheRole};
 ghost use Rattle.scenario_lines.specs.Reasons.{IsFirst};
-ghost use Rattle.scenario_lines.specs.Reading.{HasRead, Takes, added, earlier, first_reason, is_too_long, kept, lacks_reply, line_stores, noted, reason_if};
+ghost use Rattle.scenario_lines.specs.Reading.{HasRead};
+ghost use Rattle.scenario_lines.specs.Taking.{Takes, added, earlier, first_reason, is_too_long, kept, lacks_reply, store_count, noted, reason_if};
 
 use crate::form::ProgramRole;
 use crate::program_line::read_line;
@@ -39,8 +40,8 @@ fn is_reply(line: &[u8]) -> bool
 }
 
 // How often a line stores.
-fn line_stores(line: ProgramLine) -> u64
-    ensures stores { result ≡ line_stores line }
+fn store_count(line: ProgramLine) -> u64
+    ensures stores { result ≡ store_count line }
     ensures few { result ≤ 8589934590 }
 {
     match line {
@@ -57,7 +58,7 @@ fn added(stores: u64, line: ProgramLine) -> u64
     if stores > MAX_STORES {
         stores
     } else {
-        stores + line_stores(line)
+        stores + store_count(line)
     }
 }
 

@@ -103,9 +103,6 @@ module _ (all : Members) (declared : List NamedPolicy) (before : List Members) (
   key_late q (against.is_alone h is) = at_least q Pair 1 is (omega arith)
   key_late q (against.too_much h is) = at_least q Work 1 is (omega arith)
 
-  pub app_keys_first : has_app_keys (role_of ms) ms ≡ false → IsFirstReason (AppAgainst all declared before ms) Key
-  app_keys_first wrong = alone_first (AppAgainst all declared before ms) Key (against.wrong_keys wrong refl) key_late
-
   early_late : (q : ScenarioReason) → Early q → 2 ≤ order_of q
   early_late q (inl (inl (inl (no_name n there h is)))) = at_least q Name 2 is (omega arith)
   early_late q (inl (inl (inl (no_policy n there h is)))) = at_least q Unknown 2 is (omega arith)

@@ -1,5 +1,5 @@
 -- The schemas of applications, by what is read under them.
-use Rattle.std.proofs.Common.{◌≡◌, ◌↔◌, ℕ, List, Contains, Some, None, Result, Ok, Err, inl, inr, refl, sym, ap, ◌∙◌, subst, arith}
+use Rattle.std.proofs.Common.{◌≡◌, ◌↔◌, ℕ, List, Contains, Some, Result, Ok, Err, inl, inr, refl, sym, ap, ◌∙◌, subst, arith}
 use Rattle.std.specs.Prelude.{MatchResult, codes}
 use Rattle.std.specs.Result.{result_unwrap_or}
 use Rattle.std.proofs.lemmas.Option.{same_Some}
@@ -14,8 +14,7 @@ use Rattle.scenario.specs.declared.fault.ScenarioReason.{ScenarioReason}
 use Rattle.scenario.specs.declared.fault.ScenarioReason.TheVariants.{Schema}
 use Rattle.scenario_values.specs.Values.{text_at}
 use Rattle.scenario_policies.specs.Owning.{AreOwn, NamedFails}
-use Rattle.scenario_reader.specs.Above.{IsPart}
-use Rattle.scenario_reader.specs.Owning.{IsOwn, IsOwnOf, IsUsedIn, AppOwnFails}
+use Rattle.scenario_reader.specs.Owning.{IsOwn, IsUsedIn, AppOwnFails}
 
 pub fails_map : (all app : Members) (P Q : List ℕ → Type 0) → ((n : List ℕ) → P n → Q n) → (q : ScenarioReason) → NamedFails all app P q
     → NamedFails all app Q q
@@ -35,12 +34,6 @@ fails_map all app P Q f q (why, h, is) = (
 )
 
 module _ (all ms : Members) where
-  pub own_none : text_at (codes "schema") ms ≡ None → IsPart (AppOwnFails all ms) (IsOwnOf all ms) (Ok None)
-  own_none none = (by, none) where
-    by : (q : ScenarioReason) → AppOwnFails all ms q → ⊥
-    by q (inl h) = absurd (let gone : None ≡ Some h.text = sym none ∙ h.there in cc)
-    by q (inr (why, h, is)) = absurd (let gone : None ≡ Some h.text = sym none ∙ h.own in cc)
-
   module _ (text : List ℕ) (there : text_at (codes "schema") ms ≡ Some text) where
     same_text : (other : List ℕ) → text_at (codes "schema") ms ≡ Some other → other ≡ text
     same_text other h = same_Some other text (sym h ∙ there)

@@ -13,7 +13,6 @@ use Rattle.scenario.specs.Lines.{program_role}
 use Rattle.scenario.specs.Reasons.{IsFirstReason, of_line, order_of}
 use Rattle.scenario.specs.declared.fault.ScenarioReason.{ScenarioReason}
 use Rattle.scenario.specs.declared.form.RoleWord.{RoleWord}
-use Rattle.scenario.specs.declared.form.RoleWord.TheVariants as role
 use Rattle.scenario_lines.specs.Forms.{sorts_of}
 use Rattle.scenario_lines.specs.Lines.{FormSays, IsNoPlace, LineAgainst, LineSays, behind, form_of, in_words, no_form, no_place, place_in}
 use Rattle.scenario_lines.specs.Programs.{Each, ProgramAgainst, ProgramSays, SomeSay, in_line, most_stores, no_reply, too_many_lines, too_many_stores}

@@ -31,9 +31,6 @@ module _ (all : Members) where
   key_late q (against.no_name h is) = at_least q Name 1 is (omega arith)
   key_late q (against.no_table h is) = at_least q Schema 1 is (omega arith)
 
-  pub top_keys_first : has_keys top_keys all ≡ false → IsFirstReason (TopAgainst all) Key
-  top_keys_first wrong = alone_first (TopAgainst all) Key (against.wrong_keys wrong refl) key_late
-
   module _ (keys : has_keys top_keys all ≡ true) where
     number_late : (q : ScenarioReason) → TopAgainst all q → 2 ≤ order_of q
     number_late q (against.wrong_keys h is) = absurd (both_ways (has_keys top_keys all) h keys)

@@ -13,7 +13,7 @@ use Rattle.schema_binding.specs.declared.fault.HelloFault.TheVariants.{Bad, Memo
 abbrev pub hello_payload : List ℕ → Table → List ℕ
 hello_payload service T = service ++ 10 ∷ table_text T
 
--- the text is the canonical text of this valid table
+-- the code's own: the text is the canonical text of this valid table
 pub record IsTextOf (text : List ℕ) (T : Table) : Type 0 where
   pub valid : IsValid T
   pub whole : text ≡ table_text T
@@ -43,7 +43,7 @@ abbrev pub IsFaultOf : List ℕ → HelloFault → Type 0
 IsFaultOf payload (Bad line) = IsBadAt payload line
 IsFaultOf payload Memory = Unit {0}
 
--- what it says of the text behind the service
+-- the code's own: what it says of the text behind the service
 abbrev pub IsFaultBehind : List ℕ → HelloFault → Type 0
 IsFaultBehind text (Bad line) = (at : ℕ) × (reason : TableReason) × IsFirstFault text at reason × (line ≡ at + 1)
 IsFaultBehind text Memory = Unit {0}

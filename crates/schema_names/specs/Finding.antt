@@ -10,7 +10,7 @@ use Rattle.schema_names.specs.declared.named.Named.{Named}
 abbrev pub NamesNothing : Joined → ℕ → List (List ℕ) → List ℕ → Type 0
 NamesNothing F file scope name = (sort : Sort) (full : List (List ℕ)) → Names F file scope name sort full → ⊥
 
--- no message or enum that a file sees has this full name
+-- the code's own: no message or enum that a file sees has this full name
 abbrev pub NoType : Joined → ℕ → List (List ℕ) → Type 0
 NoType F file full = (named : Named) (span : Span) → IsSeen F file named → StandsAt F named full span → ⊥
 

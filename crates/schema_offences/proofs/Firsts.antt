@@ -8,8 +8,8 @@ use Rattle.proto_file.specs.declared.file.File.{File}
 use Rattle.proto_file.specs.Joined.{Joined, alone}
 use Rattle.schema_offences.specs.Members.{Is}
 use Rattle.schema_offences.specs.Offences
-use Rattle.schema_offences.specs.Offences.{Offends, IsOffence}
-use Rattle.schema_offences.specs.Meeting.{first_of, IsKeptBefore, Meets, FirstIs, FirstOfFileIs}
+use Rattle.schema_offences.specs.Offences.{Offends, IsOffence, FirstIs, FirstOfFileIs}
+use Rattle.schema_offences.specs.Meeting.{first_of, IsKeptBefore, Meets}
 use Rattle.schema_offences.specs.declared.reason.ResolveReason.{ResolveReason}
 use Rattle.schema_offences.specs.declared.reason.ResolveReason.TheVariants.{Import as HasImport}
 use Rattle.schema_offences.specs.declared.first.Offence.{Offence}

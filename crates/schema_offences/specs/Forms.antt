@@ -15,22 +15,24 @@ use Rattle.schema_offences.specs.declared.types.TypeOf.{TypeOf}
 use Rattle.schema_offences.specs.declared.types.TypeOf.TheVariants.{Scalar, Named as OfName}
 use Rattle.schema_offences.specs.declared.types.Form.{Form}
 
--- a name of a file means this type in a scope
+-- the code's own: a name of a file means this type in a scope
 abbrev pub IsType : Joined → ℕ → List (List ℕ) → List ℕ → TypeOf → Type 0
 IsType F file scope name (Scalar k) = IsScalar name k
 IsType F file scope name (OfName n) =
     IsNoScalar name × ((full : List (List ℕ)) × Names F file scope name (sort_of n) full × IsFirstAt F file n full)
 
+-- the code's own
 abbrev pub is_message : TypeOf → Bool
 is_message (OfName (Message i)) = true
 is_message _ = false
 
+-- the code's own
 abbrev pub is_packable : TypeOf → Bool
 is_packable (Scalar k) = is_numeric k
 is_packable (OfName (Message i)) = false
 is_packable (OfName (Enum i)) = true
 
--- a map's key may have it
+-- the code's own: a map's key may have it
 abbrev pub may_be_key : TypeOf → Bool
 may_be_key (Scalar k) = is_key k
 may_be_key (OfName n) = false

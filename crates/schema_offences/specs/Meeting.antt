@@ -1,4 +1,4 @@
--- What the search for the first offence keeps of the offences that it meets.
+-- The code's own: what the search for the first offence keeps of the offences that it meets.
 use Rattle.std.specs.Prelude.{◌≡◌, ◌⊎◌, ℕ, ◌<◌, ◌==◌, nat_lt, Bool, true, false, ◌&&◌, ◌||◌, if◌then◌else◌, List, Option, Some, None, slice_get}
 use Rattle.std.specs.Option.{is_some}
 use Rattle.std.specs.Ordering.{nat_cmp}
@@ -9,14 +9,13 @@ use Rattle.proto_file.specs.declared.file.Word.{Word}
 use Rattle.proto_file.specs.declared.file.MessageDecl.{MessageDecl}
 use Rattle.proto_file.specs.declared.file.RpcDecl.{RpcDecl}
 use Rattle.proto_file.specs.declared.file.ServiceDecl.{ServiceDecl}
-use Rattle.proto_file.specs.declared.file.File.{File}
 use Rattle.proto_file.specs.declared.joined.Head.{Head}
 use Rattle.proto_file.specs.declared.joined.Home.TheVariants as home
 use Rattle.proto_file.specs.Joined.{Joined, package_at}
 use Rattle.schema_names.specs.Scopes.{IsScope}
 use Rattle.schema_offences.specs.Members.{Is, IsLong, IsNoMessage, MessageOffends, MethodOffends}
 use Rattle.schema_offences.specs.Lines.{PassesAt}
-use Rattle.schema_offences.specs.Offences.{Offends, IsTwice, IsLongInFull, IsOffence, HasFirst, HasOffence, ComesFirst, rank_of}
+use Rattle.schema_offences.specs.Offences.{IsTwice, IsLongInFull, ComesFirst, rank_of}
 use Rattle.schema_offences.specs.declared.reason.ResolveReason.{ResolveReason}
 use Rattle.schema_offences.specs.declared.reason.ResolveReason.TheVariants.{UnknownName, DuplicateName, Limit}
 use Rattle.schema_offences.specs.declared.first.Offence.{Offence}
@@ -98,16 +97,6 @@ LongIn F q s = (span : Span) × IsLongInFull F span × Is Limit span q s
 
 abbrev pub PassesIn : Joined → ResolveReason → Span → Type 0
 PassesIn F q s = (span : Span) × PassesAt F span × Is Limit span q s
-
--- what is found is the first offence of files that are resolved together, or there is none
-abbrev pub FirstIs : Joined → Option Offence → Type 0
-FirstIs F None = (q : ResolveReason) (s : Span) → Offends F q s → ⊥
-FirstIs F (Some o) = HasFirst F o.reason o.span
-
--- what is found is the first offence of a file alone, or there is none
-abbrev pub FirstOfFileIs : File → Option Offence → Type 0
-FirstOfFileIs F None = (q : ResolveReason) (s : Span) → IsOffence F q s → ⊥
-FirstOfFileIs F (Some o) = HasOffence F o.reason o.span
 
 -- the places of numbers that were met
 abbrev pub has_met : BTreeMap ℕ (Unit {0}) → ℕ → Bool

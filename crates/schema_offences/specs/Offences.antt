@@ -1,6 +1,6 @@
 -- What stands against files, and where (Protocol Buffers, proto3 language guide; the limits, and which name or number
 -- each offence stands at, are this project's own). Of several the first one counts.
-use Rattle.std.specs.Prelude.{◌≡◌, ◌⊎◌, ℕ, ◌<◌, ◌≤◌, true, false, List, [], ◌∷◌, ◌++◌, length, Some, slice_get, Contains}
+use Rattle.std.specs.Prelude.{◌≡◌, ◌⊎◌, ℕ, ◌<◌, ◌≤◌, true, false, List, [], ◌∷◌, ◌++◌, length, Option, Some, None, slice_get, Contains}
 use Rattle.mrpc_table.specs.Names.{is_short_full}
 use Rattle.mrpc_table.specs.declared.limits.TheConstants.{MAX_FULL_NAME}
 use Rattle.proto_file.specs.declared.file.Word.{Word}
@@ -18,6 +18,7 @@ use Rattle.schema_names.specs.Scopes.{Sort, is_type, text_of, IsScope, Declares,
 use Rattle.schema_offences.specs.Methods.{rpcs_of}
 use Rattle.schema_offences.specs.Members.{Is, IsLong, MessageOffends, EnumOffends, MethodOffends}
 use Rattle.schema_offences.specs.Lines.{PassesAt}
+use Rattle.schema_offences.specs.declared.first.Offence.{Offence}
 use Rattle.schema_offences.specs.declared.reason.ResolveReason.{ResolveReason}
 use Rattle.schema_offences.specs.declared.reason.ResolveReason.TheVariants.{UnknownName, NumberRange, DuplicateNumber, DuplicateName, Reserved, FirstEnum, MapKey, MapPlace, Limit, Import as HasImport}
 
@@ -93,3 +94,13 @@ pub record HasOffence (F : File) (q : ResolveReason) (span : Span) : Type 0 wher
 pub record HasFirst (F : Joined) (q : ResolveReason) (span : Span) : Type 0 where
   pub offence : Offends F q span
   pub first : (r : ResolveReason) (t : Span) → Offends F r t → ComesFirst q span r t
+
+-- what is found is the first offence of files that are resolved together, or there is none
+abbrev pub FirstIs : Joined → Option Offence → Type 0
+FirstIs F None = (q : ResolveReason) (s : Span) → Offends F q s → ⊥
+FirstIs F (Some o) = HasFirst F o.reason o.span
+
+-- what is found is the first offence of a file alone, or there is none
+abbrev pub FirstOfFileIs : File → Option Offence → Type 0
+FirstOfFileIs F None = (q : ResolveReason) (s : Span) → IsOffence F q s → ⊥
+FirstOfFileIs F (Some o) = HasOffence F o.reason o.span

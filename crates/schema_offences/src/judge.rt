@@ -3,7 +3,7 @@
 ghost use Rattle.std.specs.Prelude.{◌≡◌, IfOk};
 ghost use Rattle.proto_file.specs.Together.{IsFormed, IsOrdered};
 ghost use Rattle.proto_file.specs.Joined.{alone};
-ghost use Rattle.schema_offences.specs.Meeting.{FirstIs, FirstOfFileIs};
+ghost use Rattle.schema_offences.specs.Offences.{FirstIs, FirstOfFileIs};
 
 use crate::enums::note_enums;
 use crate::first::{First, Offence};

@@ -18,8 +18,8 @@ use schema_names::Scopes;
 use schema_offences::{first_offence, with_import};
 use std::alloc::Global;
 
-/// The table of a well-formed file in order, as each one is that was read, or the offence that starts first: of several at one place, the first one in the
-/// list of [`ResolveReason`]. Without memory it answers `Memory`.
+/// The table of a well-formed file in order, as each one is that was read, or the offence that starts first: of
+/// several at one place, the first one in the list of [`ResolveReason`]. Without memory it answers `Memory`.
 ///
 /// The methods have the indices of the file's order, from 0. An `optional` message is plain, and a repeated field of
 /// numbers is packed unless `packed = false` stands with it.

@@ -383,11 +383,6 @@ module _ (loads : ℕ) (d : Declared) (b : Body) (k : IsKept loads d b) where
 
   -- ---- each line
 
-  inside_few : (n : ℕ) → 1 ≤ n → n ≤ 16 → length (entries loads policies b.lines n) ≤ 8
-  inside_few n from to =
-      (let c = k.connections n from to in let at_most = c.few in let same = ap (length {A = Link}) c.links in
-      let mapped = length-map (entries loads policies b.lines n) link_of in omega (arith, at_most, same, mapped))
-
   places : {X : Type 0} (xs : List X) (i : ℕ) → i < length xs → (x : X) × (slice_get xs i ≡ Some x)
   places [] i within = absurd (omega (arith, within))
   places (x ∷ xs) zero within = (x, refl)

@@ -173,10 +173,6 @@ module _ (laws : Laws) (loads : ℕ) (T : Table) where
 
   -- ---- one stop
 
-  head_in_block : (b : Before) (line : List ℕ) (g : ItemForm) (m : List Meaning) (q : ScriptReason) → b.closed ≡ false
-      → item_form_in (words_of line) ≡ Some g → Heads b.declared g line m → Offends loads b line q → ⊥
-  head_in_block b line g m q still is heads offends = heads_free b line g m still is heads q offends
-
   pub one_stop : (b : Before) (text : List ℕ) (m n : ℕ) (r q : ScriptReason) → Stops loads T b text m r → Stops loads T b text n q → (m ≡ n) × (r ≡ q)
   one_stop b text m n r q (in_line l x h first e) (in_line k y j second f) =
       let same = same_first text l k x y h j in

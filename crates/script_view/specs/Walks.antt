@@ -11,6 +11,7 @@ use Rattle.script_view.specs.Playing.{hello_line, call_lines}
 use Rattle.script_view.specs.Unplayable.{Made, last_of, IsMadeBy, IsUnplayable}
 use Rattle.script_view.specs.declared.calls.Calls.{Calls}
 
+-- the code's own: what calls have made
 abbrev pub made_by : Calls → Made
 made_by calls = record { counts = calls.counts; calls = calls.total; loads = calls.loads }
 

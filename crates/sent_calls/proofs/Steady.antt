@@ -21,7 +21,6 @@ use Rattle.call_history.specs.Events.{Comes, Course, Event, accepted, accepts, c
 use Rattle.call_history.specs.Events.Comes.{takes, is_away, changes, rises, stays, has_turn, is_sent, link_failed}
 use Rattle.call_history.specs.Rules.{Under}
 use Rattle.call_history.specs.declared.happening.Cause.{Cause}
-use Rattle.call_history.specs.declared.happening.Cause.TheVariants as cause
 use Rattle.call_history.specs.declared.happening.Happening.TheVariants.{Away, Moment, Charged, Drawn, Counted, Redacted, Sent, Refused}
 use Rattle.call_history.specs.declared.happening.Taken.{Taken}
 use Rattle.call_history.specs.declared.happening.TookCopy.{TookCopy}

@@ -14,7 +14,7 @@ abbrev pub contents_of : {F : Type 0} → (F → Option (List ℕ)) → Option F
 contents_of contents None = None
 contents_of contents (Some file) = contents file
 
--- the file is one that was made or was there, is locked, and had these bytes written to it since
+-- the code's own: the file is one that was made or was there, is locked, and had these bytes written to it since
 abbrev pub HoldsFirst : {F : Type 0} → (F → Option (List ℕ)) → (F → Type 0) → Option F → List ℕ → Type 0
 HoldsFirst contents is_locked None bytes = ⊥
 HoldsFirst {F = F} contents is_locked (Some file) bytes =

@@ -54,7 +54,7 @@ pub data IsAuditFault (input : List ℕ) (at : ℕ) (word : List ℕ) : Type 0 w
       → Says input loads T d text before → IsFirstBad T d text bad → at ≡ before + bad
       → word ≡ codes "Audit" → IsAuditFault input at word
 
--- what a fault says of an input; running out of memory says nothing
+-- the code's own: what a fault says of an input; running out of memory says nothing
 abbrev pub IsFailureOf : List ℕ → AuditFailure → Type 0
 IsFailureOf input (At at word) = IsAuditFault input at word.now
 IsFailureOf input Memory = Unit {0}
@@ -79,7 +79,7 @@ HasAuditFault input = (at : ℕ) × (word : List ℕ) × IsAuditFault input at w
 
 -- ---- numbers of lines
 
--- the line that an answer names can be counted in 64 bits behind so many lines
+-- the code's own: the line that an answer names can be counted in 64 bits behind so many lines
 abbrev pub IsNear : ℕ → Checked → Type 0
 IsNear before (Legal happenings stands) = Unit {0}
 IsNear before (Illegal at rule) = before + at < 2 ^ 64

@@ -49,7 +49,7 @@ pub data IsCheckFault (text : List ℕ) : Spot → List ℕ → Type 0 where
   in_set : (files : List PackedFile) (file line : ℕ) (q : FilesReason) → IsBundle text → Spells text files
       → IsFirstFault files (files_fault.At file line q) → IsCheckFault text (InFile (file + 1) line) (files_word q)
 
--- what a fault says of a text; running out of memory says nothing
+-- the code's own: what a fault says of a text; running out of memory says nothing
 abbrev pub IsFaultOf : List ℕ → CheckFault → Type 0
 IsFaultOf text (At spot word) = IsCheckFault text spot word.now
 IsFaultOf text Memory = Unit {0}

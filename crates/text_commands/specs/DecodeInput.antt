@@ -11,7 +11,7 @@ use Rattle.table_text.specs.TableText.{HasTableBehind, IsEndless, IsTableBehind}
 use Rattle.text_commands.specs.declared.decoding.Cut.{Cut}
 use Rattle.text_commands.specs.declared.decoding.Cut.TheVariants.{Fault, Memory, Out}
 
--- P holds of a fault's place and word
+-- the code's own: P holds of a fault's place and word
 abbrev pub OnFault : (ℕ → List ℕ → Type 0) → Cut → Type 0
 OnFault P (Fault place word) = P place word.now
 OnFault P Memory = Unit {0}

@@ -32,10 +32,11 @@ written (quote words) = quoted words
 unfoldable pub svg : List Piece → List ℕ
 svg pieces = flat_map written pieces
 
--- what stands as it is, is plain
+-- the code's own: what stands as it is, is plain
 abbrev pub IsPlainPiece : Piece → Type 0
 IsPlainPiece (text bytes) = IsPlain bytes
 IsPlainPiece _ = Unit {0}
 
+-- the code's own: each is so
 abbrev pub ArePlain : List Piece → Type 0
 ArePlain pieces = AllByRecursion IsPlainPiece pieces

@@ -1,20 +1,7 @@
 -- Bytes that are written from the end of a buffer to its front.
 use Rattle.std.specs.Prelude.{◌≡◌, ℕ, ◌+◌, List, ◌++◌, length, drop}
-use Rattle.mrpc_table.specs.Node.{Item}
-use Rattle.mrpc_table.specs.declared.table.Kind.{Kind}
-use Rattle.mrpc_table.specs.declared.table.Table.{Table}
-use Rattle.wire_base.specs.Encoding.{tag, delimited, item_bytes}
-use Rattle.mrpc_table.specs.WireTypes.{wire_len, wire_type_of}
 
 -- the bytes stand right before `end`, from `start` on, and what stood behind them is as before
 pub record StandBefore (old new : List ℕ) (end start : ℕ) (bytes : List ℕ) : Type 0 where
   pub place : start + length bytes ≡ end
   pub written : drop start new ≡ bytes ++ drop end old
-
--- the record of one value
-abbrev pub record_bytes : Table → ℕ → Kind → Item → List ℕ
-record_bytes T n k i = tag n (wire_type_of k) ++ item_bytes T k i
-
--- the record of one entry
-abbrev pub entry_bytes : Table → ℕ → Kind → Kind → Item → Item → List ℕ
-entry_bytes T n key k i j = tag n wire_len ++ delimited (record_bytes T 1 key i ++ record_bytes T 2 k j)

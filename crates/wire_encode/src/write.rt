@@ -6,7 +6,7 @@ ghost use Rattle.mrpc_table.specs.View.{item_of, items_of, pairs_of, content_of}
 ghost use Rattle.mrpc_table.specs.declared.table.Field.{Field};
 ghost use Rattle.wire_base.specs.Encoding.{varint, tag, delimited, number_bytes, item_bytes, joined_bytes, records_bytes, entries_bytes, content_bytes, fields_bytes};
 ghost use Rattle.mrpc_table.specs.Ascending.{AllAscend, FieldsAscend};
-ghost use Rattle.wire_encode.specs.Written.{record_bytes, entry_bytes};
+ghost use Rattle.wire_encode.specs.Records.{record_bytes, entry_bytes};
 
 use crate::look_up::type_near;
 use crate::output::Output;

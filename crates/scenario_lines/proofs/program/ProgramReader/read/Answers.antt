@@ -1,5 +1,5 @@
 use Rattle.std.proofs.Common.{◌∙◌, ap}
-use Rattle.scenario_lines.specs.Reading.{noted}
+use Rattle.scenario_lines.specs.Taking.{noted}
 use Rattle.scenario_lines.proofs.ProgramReading.{read_more}
 use Rattle.scenario_lines.proofs.program.ProgramReader.read.Goals as goal
 

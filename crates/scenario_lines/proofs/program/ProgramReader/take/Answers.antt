@@ -1,5 +1,5 @@
 use Rattle.std.proofs.Common.{◌≡◌, OnOk, Ok, Err, Option, Result, ap}
-use Rattle.scenario_lines.specs.Reading.{Takes, blames, keeps, kept}
+use Rattle.scenario_lines.specs.Taking.{Takes, blames, keeps, kept}
 use Rattle.scenario_lines.specs.declared.reason.LineReason.{LineReason}
 use Rattle.scenario_lines.proofs.program.ProgramReader.take.Goals as goal
 

@@ -1,0 +1,57 @@
+-- The code's own: what one line more makes of a reader of a program, and which reason stands against what it has read.
+use Rattle.std.specs.Prelude.{◌≡◌, ℕ, [], ◌∷◌, ◌++◌, ◌+◌, ◌*◌, nat_lt, nat_le, Bool, false, ◌&&◌, ◌||◌, not, if◌then◌else◌, List, length, Option, Some, None}
+use Rattle.app_program.specs.declared.program.ProgramLine.{ProgramLine}
+use Rattle.app_program.specs.declared.program.ProgramLine.TheVariants.{Store, Spin}
+use Rattle.app_program.specs.declared.program.TheConstants.{MAX_LINES, MAX_STORES}
+use Rattle.scenario_lines.specs.Lines.{LineAgainst, LineSays}
+use Rattle.scenario_lines.specs.Programs.{most_stores}
+use Rattle.scenario_lines.specs.Reasons.{IsFirst, order_of}
+use Rattle.scenario_lines.specs.declared.form.ProgramRole.{ProgramRole}
+use Rattle.scenario_lines.specs.declared.form.ProgramRole.TheVariants.{Client, Server}
+use Rattle.scenario_lines.specs.declared.program.ProgramReader.{ProgramReader}
+use Rattle.scenario_lines.specs.declared.reason.LineReason.{LineReason}
+use Rattle.scenario_lines.specs.declared.reason.LineReason.TheVariants.{Number, Word}
+
+-- how often a line stores
+abbrev pub store_count : ProgramLine → ℕ
+store_count (Store place value) = 1
+store_count (Spin times place first second) = 2 * times
+store_count _ = 0
+
+abbrev pub added : ℕ → ProgramLine → ℕ
+added stores line = if nat_lt MAX_STORES stores then stores else stores + store_count line
+
+abbrev pub earlier : Option LineReason → Option LineReason → Option LineReason
+earlier None other = other
+earlier (Some one) None = Some one
+earlier (Some one) (Some other) = Some (if nat_le (order_of one) (order_of other) then one else other)
+
+abbrev pub reason_if : Bool → LineReason → Option LineReason
+reason_if holds reason = if holds then Some reason else None
+
+abbrev pub is_too_long : ProgramReader → Bool
+is_too_long reader = nat_lt (most_stores reader.role) reader.stores || nat_lt MAX_LINES (length reader.lines)
+
+abbrev pub lacks_reply : ProgramRole → Bool → Bool
+lacks_reply Client ends = false
+lacks_reply Server ends = not ends
+
+abbrev pub first_reason : ProgramReader → Option LineReason
+first_reason reader =
+    earlier (earlier reader.first (reason_if (is_too_long reader) Number)) (reason_if (lacks_reply reader.role reader.ends) Word)
+
+abbrev pub kept : ProgramReader → ProgramLine → ProgramReader
+kept reader line = record reader { lines = reader.lines ++ line ∷ []; stores = added reader.stores line }
+
+abbrev pub blamed : ProgramReader → LineReason → ProgramReader
+blamed reader reason = record reader { first = earlier reader.first (Some reason) }
+
+abbrev pub noted : ProgramReader → Bool → ProgramReader
+noted reader replies = record reader { replied = reader.replied || replies; ends = not reader.replied && replies }
+
+-- a line more was read, but for whether it has the form of a reply: what it says was kept, or the first reason against it
+pub data Takes (old : ProgramReader) (text : List ℕ) (new : ProgramReader) : Type 0 where
+  keeps : (line : ProgramLine) → LineSays old.role old.heap text line
+      → new ≡ kept old line → Takes old text new
+  blames : (reason : LineReason) → IsFirst (LineAgainst old.role old.heap text) reason
+      → new ≡ blamed old reason → Takes old text new
