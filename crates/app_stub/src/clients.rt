@@ -39,7 +39,7 @@ pub fn client<R: Wait, F: StopFlag + Drop>(rt: &R, program: &Program, port: AppP
     let AppPort {
         mut writer,
         sender,
-        capacity: _,
+        capacity,
         notices,
         blocks,
         reader,
@@ -47,7 +47,11 @@ pub fn client<R: Wait, F: StopFlag + Drop>(rt: &R, program: &Program, port: AppP
         stop,
     } = port;
     let mut delivery = Delivery { notices, blocks };
-    let outgoing = Outgoing { sender, reclaims };
+    let outgoing = Outgoing {
+        sender,
+        capacity,
+        reclaims,
+    };
     let sent = run(rt, &stop, program, &mut writer, &mut delivery, outgoing);
     let Delivery { notices, blocks } = delivery;
     AppEnd {
@@ -86,10 +90,11 @@ fn run<R: Wait, F: StopFlag>(
     do_lines(rt, stop, program, writer, &mut outgoing)?;
     let Outgoing {
         sender,
+        capacity,
         mut reclaims,
     } = outgoing;
     let calls = waiting::close(rt, stop, sender)?;
-    give_all_back(rt, stop, delivery, &mut reclaims)?;
+    give_all_back(rt, stop, delivery, capacity, &mut reclaims)?;
     let reclaims = waiting::close_reclaims(rt, stop, reclaims)?;
     Ok(AppSent { calls, reclaims })
 }
@@ -142,7 +147,7 @@ fn do_line<R: Wait, F: StopFlag>(
     match line {
         ProgramLine::Submit { method, addr } => {
             let request = call(writer, 1, *method, 0, *addr);
-            waiting::send(rt, stop, &mut outgoing.sender, request)
+            waiting::send(rt, stop, &mut outgoing.sender, outgoing.capacity, request)
         }
         ProgramLine::Reclaim { block } => {
             waiting::reclaim(rt, stop, &mut outgoing.reclaims, *block)
@@ -159,6 +164,7 @@ fn give_all_back<R: Wait, F: StopFlag>(
     rt: &R,
     stop: &F,
     delivery: &mut Delivery,
+    capacity: u64,
     reclaims: &mut NumberSender,
 ) -> Result<(), Stopped>
     requires new { (delivery.old.notices.taken ≡ []) × (delivery.old.blocks.taken ≡ []) }
@@ -173,7 +179,7 @@ fn give_all_back<R: Wait, F: StopFlag>(
     ensures blocks { delivery.new.blocks.ring ≡ delivery.old.blocks.ring }
 {
     for _ in rt.forever() {
-        match waiting::next_notice(rt, stop, &mut delivery.notices)? {
+        match waiting::next_notice(rt, stop, &mut delivery.notices, capacity)? {
             Some(_) => delivery.give_back(rt, stop, reclaims)?,
             None => return delivery.finish(rt, stop),
         }

@@ -96,7 +96,11 @@ pub fn echo<R: Wait, F: StopFlag + Drop>(
         replies: 0,
     };
     let mut delivery = Delivery { notices, blocks };
-    let outgoing = Outgoing { sender, reclaims };
+    let outgoing = Outgoing {
+        sender,
+        capacity,
+        reclaims,
+    };
     let answer = run(rt, &stop, table, &mut desk, &mut delivery, outgoing);
     let memory = matches!(&answer, Err(Ending::NoMemory));
     if memory {
@@ -138,7 +142,11 @@ fn run<R: Wait, F: StopFlag>(
     ensures blocks { delivery.new.blocks.ring ≡ delivery.old.blocks.ring }
 {
     echo_all(rt, stop, table, desk, delivery, &mut outgoing)?;
-    let Outgoing { sender, reclaims } = outgoing;
+    let Outgoing {
+        sender,
+        capacity: _,
+        reclaims,
+    } = outgoing;
     let calls = waiting::close(rt, stop, sender)?;
     let reclaims = waiting::close_reclaims(rt, stop, reclaims)?;
     Ok(AppSent { calls, reclaims })
@@ -170,7 +178,7 @@ fn echo_all<R: Wait, F: StopFlag>(
 {
     calls_are_fresh();
     for _ in rt.forever() {
-        match waiting::next_notice(rt, stop, &mut delivery.notices)? {
+        match waiting::next_notice(rt, stop, &mut delivery.notices, desk.ring)? {
             Some(notice) => echo_one(rt, stop, table, desk, delivery, outgoing, notice)?,
             None => {
                 delivery.finish(rt, stop)?;
@@ -326,7 +334,7 @@ fn reply<R: Wait, F: StopFlag>(
     let message = table.message_of(method, Sort::Reply);
     place(desk.alloc, tree, table, message, at, &mut desk.writer)?;
     let reply = call(&mut desk.writer, 2, method, number, at);
-    waiting::send(rt, stop, sender, reply)?;
+    waiting::send(rt, stop, sender, desk.ring, reply)?;
     desk.replies += 1;
     Ok(())
 }

@@ -6,5 +6,7 @@ use descriptor_ring::{NumberSender, Sender};
 #[derive(Drop)]
 pub(crate) struct Outgoing {
     pub(crate) sender: Sender,
+    // How many calls its ring holds.
+    pub(crate) capacity: u64,
     pub(crate) reclaims: NumberSender,
 }

@@ -40,7 +40,7 @@ pub fn server<R: Wait, F: StopFlag + Drop>(rt: &R, program: &Program, port: AppP
     let AppPort {
         mut writer,
         sender,
-        capacity: _,
+        capacity,
         notices,
         blocks,
         reader,
@@ -48,7 +48,11 @@ pub fn server<R: Wait, F: StopFlag + Drop>(rt: &R, program: &Program, port: AppP
         stop,
     } = port;
     let mut delivery = Delivery { notices, blocks };
-    let outgoing = Outgoing { sender, reclaims };
+    let outgoing = Outgoing {
+        sender,
+        capacity,
+        reclaims,
+    };
     let sent = run(rt, &stop, program, &mut writer, &mut delivery, outgoing);
     let Delivery { notices, blocks } = delivery;
     AppEnd {
@@ -86,7 +90,11 @@ fn run<R: Wait, F: StopFlag>(
     ensures blocks { delivery.new.blocks.ring ≡ delivery.old.blocks.ring }
 {
     serve_all(rt, stop, program, writer, delivery, &mut outgoing)?;
-    let Outgoing { sender, reclaims } = outgoing;
+    let Outgoing {
+        sender,
+        capacity: _,
+        reclaims,
+    } = outgoing;
     let calls = waiting::close(rt, stop, sender)?;
     let reclaims = waiting::close_reclaims(rt, stop, reclaims)?;
     Ok(AppSent { calls, reclaims })
@@ -121,7 +129,7 @@ fn serve_all<R: Wait, F: StopFlag>(
 {
     let address = address_of(program);
     for _ in rt.forever() {
-        match waiting::next_notice(rt, stop, &mut delivery.notices)? {
+        match waiting::next_notice(rt, stop, &mut delivery.notices, outgoing.capacity)? {
             Some(notice) => {
                 serve(
                     rt,
@@ -131,6 +139,7 @@ fn serve_all<R: Wait, F: StopFlag>(
                     &notice,
                     writer,
                     &mut outgoing.sender,
+                    outgoing.capacity,
                 )?;
                 delivery.give_back(rt, stop, &mut outgoing.reclaims)?;
             }
@@ -161,6 +170,7 @@ fn serve<R: Wait, F: StopFlag>(
     notice: &Descriptor,
     writer: &mut Writer,
     sender: &mut Sender,
+    capacity: u64,
 ) -> Result<(), Stopped>
     requires heap { sender.old.heap ≡ writer.old.heap }
     requires lines { All (StoresIn writer.old.heap.words) program.now }
@@ -182,7 +192,7 @@ fn serve<R: Wait, F: StopFlag>(
         return Ok(());
     }
     let reply = call(writer, 2, notice.method, notice.number, address);
-    waiting::send(rt, stop, sender, reply)
+    waiting::send(rt, stop, sender, capacity, reply)
 }
 
 // Stores what a program stores.

@@ -7,19 +7,43 @@ use descriptor_ring::{
     Descriptor, Full, NumberReceiver, NumberSender, NumberTaken, NumbersSent, Receiver, Sender,
     Sent, Taken,
 };
-use pauses::Pauses;
+use pauses::{FIRST_SLEEP, Pauses};
 use std::sync::Wait;
 use stop_flag::StopFlag;
+
+// A ring that holds as many calls as this, or more, is looked at again behind a sleep. Meanwhile many of its places come
+// free, or many items come, so that threads change less often.
+const LARGE_RING: u64 = 16;
+
+// For how long each place of a large ring that is full is slept for, in microseconds.
+const PLACE_SLEEP: u64 = 3;
+
+// How one waits for room in a ring that holds so many.
+fn pauses_for_room(capacity: u64) -> Pauses {
+    if capacity < LARGE_RING {
+        return Pauses::new();
+    }
+    Pauses::asleep(capacity.saturating_mul(PLACE_SLEEP))
+}
+
+// How one waits for an item of a ring that holds so many.
+fn pauses_for_items(capacity: u64) -> Pauses {
+    if capacity < LARGE_RING {
+        return Pauses::new();
+    }
+    Pauses::asleep(FIRST_SLEEP)
+}
 
 // The stop flag was seen set.
 #[derive(Drop)]
 pub(crate) struct Stopped;
 
-// Sends a call.
+// Sends a call, on a ring that holds so many.
 pub(crate) fn send<R: Wait, F: StopFlag>(
     rt: &R,
     stop: &F,
     sender: &mut Sender,
+    capacity: u64,
     mut descriptor: Descriptor,
 ) -> Result<(), Stopped>
     requires of_heap { IsOf sender.old.heap descriptor }
@@ -29,7 +53,7 @@ pub(crate) fn send<R: Wait, F: StopFlag>(
     ensures ring { sender.new.ring ≡ sender.old.ring }
     ensures heap { sender.new.heap ≡ sender.old.heap }
 {
-    let mut pauses = Pauses::new();
+    let mut pauses = pauses_for_room(capacity);
     for _ in rt.forever() {
         match sender.send(rt, descriptor) {
             Ok(()) => return Ok(()),
@@ -125,11 +149,12 @@ pub(crate) fn close_reclaims<R: Wait, F: StopFlag>(
     unreachable!()
 }
 
-// The next notice, or none where all were taken.
+// The next notice of a ring that holds so many, or none where all were taken.
 pub(crate) fn next_notice<R: Wait, F: StopFlag>(
     rt: &R,
     stop: &F,
     notices: &mut Receiver,
+    capacity: u64,
 ) -> Result<Option<Descriptor>, Stopped>
     ensures taken { IfOk result (λ next. MatchOption next (notices.new.taken ≡ notices.old.taken)
         (λ d. notices.new.taken ≡ notices.old.taken ++ d ∷ [])) }
@@ -140,7 +165,7 @@ pub(crate) fn next_notice<R: Wait, F: StopFlag>(
     ensures ring { notices.new.ring ≡ notices.old.ring }
     ensures heap { notices.new.heap ≡ notices.old.heap }
 {
-    let mut pauses = Pauses::new();
+    let mut pauses = pauses_for_items(capacity);
     for _ in rt.forever() {
         match notices.take(rt) {
             Taken::Item(notice) => return Ok(Some(notice)),

@@ -56,22 +56,25 @@ module _ {M : Type 0} where
   OnNothing (FoundMark mark) P = ⊤
   OnNothing Nothing P = P
 
-  -- the same of what a reader took
+  -- the code's own: P holds, if a reader took bytes
   abbrev pub OnNextBytes : Next M → Type 0 → Type 0
   OnNextBytes NextBytes P = P
   OnNextBytes (NextMark mark) P = ⊤
   OnNextBytes NoNext P = ⊤
 
+  -- the code's own: P holds if it took no bytes
   abbrev pub OnNoNextBytes : Next M → Type 0 → Type 0
   OnNoNextBytes NextBytes P = ⊤
   OnNoNextBytes (NextMark mark) P = P
   OnNoNextBytes NoNext P = P
 
+  -- the code's own: P holds of the mark, if it took one
   abbrev pub OnNextMark : Next M → (M → Type 0) → Type 0
   OnNextMark NextBytes P = ⊤
   OnNextMark (NextMark mark) P = P mark
   OnNextMark NoNext P = ⊤
 
+  -- the code's own: P holds if it found nothing
   abbrev pub OnNoNext : Next M → Type 0 → Type 0
   OnNoNext NextBytes P = ⊤
   OnNoNext (NextMark mark) P = ⊤

@@ -7,9 +7,9 @@ ghost use Rattle.one_way_queue.specs.Credits.{desk_of};
 
 use crate::credit::{Back, BackPass, Credit, Credits};
 use crate::side::{Behind, Line, LinePass, Puts, Taken};
+use pauses::Pauses;
 use std::alloc::Global;
 use std::sync::{Arc, Wait};
-use std::thread;
 
 /// The end of a queue that puts items. It may go to another thread.
 pub struct Producer<T> {
@@ -125,12 +125,13 @@ impl<T> Producer<T> {
         ensures queue { producer_queue self.new ≡ producer_queue self.old }
         ensures capacity { capacity_of self.new ≡ capacity_of self.old }
     {
+        let mut pauses = Pauses::new();
         for _ in rt.forever() {
             if places < self.free {
                 return;
             }
             if !self.hear(rt) {
-                thread::yield_now();
+                pauses.pause(rt);
             }
         }
         unreachable!()

@@ -1,8 +1,9 @@
 //! What a thread does while it finds nothing to do.
 //!
-//! It gives its processor away some times, so that it soon finds what comes next, and then sleeps in growing steps, so
-//! that it costs next to nothing where nothing comes for long. Nobody wakes a sleeper: each sleep is short. It stands
-//! on the standard library alone. The layers above use one contract: which pause comes next. No clause speaks of time.
+//! It gives its processor away some times, so that it soon finds what comes next, unless it needs to look again only
+//! later; and then it sleeps in growing steps, so that it costs next to nothing where nothing comes for long. Nobody
+//! wakes a sleeper: each sleep is short. It stands on the standard library alone. The layers above use one contract:
+//! which pause comes next. No clause speaks of time.
 #![tactic(auto)]
 
 ghost use Rattle.std.specs.Prelude.{◌≡◌, ◌<◌, ◌≤◌, ◌+◌, ◌*◌, min};
@@ -16,7 +17,8 @@ use std::time::Duration;
 /// So often in a row a thread gives its processor away before it sleeps.
 pub const MOST_YIELDS: u32 = 8;
 
-/// The first sleep, in microseconds. Each further one is twice as long, up to the longest.
+/// The first sleep of one that gave its processor away before, in microseconds. Each further one is twice as long, up
+/// to the longest.
 pub const FIRST_SLEEP: u64 = 16;
 
 /// The longest sleep, in microseconds.
@@ -51,6 +53,19 @@ impl Pauses {
         Pauses {
             yields: 0,
             sleep: FIRST_SLEEP,
+            word: AtomicU64::new(0),
+        }
+    }
+
+    /// The pauses of one that needs to look again only later: it sleeps at once, first for so many microseconds, though
+    /// no longer than the longest sleep.
+    pub fn asleep(first: u64) -> Pauses
+        ensures yields { result.yields ≡ MOST_YIELDS }
+        ensures sleep { result.sleep ≡ min LONGEST_SLEEP first }
+    {
+        Pauses {
+            yields: MOST_YIELDS,
+            sleep: LONGEST_SLEEP.min(first),
             word: AtomicU64::new(0),
         }
     }

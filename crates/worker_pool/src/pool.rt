@@ -30,8 +30,9 @@ pub struct Ran<T> {
     pub stopped: bool,
 }
 
-/// Visits items by so many workers, until all are over or the flag is set, and gives them back. A visit does what can be
-/// done now, and may wait only where the item's own handle lets it. Items are numbered by their places in the list. Where no thread can be made, the workers run one after another.
+/// Visits items by so many workers, until all are over or the flag is set, and gives them back. A visit does what can
+/// be done now, and may wait only where the item's own handle lets it. Items are numbered by their places in the list.
+/// Where no thread can be made, the workers run one after another.
 ///
 /// It fails only where no memory was found, and then all items are dropped. Whatever it needs is taken before the first
 /// visit, but for what the start of threads takes.
