@@ -19,20 +19,20 @@ abbrev pub served_front : ShownConn → List ℕ
 served_front s = history_lines s.calls.now
     ++ arrivals_text s.arrivals.now.table.now (judging_of s.judge) s.calls.now.conn s.arrivals.now.lines.items
 
--- a front is made where it is told
-abbrev pub if_told : (told : Bool) → List ℕ → List ℕ
+-- a front is made where a text is
+abbrev pub if_told : (with_text : Bool) → List ℕ → List ℕ
 if_told true front = front
 if_told false front = []
 
 -- a connection that wasn't bound has none
-abbrev pub front_of : (told : Bool) → Shown → List ℕ
-front_of told (Unbound conn why) = []
-front_of told (Served served) = if_told told (served_front served)
+abbrev pub front_of : (with_text : Bool) → Shown → List ℕ
+front_of with_text (Unbound conn why) = []
+front_of with_text (Served served) = if_told with_text (served_front served)
 
 -- the same, by what it is made from
 abbrev pub front_text : Option Front → List ℕ
 front_text None = []
-front_text (Some f) = if_told f.told (history_lines f.calls.now
+front_text (Some f) = if_told f.with_text (history_lines f.calls.now
     ++ arrivals_text f.table.now (judging_of f.judge) f.calls.now.conn f.lines.now)
 
 -- a front can be made by the table of its own calls, which what arrived fits
@@ -46,8 +46,8 @@ pub record Making : Type 0 where
   pub text : List ℕ
   pub counted : List Counted
 
-abbrev pub making_of : (told : Bool) → Shown → Making
-making_of told shown = record { text = front_of told shown; counted = counted_in shown }
+abbrev pub making_of : (with_text : Bool) → Shown → Making
+making_of with_text shown = record { text = front_of with_text shown; counted = counted_in shown }
 
 abbrev pub front_counted : Option Front → List Counted
 front_counted None = []

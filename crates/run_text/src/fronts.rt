@@ -25,8 +25,8 @@ pub(crate) struct Front<'a, 't> {
     table: &'a Table,
     judge: Option<Judge<'a>>,
     lines: &'a [ArrivalLine],
-    // Whether its front is made.
-    told: bool,
+    // Whether the front of its text is made, or its lines are counted alone.
+    with_text: bool,
 }
 
 // What a thread makes of a connection.
@@ -43,12 +43,12 @@ pub(crate) fn make_of<R: Threads + Sync>(
     rt: &R,
     alloc: Global,
     shown: &[Shown<'_, '_>],
-    told: bool,
+    with_text: bool,
 ) -> Result<Vec<Result<Made, Memory>>, Memory>
     requires { All IsTellable shown.now }
-    ensures { IfOk result (λ made. AreMade (map (making_of told) shown.now) made.items) }
+    ensures { IfOk result (λ made. AreMade (map (making_of with_text) shown.now) made.items) }
 {
-    let sources = sources(alloc, shown, told)?;
+    let sources = sources(alloc, shown, with_text)?;
     make_all(rt, alloc, sources.as_slice())
 }
 
@@ -56,23 +56,23 @@ pub(crate) fn make_of<R: Threads + Sync>(
 fn sources<'a, 't>(
     alloc: Global,
     shown: &[Shown<'a, 't>],
-    told: bool,
+    with_text: bool,
 ) -> Result<Vec<Option<Front<'a, 't>>>, Memory>
     requires { All IsTellable shown.now }
-    ensures same { IfOk result (λ sources. map making_by sources.items ≡ map (making_of told) shown.now) }
+    ensures same { IfOk result (λ sources. map making_by sources.items ≡ map (making_of with_text) shown.now) }
     ensures can { IfOk result (λ sources. All CanMake sources.items) }
 {
     let mut sources = Vec::new(alloc);
     for one in shown {
-        sources.push(source_of(one, told))?;
+        sources.push(source_of(one, with_text))?;
     }
     Ok(sources)
 }
 
 // What a thread is given for a connection; nothing for one that wasn't bound.
-fn source_of<'a, 't>(shown: &Shown<'a, 't>, told: bool) -> Option<Front<'a, 't>>
+fn source_of<'a, 't>(shown: &Shown<'a, 't>, with_text: bool) -> Option<Front<'a, 't>>
     requires { IsTellable shown.now }
-    ensures same { making_by result ≡ making_of told shown.now }
+    ensures same { making_by result ≡ making_of with_text shown.now }
     ensures can { CanMake result }
 {
     lines_fit();
@@ -83,7 +83,7 @@ fn source_of<'a, 't>(shown: &Shown<'a, 't>, told: bool) -> Option<Front<'a, 't>>
             table: served.arrivals.table,
             judge: served.judge,
             lines: served.arrivals.lines.as_slice(),
-            told,
+            with_text,
         }),
     }
 }
@@ -139,7 +139,7 @@ fn told_front(alloc: Global, front: Front<'_, '_>) -> Result<Bytes, Memory>
     requires { CanMake (Some front) }
     ensures { IfOk result (λ text. text ≡ front_text (Some front.entry)) }
 {
-    if !front.told {
+    if !front.with_text {
         return Ok(Bytes::new(alloc));
     }
     let Front {

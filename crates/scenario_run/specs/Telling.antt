@@ -56,7 +56,7 @@ pub record AreTold {L : Type 0} (plan : Plan) (conns : List (ServedConn L)) (tex
   pub counts : IsCountOf (flat_map counted_in told) totals
 
 -- parts that follow one another are a text, where it is made
-abbrev pub ArePartsOf : (made : Bool) → List ℕ → List (List ℕ) → Type 0
+abbrev pub ArePartsOf : (with_text : Bool) → List ℕ → List (List ℕ) → Type 0
 ArePartsOf true text parts = text ≡ concat parts
 ArePartsOf false text parts = Unit {0}
 

@@ -93,11 +93,12 @@ fn serve_or_count<R: Threads + Wait + Sync, F: Fabric, C: Clock, G: Gate>(
     fabric: &mut F,
     clock: &C,
     gate: &G,
-    made: bool,
+    with_text: bool,
 ) -> Result<Run, ServeFault>
     requires { IsPlan plan.now }
-    ensures ran { IfOk result (λ ran. (text : List ℕ) × ArePartsOf made text ran.parts.items × HasRun C.Clock F.L.Link
-        F.pair plan.now clock.now (F.back fabric.old) (F.back fabric.new) text ran.totals ran.failed) }
+    ensures ran { IfOk result (λ ran. (text : List ℕ) × ArePartsOf with_text text ran.parts.items
+        × HasRun C.Clock F.L.Link F.pair plan.now clock.now (F.back fabric.old) (F.back fabric.new) text ran.totals
+        ran.failed) }
     ensures away { IfOk result (λ ran. F.away fabric.new ≡ F.away fabric.old) }
     ensures cause { HasCause (IsErrOf result ServeFault.Fabric) (F.faults fabric.old) (F.faults fabric.new) }
 {
@@ -112,12 +113,12 @@ fn serve_or_count<R: Threads + Wait + Sync, F: Fabric, C: Clock, G: Gate>(
             clock,
             gate,
             &PlainOrder,
-            made,
+            with_text,
         );
     }
     let order = weighted(alloc, plan)?;
     run_in_order(
-        rt, alloc, plan, &prepared, fabric, clock, gate, &order, made,
+        rt, alloc, plan, &prepared, fabric, clock, gate, &order, with_text,
     )
 }
 
@@ -131,18 +132,19 @@ fn run_in_order<R: Threads + Wait + Sync, F: Fabric, C: Clock, G: Gate, O: Ready
     clock: &C,
     gate: &G,
     order: &O,
-    made: bool,
+    with_text: bool,
 ) -> Result<Run, ServeFault>
     requires plan { IsPlan plan.now }
     requires prepared { IsPrepared plan.now prepared.now }
     requires order { GoesBy plan.now (O.grant_of order.now) }
-    ensures ran { IfOk result (λ ran. (text : List ℕ) × ArePartsOf made text ran.parts.items × HasRun C.Clock F.L.Link
-        F.pair plan.now clock.now (F.back fabric.old) (F.back fabric.new) text ran.totals ran.failed) }
+    ensures ran { IfOk result (λ ran. (text : List ℕ) × ArePartsOf with_text text ran.parts.items
+        × HasRun C.Clock F.L.Link F.pair plan.now clock.now (F.back fabric.old) (F.back fabric.new) text ran.totals
+        ran.failed) }
     ensures away { IfOk result (λ ran. F.away fabric.new ≡ F.away fabric.old) }
     ensures cause { HasCause (IsErrOf result ServeFault.Fabric) (F.faults fabric.old) (F.faults fabric.new) }
 {
     let served = serve(rt, alloc, plan, prepared, fabric, clock, gate, order)?;
-    Ok(conclude(rt, alloc, plan, fabric, served, made)?)
+    Ok(conclude(rt, alloc, plan, fabric, served, with_text)?)
 }
 
 // Tells a run that is over, or counts it alone, and gives its links back.
@@ -152,19 +154,19 @@ fn conclude<R: Threads + Sync, F: Fabric>(
     plan: &Plan,
     fabric: &mut F,
     served: Served<'_, F::L>,
-    made: bool,
+    with_text: bool,
 ) -> Result<Run, Memory>
     requires plan { IsPlan plan.now }
     requires told { AreTellable F.L.Link plan.now served.conns.items }
     requires away { length served.conns.items ≤ F.away fabric.old }
-    ensures told { IfOk result (λ ran. (text : List ℕ) × ArePartsOf made text ran.parts.items
+    ensures told { IfOk result (λ ran. (text : List ℕ) × ArePartsOf with_text text ran.parts.items
         × IsToldRun F.L.Link plan.now served.entry.conns.items text ran.totals ran.failed) }
     ensures back { OnOk result (IsPermutation (F.back fabric.new) (map link_of served.entry.conns.items ++ F.back fabric.old)) }
     ensures away { OnOk result (F.away fabric.new + length served.entry.conns.items ≡ F.away fabric.old) }
     ensures faults { F.faults fabric.new ≡ F.faults fabric.old }
 {
     let failed = has_failed(served.conns.as_slice());
-    let RunText { parts, totals } = tell(rt, alloc, plan, served.conns.as_slice(), made)?;
+    let RunText { parts, totals } = tell(rt, alloc, plan, served.conns.as_slice(), with_text)?;
     give_back(fabric, served.conns);
     Ok(Run {
         parts,

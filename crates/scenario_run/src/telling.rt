@@ -30,15 +30,15 @@ pub(crate) fn tell<R: Threads + Sync, L: Link>(
     alloc: Global,
     plan: &Plan,
     conns: &[ServedConn<'_, L>],
-    made: bool,
+    with_text: bool,
 ) -> Result<RunText, Memory>
     requires plan { IsPlan plan.now }
     requires can { All (λ s. CanTell plan.now s.conn s.outcome) conns.now }
-    ensures { IfOk result (λ told. (text : List ℕ) × ArePartsOf made text told.parts.items
+    ensures { IfOk result (λ told. (text : List ℕ) × ArePartsOf with_text text told.parts.items
         × AreTold plan.now conns.now text told.totals) }
 {
     let shown = shown_all(alloc, plan, conns)?;
-    if made {
+    if with_text {
         return run_text(rt, alloc, shown.as_slice());
     }
     let totals = run_counts(rt, alloc, shown.as_slice())?;

@@ -1,7 +1,7 @@
 -- What comes of the hellos of an end of a link.
 use Rattle.std.proofs.Common.{◌≡◌, ◌≢◌, ℕ, ◌≤◌, ◌⊎◌, inl, inr, Bool, true, false, List, [], ◌∷◌, ◌++◌, Option, Some}
 use Rattle.std.proofs.Common.{None, Result, Ok, Err, refl, sym, ap, subst, ◌∙◌, arith}
-use Rattle.std.specs.Prelude.{IfSome, OnOk}
+use Rattle.std.specs.Prelude.{IfSome, IsTrue, OnOk}
 use Rattle.std.specs.Io.KnownBytes.{Appends}
 use Rattle.std.specs.Option.{option_copied}
 use Rattle.mrpc_base.specs.Faults.{HasCause, Rose}
@@ -49,7 +49,8 @@ cause-by false state start middle now none stays rose cause fails same = record 
 module _ {L : Type 0} (of_link : LinkMembers L) (plan : Plan) (app : Application) (start link heard now : L)
     (said : Bool) (new : IsNewLink of_link start) (was : WasSaid of_link plan app start link said)
     (handed : of_link.handed heard ≡ of_link.handed link) (handed' : of_link.handed now ≡ of_link.handed heard)
-    (given' : of_link.given now ≡ of_link.given heard) (faults' : of_link.faults now ≡ of_link.faults heard) where
+    (given' : of_link.given now ≡ of_link.given heard) (ended' : of_link.ended now ≡ of_link.ended heard)
+    (faults' : of_link.faults now ≡ of_link.faults heard) where
   handed-by : (said' : Bool) → said' ≡ said → (state : Stream) → (said' ≡ false → state ≡ Failed)
       → (of_link.handed now ≡ hello_in plan app ∷ []) ⊎ ((of_link.handed now ≡ []) × (state ≡ Failed))
   handed-by true is state fails = inl (handed' ∙ handed ∙ was.handed (sym is))
@@ -57,7 +58,7 @@ module _ {L : Type 0} (of_link : LinkMembers L) (plan : Plan) (app : Application
 
   pub refused-by : (T : Table) (why : Unbound) → T ≡ table_of plan app
       → WasLeft plan.service T (of_link.given link) (of_link.given heard) (of_link.faults link) (of_link.faults heard)
-      said why → WasRefused of_link plan app start now why
+      said (of_link.ended heard) why → WasRefused of_link plan app start now why
   refused-by T why table h = record {
     stream = h.stream;
     fault = h.fault;
@@ -67,6 +68,7 @@ module _ {L : Type 0} (of_link : LinkMembers L) (plan : Plan) (app : Application
     unbound = subst (λ (x : Table). IsUnbound x plan.service h.stream h.fault h.state why) table h.unbound;
     says = h.says;
     handed = handed-by said refl h.state h.failed;
+    ended = λ is. subst (λ b. IsTrue b) (sym ended') (h.ends is);
     cause = subst (λ n. HasCause (h.state ≡ Failed) (of_link.faults start) n) (sym faults')
         (cause-by said h.state (of_link.faults start) (of_link.faults link) (of_link.faults heard) new.faults was.stays
         was.rose h.cause h.failed h.stays);

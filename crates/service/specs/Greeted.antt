@@ -1,5 +1,5 @@
 -- The code's own: ends of links that were greeted.
-use Rattle.std.specs.Prelude.{◌≡◌, ◌≢◌, ℕ, List, [], ◌∷◌, ◌++◌, Bool, Option, Some, None, true, false}
+use Rattle.std.specs.Prelude.{◌≡◌, ◌≢◌, ℕ, List, [], ◌∷◌, ◌++◌, Bool, Option, Some, None, IsTrue, true, false}
 use Rattle.std.specs.List.{AllZip}
 use Rattle.std.specs.Io.KnownBytes.{Appends}
 use Rattle.std.specs.Option.{option_copied}
@@ -12,7 +12,7 @@ use Rattle.receive_core.specs.Life.{fed, greeted, no_life}
 use Rattle.deliveries.specs.Arriving.{HaveLived}
 use Rattle.deliveries.specs.declared.arrivals.Arrivals.{Arrivals}
 use Rattle.deliveries.specs.declared.arrivals.Stream.{Stream}
-use Rattle.deliveries.specs.declared.arrivals.Stream.TheVariants.{Failed}
+use Rattle.deliveries.specs.declared.arrivals.Stream.TheVariants.{Ended, Failed}
 use Rattle.link_greeting.specs.Greeting.{IsBound, IsUnbound, SaysWhy}
 use Rattle.link_greeting.specs.declared.unbound.Unbound.{Unbound}
 use Rattle.link_greeting.specs.declared.unbound.Unbound.TheVariants.{Transport}
@@ -26,16 +26,17 @@ use Rattle.service.specs.Served.{ArePairs, IsNewLink, WasRefused, hello_in}
 use Rattle.service.specs.declared.greeting.Greeted.{Greeted}
 use Rattle.service.specs.declared.greeting.Introduced.{Introduced}
 
--- What leaves a connection unbound, by what its link gave and by its faults: what came shows why, unless its own hello
--- wasn't said, since its link failed at it.
-pub record WasLeft (service : List ℕ) (T : Table) (given given' : Option (List ℕ)) (faults faults' : ℕ) (said : Bool)
-    (why : Unbound) : Type 0 where
+-- What leaves a connection unbound, by what its link gave, by its faults and by whether it has ended: what came shows
+-- why, unless its own hello wasn't said, since its link failed at it.
+pub record WasLeft (service : List ℕ) (T : Table) (given given' : Option (List ℕ)) (faults faults' : ℕ)
+    (said ended : Bool) (why : Unbound) : Type 0 where
   pub stream : List ℕ
   pub fault : Option FeedFault
   pub state : Stream
   pub came : Appends given given' stream
   pub unbound : IsUnbound T service stream fault state why
   pub says : SaysWhy why
+  pub ends : state ≡ Ended → IsTrue ended
   pub cause : said ≡ true → HasCause (state ≡ Failed) faults faults'
   pub failed : said ≡ false → state ≡ Failed
   pub stays : said ≡ false → faults' ≡ faults

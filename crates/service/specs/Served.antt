@@ -1,5 +1,5 @@
 -- What a run did on the connections of its plan (this project's own).
-use Rattle.std.specs.Prelude.{◌≡◌, ◌⊎◌, ℕ, List, [], ◌∷◌, All, length, Option, Some, false}
+use Rattle.std.specs.Prelude.{◌≡◌, ◌⊎◌, ℕ, List, [], ◌∷◌, All, length, Option, Some, IsTrue, false}
 use Rattle.std.specs.List.{flat_map}
 use Rattle.std.specs.Io.KnownBytes.{Appends}
 use Rattle.std.specs.Option.{option_copied}
@@ -14,7 +14,7 @@ use Rattle.call_history.specs.Tickets.{tickets_behind}
 use Rattle.conn_core.specs.Connections.{behind}
 use Rattle.receive_core.specs.Life.{fed, greeted, no_life}
 use Rattle.deliveries.specs.declared.arrivals.Stream.{Stream}
-use Rattle.deliveries.specs.declared.arrivals.Stream.TheVariants.{Failed}
+use Rattle.deliveries.specs.declared.arrivals.Stream.TheVariants.{Ended, Failed}
 use Rattle.link_greeting.specs.Greeting.{IsBound, IsUnbound, SaysWhy, hello_of}
 use Rattle.link_greeting.specs.declared.unbound.Unbound.{Unbound as Cause}
 use Rattle.link_greeting.specs.declared.unbound.Unbound.TheVariants.{Transport}
@@ -52,8 +52,8 @@ ArePairs link pair (a ∷ b ∷ more) = pair (link a) (link b) × ArePairs link 
 -- ---- what became of a connection
 
 -- A connection wasn't bound: what its link gave, up to the stream's state, leaves it unbound for this cause. Its link
--- was handed its hello alone, or nothing where it failed at it; its count of faults rose where the stream failed, and
--- only there, and then the cause is the transport.
+-- was handed its hello alone, or nothing where it failed at it; the stream has ended only where the link answered so;
+-- the link's count of faults rose where the stream failed, and only there, and then the cause is the transport.
 pub record WasRefused {L : Type 0} (of_link : LinkMembers L) (plan : Plan) (app : Application) (start now : L)
     (why : Cause) : Type 0 where
   pub stream : List ℕ
@@ -63,6 +63,7 @@ pub record WasRefused {L : Type 0} (of_link : LinkMembers L) (plan : Plan) (app 
   pub unbound : IsUnbound (table_of plan app) plan.service stream fault state why
   pub says : SaysWhy why
   pub handed : (of_link.handed now ≡ hello_in plan app ∷ []) ⊎ ((of_link.handed now ≡ []) × (state ≡ Failed))
+  pub ended : state ≡ Ended → IsTrue (of_link.ended now)
   pub cause : HasCause (state ≡ Failed) (of_link.faults start) (of_link.faults now)
   pub transport : state ≡ Failed → why ≡ Transport
 

@@ -197,7 +197,7 @@ fn hear<R: Wait, L: Link>(
     ensures working { result ≡ Ok None → arrivals.new.stream ≢ Stream.Failed }
     ensures no_fault { result ≡ Ok None → L.faults link.new ≡ L.faults link.old }
     ensures left { IfOk result (λ unbound. IfSome unbound (λ why. WasLeft service.now arrivals.new.table.now
-        (L.given link.old) (L.given link.new) (L.faults link.old) (L.faults link.new) said why)) }
+        (L.given link.old) (L.given link.new) (L.faults link.old) (L.faults link.new) said (L.ended link.new) why)) }
 
     ensures same { AreSame arrivals.old arrivals.new }
     ensures heap { arrivals.new.inbound.heap ≡ arrivals.old.inbound.heap }
@@ -214,6 +214,7 @@ fn hear<R: Wait, L: Link>(
 fn finish_where<L: Link>(over: bool, link: &mut L)
     ensures handed { L.handed link.new ≡ L.handed link.old }
     ensures given { L.given link.new ≡ L.given link.old }
+    ensures ended { L.ended link.new ≡ L.ended link.old }
     ensures faults { L.faults link.new ≡ L.faults link.old }
     ensures same_link { (first : L) → L.since first link.old → L.since first link.new }
 {

@@ -10,7 +10,7 @@ use Rattle.run_text.proofs.fronts.sources.Goals as goal
 pub loop-one-preserved : goal.loop-one-preserved
 loop-one-preserved c =
     let shown = c.args.shown.now in
-    let making = making_of c.args.told in
+    let making = making_of c.args.with_text in
     let i = c.loop-one.one-index in
     let one = c.one-item.result in
     let source = c.source_of.result in

@@ -50,15 +50,15 @@ returns g c = λ e i.
       heard = heard-as g.L.Link plan app e.link c.finish_where.new.link c.hear.new.arrivals c.in_ok-writer.reader
           c.in_ok-unbound.unbound
           (λ none. heard-by g.L.Link plan app e.link c.args.end.link c.hear.new.link c.finish_where.new.link
-          c.args.end.said i.is_new said hear.handed finish.handed finish.given finish.faults c.hear.new.arrivals
-          c.in_ok-writer.reader (hear.said (ap Ok none)) (hear.no_fault (ap Ok none)) table (hear.bound (ap Ok none))
-          (hear.working (ap Ok none))
+          c.args.end.said i.is_new said hear.handed finish.handed finish.given finish.ended finish.faults
+          c.hear.new.arrivals c.in_ok-writer.reader (hear.said (ap Ok none)) (hear.no_fault (ap Ok none)) table
+          (hear.bound (ap Ok none)) (hear.working (ap Ok none))
           (ap (λ h. h.held) hear.heap ∙ ap (λ r. r.heap.held) new.inbound ∙ c.in_ok-inbound.ensures.held)
           (ap option_copied (hear.same.policy ∙ new.policy) ∙ c.inbound_of-policy.ensures)
           (c.in_ok-writer.ensures.one_heap ∙ sym (hear.same.heap ∙ ap (λ w. w.heap) new.writer))
           c.in_ok-writer.ensures.loads
           (ap (λ h. h.words) c.in_ok-writer.ensures.one_heap ∙ c.in_ok-writer.ensures.size))
           (λ why some. refused-by g.L.Link plan app e.link c.args.end.link c.hear.new.link c.finish_where.new.link
-          c.args.end.said i.is_new said hear.handed finish.handed finish.given finish.faults
+          c.args.end.said i.is_new said hear.handed finish.handed finish.given finish.ended finish.faults
           c.hear.new.arrivals.table.now why table (on-some _ _ why some hear.left));
     }
