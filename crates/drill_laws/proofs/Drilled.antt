@@ -70,7 +70,7 @@ submits-in calls number = submits-long calls number 0 (range_with_len 1 calls) �
 
 -- ---- the calls of a connection whose link didn't fail
 
-no-rise : Rose 0 0 → ⊥
+pub no-rise : Rose 0 0 → ⊥
 no-rise (inl more) = omega (arith, more)
 no-rise (inr more) = omega (arith, more)
 

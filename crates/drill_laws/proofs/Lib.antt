@@ -4,3 +4,8 @@ mod Holding
 mod Planned
 mod Told
 mod Drilled
+mod Itself
+mod Schema
+mod Streams
+mod Unbound
+mod Bound

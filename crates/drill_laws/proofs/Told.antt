@@ -48,7 +48,7 @@ kept-all : {X Y : Type 0} (P : Y → Type 0) (f : X → Option Y) (xs : List X) 
 kept-all P f [] each = All-nil P
 kept-all P f (x ∷ xs) each = kept-one P (f x) (filter_map f xs) (each x) (kept-all P f xs each)
 
-by-number-all : {L : Type 0} (P : ServedConn L → Type 0) (conns : List (ServedConn L)) → All P conns
+pub by-number-all : {L : Type 0} (P : ServedConn L → Type 0) (conns : List (ServedConn L)) → All P conns
     → All P (by_number conns)
 by-number-all P conns all = kept-all P (conn_in conns) (range_with_len 1 MAX_CONNECTIONS)
     (λ n s at. found-holds P _ conns s all at)

@@ -4,20 +4,27 @@ ghost use Rattle.std.specs.Prelude.{◌≡◌, ◌+◌, ◌*◌, ◌≤◌, ℕ,
 ghost use Rattle.std.specs.List.{AllZip};
 ghost use Rattle.conn_core.specs.Connections.{Connection, IsConnection};
 ghost use Rattle.drill_plan.specs.Drill.{drill};
+ghost use Rattle.mem_fabric.specs.Pair.{IsHandedOn, PairEnd, told_of_all};
 ghost use Rattle.run_plan.specs.declared.plan.Plan.{Plan};
 ghost use Rattle.run_text.specs.Counting.{counted_on};
 ghost use Rattle.run_text.specs.declared.shown.Shown.{Shown};
 ghost use Rattle.scenario_run.specs.Running.{NeverFailed, Shows, by_number};
+ghost use Rattle.service.specs.Served.{ArePairs};
 ghost use Rattle.service.specs.declared.served.ServedConn.{ServedConn};
 ghost use Rattle.service_loop.specs.Serving.{IsServed};
 ghost use Rattle.service_loop.specs.declared.submissions.Submissions.{Submissions};
 ghost use Rattle.telemetry.specs.Counts.{all_counts};
 ghost use Rattle.drill_laws.specs.Counting.{AddUp, counts_told};
 ghost use Rattle.drill_laws.specs.Holding.{NoneHolds, StepNeverHolds};
+ghost use Rattle.drill_laws.specs.Meeting.{HaveMet};
 ghost use Rattle.drill_laws.specs.Runs.{IsToldBound, TellsRun};
 
 use call_history::standing_goes_on;
+use frame_transport::{one_frame, one_split};
+use mem_fabric::PairLink;
 use mrpc_base::{Clock, Link};
+use schema_binding::one_hello;
+use std::sync::Wait;
 
 /// Each call that was accepted is counted once more, as sent, as refused, or as standing: of a connection as of all that
 /// are told of a run.
@@ -40,7 +47,7 @@ pub fn none_stands_unheld<C: Clock, L: Link>()
 
 /// What a drill tells adds up: no call stands, and as many were taken as were sent and refused. Where no link failed
 /// and each connection was bound, at least those were taken that its four clients submit. That each was bound is a
-/// premise: what a run says of a connection that wasn't doesn't rule it out over links in memory.
+/// premise here, and holds where the two ends of each link have met ([`drills_are_bound`]).
 pub fn drills_add_up<C: Clock, L: Link>()
     ensures none_stands { (calls : ℕ) (clock : C) (conns : List (ServedConn L)) (told : List Shown)
         → TellsRun C.Clock L.Link (drill calls) clock conns told → (counts_told told).standing ≡ 0 }
@@ -54,3 +61,27 @@ pub fn drills_add_up<C: Clock, L: Link>()
     each_call_is_counted_once::<L>();
     none_stands_unheld::<C, L>();
 }
+
+/// Where no link failed, and the two ends of each have met, as those of links in memory do ([`links_in_memory_meet`]),
+/// each connection of a drill was bound. So at least those calls were taken that its four clients submit.
+pub fn drills_are_bound<C: Clock, L: Link>()
+    ensures bound { (calls : ℕ) (clock : C) (conns : List (ServedConn L)) (told : List Shown)
+        → TellsRun C.Clock L.Link (drill calls) clock conns told → All (NeverFailed L.Link) conns
+        → ArePairs (λ s. s.link) (HaveMet L.Link) conns → All IsToldBound told }
+    ensures took { (calls : ℕ) (clock : C) (conns : List (ServedConn L)) (told : List Shown)
+        → TellsRun C.Clock L.Link (drill calls) clock conns told → All (NeverFailed L.Link) conns
+        → ArePairs (λ s. s.link) (HaveMet L.Link) conns → 4 * calls ≤ (counts_told told).took }
+{
+    one_split();
+    one_frame();
+    one_hello();
+    drills_add_up::<C, L>();
+}
+
+/// What `mem_fabric::meet` tells of the two ends of a link in memory is that they have met. It is so of what the two were
+/// before they met, too, since they only learn then what was handed over.
+pub fn links_in_memory_meet<'r, R: Wait + 'r>()
+    ensures met { (a b : PairEnd) → IsHandedOn a b → IsHandedOn b a → HaveMet ⟦<PairLink<'r, R> as Link>⟧ a b }
+    ensures before { (a b : PairEnd) → IsHandedOn (told_of_all b a) (told_of_all a b)
+        → IsHandedOn (told_of_all a b) (told_of_all b a) → HaveMet ⟦<PairLink<'r, R> as Link>⟧ a b }
+{}

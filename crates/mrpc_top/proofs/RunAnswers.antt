@@ -1,6 +1,6 @@
 -- What was run may be told so, and the fault of a scenario is told by its line.
-use Rattle.std.proofs.Common.{◌≡◌, ◌∙◌, ◌⊎◌, ◌<◌, ◌≤◌, ap, arith, inl, inr, length, refl, subst, sym, ℕ, List, [], Option, Some}
-use Rattle.std.specs.Prelude.{Bool}
+use Rattle.std.proofs.Common.{◌≡◌, ◌∙◌, ◌⊎◌, ◌+◌, ◌*◌, ◌<◌, ◌≤◌, ap, arith, inl, inr, length, refl, subst, sym, ℕ, List, [], Option, Some}
+use Rattle.std.specs.Prelude.{All, Bool}
 use Rattle.std.specs.List.{flat_map}
 use Rattle.std.specs.Io.KnownBytes.{Appends}
 use Rattle.mrpc_base.specs.declared.clock.Clock.{Ghosts as ClockMembers}
@@ -14,7 +14,13 @@ use Rattle.telemetry.specs.declared.counts.Counts.{Counts}
 use Rattle.scenario.specs.declared.fault.Entry.{Entry}
 use Rattle.scenario.specs.declared.fault.ScenarioReason.{ScenarioReason}
 use Rattle.run_text.specs.Counting.{counted_in}
-use Rattle.scenario_run.specs.Running.{HasRun}
+use Rattle.run_text.specs.declared.shown.Shown.{Shown}
+use Rattle.service.specs.Served.{ArePairs}
+use Rattle.service.specs.declared.served.ServedConn.{ServedConn}
+use Rattle.scenario_run.specs.Running.{HasRun, NeverFailed}
+use Rattle.drill_laws.specs.Counting.{counts_told}
+use Rattle.drill_laws.specs.Meeting.{HaveMet}
+use Rattle.drill_laws.specs.Runs.{TellsRun}
 use Rattle.whole_input.specs.Reading.{IsInput}
 use Rattle.text_commands.specs.FaultLines.{fault_line}
 use Rattle.whole_input.specs.Reading.{IsAllOf}
@@ -29,6 +35,21 @@ use Rattle.mrpc_top.proofs.KnownBytes.{appends-nothing}
 module _ {C L : Type 0} (of_clock : ClockMembers C) (of_link : LinkMembers L) (pair : L → L → Type 0) (clock : C)
     (back back' : List (ℕ × L)) (running : Running) (left : Option (List ℕ)) (plan : Plan) (totals : List (ℕ × Counts))
     (one failed : Bool) (its : one ≡ failed) where
+  -- what the laws of drills say
+  abbrev NoneStands : Type 0
+  NoneStands = (calls : ℕ) (clock : C) (conns : List (ServedConn L)) (told : List Shown)
+      → TellsRun of_clock of_link (drill calls) clock conns told → (counts_told told).standing ≡ 0
+
+  abbrev AllWent : Type 0
+  AllWent = (calls : ℕ) (clock : C) (conns : List (ServedConn L)) (told : List Shown)
+      → TellsRun of_clock of_link (drill calls) clock conns told
+      → (counts_told told).took ≡ (counts_told told).sent + (counts_told told).refused
+
+  abbrev AllCame : Type 0
+  AllCame = (calls : ℕ) (clock : C) (conns : List (ServedConn L)) (told : List Shown)
+      → TellsRun of_clock of_link (drill calls) clock conns told → All (NeverFailed of_link) conns
+      → ArePairs (λ s. s.link) (HaveMet of_link) conns → 4 * calls ≤ (counts_told told).took
+
   -- the text of the run of what a scenario says may be told
   pub tells-scenario : (told : List ℕ) → running ≡ Scenario → IsPlanOf running left plan
       → HasRun of_clock of_link pair plan clock back back' told totals one
@@ -39,22 +60,27 @@ module _ {C L : Type 0} (of_clock : ClockMembers C) (of_link : LinkMembers L) (p
       subst (λ (r : Running). IsPlanOf r left plan → MayTell of_clock of_link pair clock back back' failed r left told) (sym is)
       (λ plan_is. (plan_is.0, plan_is.1, record { plan = plan; says = plan_is.2; totals = totals; ran = same })) says
 
-  -- and the line of the counts of the run of a drill
-  pub tells-drill : (calls : ℕ) (text told : List ℕ) → SumsCount → running ≡ Drill calls → IsPlanOf running left plan
-      → HasRun of_clock of_link pair plan clock back back' text totals one → IsDrillLine calls totals told
-      → MayTell of_clock of_link pair clock back back' failed running left told
-  tells-drill calls text told sums is says ran line =
+  -- and the line of the counts of the run of a drill, whose numbers the laws of drills give
+  pub tells-drill : (calls : ℕ) (text told : List ℕ) → SumsCount → NoneStands → AllWent → AllCame → running ≡ Drill calls
+      → IsPlanOf running left plan → HasRun of_clock of_link pair plan clock back back' text totals one
+      → IsDrillLine calls totals told → MayTell of_clock of_link pair clock back back' failed running left told
+  tells-drill calls text told sums none went came is says ran line =
       let same : HasRun of_clock of_link pair plan clock back back' text totals failed =
       subst (HasRun of_clock of_link pair plan clock back back' text totals) its ran in
       subst (λ (r : Running). IsPlanOf r left plan → MayTell of_clock of_link pair clock back back' failed r left told) (sym is)
       (λ plan_is.
       let of_drill : HasRun of_clock of_link pair (drill calls) clock back back' text totals failed =
       subst (λ (p : Plan). HasRun of_clock of_link pair p clock back back' text totals failed) plan_is same in
+      let tells : TellsRun of_clock of_link (drill calls) clock of_drill.conns of_drill.told =
+      record { served = of_drill.served; shows = of_drill.shows } in
       record {
         text = text;
         totals = totals;
         ran = of_drill;
         its_line = line.line ∙ ap (drill_line calls) (sums (flat_map counted_in of_drill.told) totals line.sound of_drill.counts);
+        none_stands = none calls clock of_drill.conns of_drill.told tells;
+        all_went = went calls clock of_drill.conns of_drill.told tells;
+        all_came = λ whole. came calls clock of_drill.conns of_drill.told tells (of_drill.none_failed whole);
       }) says
 
 pub refuses-scenario : (left left' : Option (List ℕ)) (text : List ℕ) (at : Entry) (reason : ScenarioReason) (number : ℕ)

@@ -1,14 +1,12 @@
 -- What `run` and `drill` do (this project's own).
-use Rattle.std.specs.Prelude.{◌≡◌, ◌⊎◌, ℕ, ◌<◌, ◌≤◌, Bool, List, [], ◌∷◌, codes, length, map, Option, Some, String, string_bytes}
+use Rattle.std.specs.Prelude.{◌≡◌, ◌⊎◌, ℕ, ◌+◌, ◌*◌, ◌<◌, ◌≤◌, Bool, false, List, [], ◌∷◌, codes, length, map, Option, Some, String, string_bytes}
 use Rattle.std.specs.declared.alloc.Global.{Global}
 use Rattle.std.specs.Fmt.{decimal}
-use Rattle.std.specs.List.{flat_map}
 use Rattle.std.specs.Io.KnownBytes.{Appends}
 use Rattle.mrpc_base.specs.declared.clock.Clock.{Ghosts as ClockMembers}
 use Rattle.mrpc_base.specs.declared.link.Link.{Ghosts as LinkMembers}
 use Rattle.mrpc_table.specs.Lines.{number_of}
 use Rattle.mrpc_table.specs.Text.{line}
-use Rattle.telemetry.specs.Counts.{all_counts}
 use Rattle.telemetry.specs.declared.counts.Counts.{Counts}
 use Rattle.run_plan.specs.declared.plan.Plan.{Plan}
 use Rattle.drill_plan.specs.Drill.{drill}
@@ -17,8 +15,10 @@ use Rattle.scenario.specs.Reasons.{number_of_entry, reason_word}
 use Rattle.scenario.specs.Scenarios.{HasFault, IsTextOf}
 use Rattle.scenario.specs.declared.fault.Entry.{Entry}
 use Rattle.scenario.specs.declared.fault.ScenarioReason.{ScenarioReason}
-use Rattle.run_text.specs.Counting.{counted_in}
+use Rattle.service.specs.Served.{ArePairs}
 use Rattle.scenario_run.specs.Running.{HasRun}
+use Rattle.drill_laws.specs.Counting.{counts_told}
+use Rattle.drill_laws.specs.Meeting.{HaveMet}
 use Rattle.whole_input.specs.Reading.{IsInput}
 use Rattle.text_commands.specs.FaultLines.{WritesFront, fault_line}
 use Rattle.whole_input.specs.Reading.{ReadsPast}
@@ -63,12 +63,18 @@ module _ {C L : Type 0} (of_clock : ClockMembers C) (of_link : LinkMembers L) (p
     pub totals : List (ℕ × Counts)
     pub ran : HasRun of_clock of_link pair plan clock back back' told totals failed
 
-  -- the drill was run, and this line has the counts of all lines of the run's text
+  -- The drill was run, and this line has the counts of all lines of the run's text. None stands, and as many calls were
+  -- taken as were sent and refused. Where no link failed, and the two ends of each have met, as those of links in memory
+  -- do, at least those were taken that its four clients submit.
   pub record TellsDrill (failed : Bool) (calls : ℕ) (told : List ℕ) : Type 0 where
     pub text : List ℕ
     pub totals : List (ℕ × Counts)
     pub ran : HasRun of_clock of_link pair (drill calls) clock back back' text totals failed
-    pub its_line : told ≡ drill_line calls (all_counts (flat_map counted_in ran.told))
+    pub its_line : told ≡ drill_line calls (counts_told ran.told)
+    pub none_stands : (counts_told ran.told).standing ≡ 0
+    pub all_went : (counts_told ran.told).took ≡ (counts_told ran.told).sent + (counts_told ran.told).refused
+    pub all_came : failed ≡ false → ArePairs (λ s. s.link) (HaveMet of_link) ran.conns
+        → 4 * calls ≤ (counts_told ran.told).took
 
   -- what was run may tell this, where a link failed or none did: of an input that had so much left, or of a drill
   abbrev pub MayTell : Bool → Running → Option (List ℕ) → List ℕ → Type 0

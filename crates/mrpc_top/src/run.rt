@@ -16,6 +16,7 @@ ghost use Rattle.mrpc_top.specs.Runs.{HasPlan, HasRunFault, IsCallCount, NamesRu
 ghost use Rattle.mrpc_top.specs.Told.{IsPlanOf, WritesLine, WritesLineFront};
 
 use crate::discard;
+use drill_laws::{drills_add_up, drills_are_bound};
 use drill_plan::{MAX_CALLS, drill_plan};
 use mrpc_base::{Clock, Fabric, Gate, Sink, Source, write_all};
 use mrpc_table::{Bytes, Decimal, Memory, number_of};
@@ -310,6 +311,8 @@ fn run_and_tell<R: Threads + Wait + Sync, K: Sink, F: Fabric, C: Clock, G: Gate>
     ensures fabric_cause { HasCause (result ≡ FABRIC_FAILED) (F.faults fabric.old) (F.faults fabric.new) }
 {
     totals_are_counts();
+    drills_add_up::<C, F::L>();
+    drills_are_bound::<C, F::L>();
     match running {
         Running::Scenario => match serve_plan(rt, alloc, plan, fabric, clock, gate) {
             Ok(run) => {

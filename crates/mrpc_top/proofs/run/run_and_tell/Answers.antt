@@ -20,7 +20,8 @@ returns-in-Ok-count_plan-clause-done g c left says done =
     record {
       told = told.1.0;
       may = tells-drill _ _ _ _ _ _ c.args.running left c.args.plan.now _ _ _ told.0 _ ran.0 told.1.0
-          c.totals_are_counts.ensures.sums c.in-Drill.is says ran.1 told.1.1;
+          c.totals_are_counts.ensures.sums c.drills_add_up.ensures.none_stands c.drills_add_up.ensures.all_went
+          c.drills_are_bound.ensures.took c.in-Drill.is says ran.1 told.1.1;
       written = told.1.2;
     }
 
@@ -31,7 +32,8 @@ returns-in-Ok-count_plan-clause-link g c left says failed =
     record {
       told = told.1.0;
       may = tells-drill _ _ _ _ _ _ c.args.running left c.args.plan.now _ _ _ told.0 _ ran.0 told.1.0
-          c.totals_are_counts.ensures.sums c.in-Drill.is says ran.1 told.1.1;
+          c.totals_are_counts.ensures.sums c.drills_add_up.ensures.none_stands c.drills_add_up.ensures.all_went
+          c.drills_are_bound.ensures.took c.in-Drill.is says ran.1 told.1.1;
       written = told.1.2;
     }
 
@@ -44,5 +46,6 @@ returns-in-Ok-count_plan-clause-cut_short g c left left' says e =
           let front = c.tell_counts-status.ensures.front failed in
           in_telling _ front.0
           (tells-drill _ _ _ _ _ _ c.args.running left c.args.plan.now _ _ _ refl _ ran.0 front.0
-          c.totals_are_counts.ensures.sums c.in-Drill.is says ran.1 front.1) front.2
+          c.totals_are_counts.ensures.sums c.drills_add_up.ensures.none_stands c.drills_add_up.ensures.all_went
+          c.drills_are_bound.ensures.took c.in-Drill.is says ran.1 front.1) front.2
     ]
