@@ -18,7 +18,8 @@ use kept::{KeptSink, KeptSource};
 use link_tally::TallyFabric;
 use mrpc_base::{Fabric, Sink, Source, write_all};
 use mrpc_top::{
-    DONE, FAULTY_INPUT, LINK_FAILED, NO_COMMAND, NO_MEMORY, OUTPUT_FAILED, run_command,
+    DONE, FABRIC_FAILED, FAULTY_INPUT, LINK_FAILED, NO_COMMAND, NO_MEMORY, OUTPUT_FAILED,
+    run_command,
 };
 use progress::Progress;
 use std::alloc::Global;
@@ -31,7 +32,7 @@ use std::sync::Wait;
 use std::thread::Threads;
 use std::time::Clock;
 use system_io::{FileSink, Lock, StandardInput, StandardOutput, SystemClock};
-use tcp_fabric::{Loopback, TcpFabric};
+use tcp_fabric::{Loopback, SystemFault, TcpFabric};
 use usage::{failure, usage};
 
 const VERSION: &str = "mrpc 0.1.0\n";
@@ -45,7 +46,7 @@ const SEE_FAULT: &str = "mrpc: the input has a fault, which the last line of the
 fn main(rt: HostRuntime) -> ExitCode {
     let mut error = StandardOutput::new(rt.stderr());
     let Ok(progress) = Progress::new(&rt, rt.alloc(), rt.stderr().is_terminal()) else {
-        return ExitCode::from(say_status(rt.alloc(), NO_MEMORY, false, &mut error));
+        return ExitCode::from(say_status(rt.alloc(), NO_MEMORY, None, &mut error));
     };
     let mut input = KeptSource::new(rt.alloc(), StandardInput::new(rt.stdin()));
     let mut out = KeptSink::new(rt.alloc(), StandardOutput::new(rt.stdout()), &progress);
@@ -67,8 +68,8 @@ where
 {
     match words(rt) {
         Ok(words) => status_of(rt, &words, input, out, error, progress),
-        Err(WordsFault::NotText) => say_status(rt.alloc(), NO_COMMAND, false, error),
-        Err(WordsFault::Memory) => say_status(rt.alloc(), NO_MEMORY, false, error),
+        Err(WordsFault::NotText) => say_status(rt.alloc(), NO_COMMAND, None, error),
+        Err(WordsFault::Memory) => say_status(rt.alloc(), NO_MEMORY, None, error),
     }
 }
 
@@ -88,15 +89,19 @@ where
 {
     if let Some(asked) = asked_alone(words) {
         let status = answer(rt.alloc(), asked, out);
-        return say_status(rt.alloc(), status, false, error);
+        return say_status(rt.alloc(), status, None, error);
     }
-    if runs(words) {
+    let Ok(fault) = SystemFault::new(rt.alloc()) else {
+        return say_status(rt.alloc(), NO_MEMORY, None, error);
+    };
+    let is_run = runs(words);
+    if is_run {
         out.look_for_calls();
     }
-    let status = run_words(rt, words, input, out, progress);
+    let status = run_words(rt, words, input, out, &fault, progress);
     progress.clear();
     say_end(rt.alloc(), words, status, input, out, error, progress);
-    say_status(rt.alloc(), status, runs(words), error)
+    say_status(rt.alloc(), status, is_run.then_some(&fault), error)
 }
 
 // Says what stands against the input, which words are no command, or how many calls a run told of.
@@ -130,12 +135,13 @@ fn runs(words: &[String]) -> bool {
 }
 
 // Runs the command that the words name, with the file `mrpc.wire`, over links of 127.0.0.1, by the clock of the system, and
-// gives its status.
+// gives its status. The system's first refusal of a link is noted.
 fn run_words<R, S: Source, K: Sink>(
     rt: &R,
     words: &Vec<String>,
     input: &mut S,
     out: &mut K,
+    fault: &SystemFault,
     progress: &Progress<'_, R>,
 ) -> u8
 where
@@ -143,7 +149,10 @@ where
     R: Net<Stream = TcpStream, Listener = TcpListener>,
     R::File: Lock,
 {
-    let fabric = TcpFabric::new(rt, rt.alloc(), Loopback::new(rt));
+    let Ok(noting) = fault.try_clone() else {
+        return NO_MEMORY;
+    };
+    let fabric = TcpFabric::new(rt, rt.alloc(), Loopback::new(rt, noting));
     run_counted(rt, words, input, out, fabric, progress)
 }
 
@@ -215,16 +224,34 @@ fn answer<K: Sink>(alloc: Global, asked: Asked, out: &mut K) -> u8 {
     if written { DONE } else { OUTPUT_FAILED }
 }
 
-// Writes on standard error why the command ended so: the usage text where the words are no command, and what failed, of
-// a run or not, where something did. Where that can't be written, nothing more is said. It gives the status.
-fn say_status<K: Sink>(alloc: Global, status: u8, is_run: bool, error: &mut K) -> u8 {
+// Writes on standard error why the command ended so: the usage text where the words are no command, and what failed, with
+// what the system said of a link of a run, where something did. Where that can't be written, nothing more is said. It
+// gives the status.
+fn say_status<K: Sink>(alloc: Global, status: u8, run: Option<&SystemFault>, error: &mut K) -> u8 {
     if status == NO_COMMAND {
         if let Ok(text) = usage(alloc) {
             write_all(error, text.as_bytes());
         }
     }
-    if let Some(text) = failure(status, is_run) {
-        write_all(error, text.as_bytes());
+    if let Some(said) = failure(status, run.is_some()) {
+        write_all(error, said.what.as_bytes());
+        if status == LINK_FAILED || status == FABRIC_FAILED {
+            say_refusal(alloc, run, error);
+        }
+        write_all(error, said.advice.as_bytes());
     }
     status
+}
+
+// Writes the system's words of the first refusal of a link. Where there is none, or no memory for them, nothing is said.
+fn say_refusal<K: Sink>(alloc: Global, run: Option<&SystemFault>, error: &mut K) {
+    let Some(fault) = run else {
+        return;
+    };
+    let Some(refusal) = fault.first() else {
+        return;
+    };
+    if let Ok(words) = format!(in alloc; ": {refusal}") {
+        write_all(error, words.as_bytes());
+    }
 }

@@ -70,30 +70,45 @@ pub(crate) fn usage(alloc: Global) -> Result<String, AllocError> {
     program.render_help()
 }
 
-// What failed, of a run or of another command, and what to do about it, for the statuses that say that something did.
-pub(crate) fn failure(status: u8, is_run: bool) -> Option<&'static str> {
-    match status {
-        NO_COMMAND => Some(
-            "mrpc: give one of these commands alone, and its input as in the examples\n",
+// What failed, and what to do about it; what the system says of it stands between, if it says anything.
+#[derive(Clone, Copy)]
+pub(crate) struct Sentence {
+    pub what: &'static str,
+    pub advice: &'static str,
+}
+
+// What failed, of a run or of another command, for the statuses that say that something did.
+pub(crate) fn failure(status: u8, is_run: bool) -> Option<Sentence> {
+    let (what, advice) = match status {
+        NO_COMMAND => (
+            "mrpc: give one of these commands alone",
+            ", and its input as in the examples\n",
         ),
-        NO_MEMORY => Some(
-            "mrpc: out of memory; let the program have more (ulimit -v), or give a smaller input\n",
+        NO_MEMORY => (
+            "mrpc: out of memory",
+            "; let the program have more (ulimit -v), or give a smaller input\n",
         ),
-        INPUT_FAILED => Some(
-            "mrpc: standard input could not be read; give a file or a pipe, as in: mrpc replay < FILE\n",
+        INPUT_FAILED => (
+            "mrpc: standard input could not be read",
+            "; give a file or a pipe, as in: mrpc replay < FILE\n",
         ),
-        OUTPUT_FAILED => Some(
-            "mrpc: standard output could not be written; see that there is room, and that its reader goes on\n",
+        OUTPUT_FAILED => (
+            "mrpc: standard output could not be written",
+            "; see that there is room, and that its reader goes on\n",
         ),
-        WIRE_FAILED if is_run => Some(
-            "mrpc: a link of the run failed; what the run came to was written: look there, or run it again\n",
+        WIRE_FAILED if is_run => (
+            "mrpc: a link of the run failed",
+            "; what the run came to was written: look there, or run it again\n",
         ),
-        WIRE_FAILED => Some(
-            "mrpc: the file mrpc.wire could not be written; see that this folder may be written and has room, and that no other replay runs in it\n",
+        WIRE_FAILED => (
+            "mrpc: the file mrpc.wire could not be written",
+            "; see that this folder may be written and has room, and that no other replay runs in it\n",
         ),
-        FABRIC_FAILED => Some(
-            "mrpc: a link of the run could not be opened; see that 127.0.0.1 can be reached, and that enough files may be open (ulimit -n)\n",
+        FABRIC_FAILED => (
+            "mrpc: a link of the run could not be opened",
+            "; see that 127.0.0.1 can be reached, and that enough files may be open (ulimit -n)\n",
         ),
-        _ => None,
-    }
+        _ => return None,
+    };
+    Some(Sentence { what, advice })
 }

@@ -1,0 +1,65 @@
+//! A socket of the system's.
+ghost use Rattle.std.specs.Prelude.{◌≡◌, ◌<◌, ◌≤◌, length};
+
+use crate::{Socket, SystemFault, Wrote};
+use mrpc_base::Came;
+use std::io;
+use std::io::{ErrorKind, Read, Write};
+use std::net::{Shutdown, TcpStream};
+
+/// One end of a TCP connection, by the system. What a write or a read fails with is noted.
+#[derive(Drop)]
+pub struct SystemSocket {
+    stream: TcpStream,
+    fault: SystemFault,
+}
+
+impl SystemSocket {
+    // Over a stream whose calls don't wait.
+    pub(crate) fn new(stream: TcpStream, fault: SystemFault) -> SystemSocket {
+        SystemSocket { stream, fault }
+    }
+}
+
+impl Socket for SystemSocket {
+    ghost use Rattle.std.specs.Prelude.{None};
+
+    // The system doesn't tell them.
+    ghost taken = { λ _. None };
+
+    ghost given = { λ _. None };
+
+    fn write(&mut self, piece: &[u8]) -> Wrote {
+        match Write::write(&mut self.stream, piece) {
+            Ok(0) => Wrote::Failed,
+            Ok(count) => Wrote::Took(count),
+            Err(error) if would_wait(&error) => Wrote::Full,
+            Err(error) => {
+                self.fault.note(&error);
+                Wrote::Failed
+            }
+        }
+    }
+
+    fn read(&mut self, buf: &mut [u8]) -> Came {
+        match Read::read(&mut self.stream, buf) {
+            Ok(0) => Came::End,
+            Ok(count) => Came::Bytes(count),
+            Err(error) if would_wait(&error) => Came::Idle,
+            Err(error) => {
+                self.fault.note(&error);
+                Came::Failed
+            }
+        }
+    }
+
+    // A connection that is gone has no side to end.
+    fn shutdown(&mut self) {
+        let _ = self.stream.shutdown(Shutdown::Write);
+    }
+}
+
+// Whether a call only found that it would have to wait, or was interrupted.
+fn would_wait(error: &io::Error) -> bool {
+    matches!(error.kind(), ErrorKind::WouldBlock | ErrorKind::Interrupted)
+}
