@@ -2,6 +2,7 @@
 //!
 //!     mrpc_bench apps COUNT                           calls of a client that an echo answers       bench/apps
 //!     mrpc_bench conn steps|calls|again CALLS ROUNDS  work on a connection                         bench/conn
+//!     mrpc_bench drill COUNT                          a drill that is run over links in memory     bench/run
 //!     mrpc_bench links COUNT                          frames through a link in front of a writer   bench/links
 //!     mrpc_bench ring COUNT                           descriptors through a ring                   bench/ring
 //!     mrpc_bench scenario plan|toml                   a scenario that is read                      bench/scenario
@@ -15,6 +16,7 @@
 
 mod apps;
 mod conn;
+mod drill;
 mod given;
 mod lines;
 mod links;
@@ -66,6 +68,7 @@ fn print<W: Write>(out: &mut W, told: Option<Vec<Bytes>>) -> io::Result<ExitCode
 enum Part {
     Apps,
     Conn,
+    Drill,
     Links,
     Ring,
     Scenario,
@@ -73,9 +76,10 @@ enum Part {
     Upgrade,
 }
 
-const PARTS: [(&str, Part); 7] = [
+const PARTS: [(&str, Part); 8] = [
     ("apps", Part::Apps),
     ("conn", Part::Conn),
+    ("drill", Part::Drill),
     ("links", Part::Links),
     ("ring", Part::Ring),
     ("scenario", Part::Scenario),
@@ -94,6 +98,7 @@ where
     match named(&PARTS, part.as_str())? {
         Part::Apps => alone(alloc, apps::told(rt, alloc, behind)),
         Part::Conn => alone(alloc, conn::told(alloc, behind)),
+        Part::Drill => alone(alloc, drill::told(rt, alloc, behind)),
         Part::Links => alone(alloc, links::told(rt, alloc, behind)),
         Part::Ring => alone(alloc, ring::told(rt, alloc, behind)),
         Part::Scenario => alone(alloc, scenarios::told(alloc, behind, input)),

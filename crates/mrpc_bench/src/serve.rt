@@ -85,7 +85,7 @@ fn told_of(run: Run) -> Option<Vec<Bytes>> {
 }
 
 // No call of the fabric and of its links is to fail.
-fn no_faults(alloc: Global) -> ListedFaults {
+pub(crate) fn no_faults(alloc: Global) -> ListedFaults {
     ListedFaults {
         openings: Vec::new(alloc),
         sends: Vec::new(alloc),

@@ -7,11 +7,6 @@ use Rattle.service.specs.Served.{ArePairs}
 use Rattle.tests_runs.specs.Meeting.{AreTwo}
 
 module _ {L : Type 0} (pair : L → L → Type 0) where
-  -- there are two
-  pub are_some : (entries : List (ℕ × L)) → AreTwo pair entries → 0 < length entries
-  are_some [] two = absurd two
-  are_some (a ∷ more) two = omega arith
-
   pub are_more : (a : ℕ × L) (more : List (ℕ × L)) → AreTwo pair (a ∷ more) → 0 < length more
   are_more a [] two = absurd two
   are_more a (b ∷ more) two = omega arith

@@ -82,13 +82,25 @@ fn nothing_is_told_where_a_link_was_not_opened(rt: HostRuntime) {
     assert!(rt; devices.out.calls() == 0);
 }
 
+// The scenario behind a key that says how many workers there are.
+fn with_workers(rt: &impl Abort, alloc: Global, key: &[u8]) -> Vec<u8> {
+    let mut text = key.to_vec(alloc).expect(rt, "memory");
+    text.extend_from_slice(SCENARIO).expect(rt, "memory");
+    text
+}
+
 // A send of connection 1 fails: what is told then.
 type Row<'a> = (u64, &'a [u8]);
 
-fn assert_fails<R: Abort + Threads + Wait + Sync>(rt: &R, alloc: Global, rows: &[Row]) {
+fn assert_fails<R: Abort + Threads + Wait + Sync>(
+    rt: &R,
+    alloc: Global,
+    scenario: &[u8],
+    rows: &[Row],
+) {
     for (send, told) in rows {
         let faults = listed(rt, alloc, &[], &[*send]);
-        let devices = ran(rt, alloc, SCENARIO, faults, LINK_FAILED);
+        let devices = ran(rt, alloc, scenario, faults, LINK_FAILED);
         assert!(rt; devices.out.written() == *told);
     }
 }
@@ -103,7 +115,11 @@ fn a_link_that_fails_is_told(rt: HostRuntime) {
             b"took 1 1 0 0 2 1 1 copy 089601\nsent 1 1 19\nmethod 0 1 1 0 0\ntotals 1 1 0 0\n",
         ),
     ];
-    assert_fails(&rt, rt.alloc(), &rows);
+    let keys: [&[u8]; 3] = [b"workers = 1\n", b"workers = 2\n", b"workers = 8\n"];
+    for key in keys {
+        let scenario = with_workers(&rt, rt.alloc(), key);
+        assert_fails(&rt, rt.alloc(), scenario.as_slice(), &rows);
+    }
 }
 
 // What is told of the block that isn't held stands before the arrival of the reply, or behind it.

@@ -4,12 +4,15 @@ use crate::discard;
 use mrpc_base::{Came, Fabric, Handed, Link, OpenFault};
 use std::alloc::Global;
 use std::io::ErrorKind;
-use std::net::TcpStream;
+use std::net::{Net, SocketAddr, TcpListener, TcpStream};
 use std::process::Abort;
 use std::sync::Wait;
 use std::thread::Threads;
+use std::time::Clock;
 use std::{io, thread};
-use tcp_fabric::{Ends, Loopback, Network, SocketLink, TcpFabric};
+use tcp_fabric::{
+    Ends, Loopback, Network, Socket, SocketLink, SystemFault, SystemSocket, TcpFabric,
+};
 
 // The longest frame, and how many of them fill both sockets.
 const FRAME: usize = 262_160;
@@ -57,25 +60,46 @@ where
     )
 }
 
-#[test]
-fn two_ends_with_full_sockets_go_on(rt: HostRuntime) {
-    let fabric = TcpFabric::new(&rt, rt.alloc(), Loopback::new(&rt));
-    let (one, other) = both_talk(&rt, rt.alloc(), fabric);
-    assert!(rt; one == 32 * 262_160);
-    assert!(rt; other == 32 * 262_160);
+// Connections over 127.0.0.1, and what is noted of them.
+fn loopback<'r, R: Abort, N>(rt: &R, alloc: Global, net: &'r N) -> (Loopback<'r, N>, SystemFault) {
+    let fault = SystemFault::new(alloc).expect(rt, "memory");
+    let noting = fault.try_clone().expect(rt, "memory");
+    (Loopback::new(net, noting), fault)
+}
+
+// The system's words of what was noted; empty where nothing was.
+fn words<R: Abort>(rt: &R, alloc: Global, fault: &SystemFault) -> String {
+    match fault.first() {
+        Some(error) => format!(in alloc; "{error}").expect(rt, "memory"),
+        None => String::new(alloc),
+    }
 }
 
 #[test]
+fn two_ends_with_full_sockets_go_on(rt: HostRuntime) {
+    let (network, fault) = loopback(&rt, rt.alloc(), &rt);
+    let fabric = TcpFabric::new(&rt, rt.alloc(), network);
+    let (one, other) = both_talk(&rt, rt.alloc(), fabric);
+    assert!(rt; one == 32 * 262_160);
+    assert!(rt; other == 32 * 262_160);
+    assert!(rt; fault.first().is_none());
+}
+
+const RESET: &str = "Connection reset by peer (os error 104)";
+
+#[test]
 fn a_peer_that_is_reset_is_a_failure(rt: HostRuntime) {
-    let ends = Loopback::new(&rt).open().expect(&rt, "a connection");
+    let (network, fault) = loopback(&rt, rt.alloc(), &rt);
     let Ends {
         first,
         second,
         first_port,
         second_port,
-    } = ends;
+    } = network.open().expect(&rt, "a connection");
     let link = SocketLink::new(&rt, rt.alloc(), first, first_port, second_port);
     assert_reset(&rt, link, second);
+    // What the last send failed with isn't the first.
+    assert!(rt; words(&rt, rt.alloc(), &fault).as_str() == RESET);
 }
 
 // Bytes that the peer never reads make its closing a reset.
@@ -86,15 +110,69 @@ fn assert_reset<R: Abort, L: Link + Drop, P: Drop>(rt: &R, mut link: L, peer: P)
     assert!(rt; link.send(b"more") == Handed::Failed);
 }
 
-// A network that opens nothing.
+fn sends<L: Link + Drop>(mut link: L, frame: &[u8]) -> Handed {
+    link.send(frame)
+}
+
+// Reads a byte, and is gone. The bytes behind it make that a reset.
+fn reads_a_byte<R: Wait, S: Socket + Drop>(rt: &R, mut socket: S) -> bool {
+    let mut buf = [0; 1];
+    for _ in rt.forever() {
+        match socket.read(&mut buf) {
+            Came::Bytes(_) => return true,
+            Came::Idle => thread::yield_now(),
+            Came::End | Came::Failed | Came::Memory => return false,
+        }
+    }
+    unreachable!()
+}
+
+// A frame that fills both sockets, of which the peer reads a byte: how its sending ends.
+fn sends_to_a_reset<R>(rt: &R, alloc: Global, ends: Ends<SystemSocket>) -> Handed
+where
+    R: Abort + Threads + Wait + Clock + Sync,
+{
+    let Ends {
+        first,
+        second,
+        first_port,
+        second_port,
+    } = ends;
+    let frame = vec![in alloc; 7u8; 2 * FRAMES * FRAME].expect(rt, "memory");
+    let bytes = frame.as_slice();
+    let link = SocketLink::new(rt, alloc, first, first_port, second_port);
+    let (handed, is_read) = thread::join(
+        rt,
+        move || sends(link, bytes),
+        move || reads_a_byte(rt, second),
+    );
+    assert!(rt; is_read);
+    handed
+}
+
+#[test]
+fn a_reset_within_a_frame_is_a_failure(rt: HostRuntime) {
+    let (network, fault) = loopback(&rt, rt.alloc(), &rt);
+    let ends = network.open().expect(&rt, "a connection");
+    assert!(rt; sends_to_a_reset(&rt, rt.alloc(), ends) == Handed::Failed);
+    assert!(rt; words(&rt, rt.alloc(), &fault).as_str() == RESET);
+}
+
+// A system that opens nothing.
 #[derive(Drop)]
-struct Refusing;
+struct Refusing(io::Error);
 
-impl Network for Refusing {
-    type S = TcpStream;
+impl Net for Refusing {
+    type Stream = TcpStream;
 
-    fn open(&self) -> io::Result<Ends<TcpStream>> {
-        Err(io::Error::from(ErrorKind::AddrInUse))
+    type Listener = TcpListener;
+
+    fn bind(&self, _addr: SocketAddr) -> io::Result<TcpListener> {
+        Err(self.0)
+    }
+
+    fn connect(&self, _addr: SocketAddr) -> io::Result<TcpStream> {
+        Err(self.0)
     }
 }
 
@@ -102,10 +180,26 @@ fn is_refused<F: Fabric>(fabric: &mut F) -> bool {
     matches!(fabric.open_pair(1, 2).err(), Some(OpenFault::Failed))
 }
 
-#[test]
-fn an_opening_that_is_refused_is_counted(rt: HostRuntime) {
-    let mut fabric = TcpFabric::new(&rt, rt.alloc(), Refusing);
+// An opening fails and is counted, and these words are noted.
+fn assert_refused<R: Abort + Wait + Clock + Sync>(
+    rt: &R,
+    alloc: Global,
+    error: io::Error,
+    noted: &str,
+) {
+    let system = Refusing(error);
+    let (network, fault) = loopback(rt, alloc, &system);
+    let mut fabric = TcpFabric::new(rt, alloc, network);
     assert!(rt; is_refused(&mut fabric));
     assert!(rt; fabric.faults() == 1);
+    assert!(rt; words(rt, alloc, &fault).as_str() == noted);
     discard(fabric);
+}
+
+#[test]
+fn an_opening_that_is_refused_is_counted(rt: HostRuntime) {
+    let system = io::Error::from_raw_os_error(24);
+    assert_refused(&rt, rt.alloc(), system, "Too many open files (os error 24)");
+    let other = io::Error::from(ErrorKind::AddrInUse);
+    assert_refused(&rt, rt.alloc(), other, "");
 }
