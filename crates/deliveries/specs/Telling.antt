@@ -1,5 +1,5 @@
 -- What an application is told of, and which blocks come back (this project's own).
-use Rattle.std.specs.Prelude.{◌≡◌, ◌<◌, ◌≤◌, ℕ, ◌++◌, List, [], All, length, map, Option, Some, None, option_to_list, IfSome, IsPermutation, ◌∷◌}
+use Rattle.std.specs.Prelude.{◌≡◌, ◌≢◌, ◌⊎◌, ◌<◌, ◌≤◌, ℕ, ◌++◌, List, [], All, length, map, Option, Some, None, option_to_list, IfSome, IsPermutation, ◌∷◌}
 use Rattle.std.specs.List.{AllZip}
 use Rattle.shared_heap.specs.Fresh.{HeapId}
 use Rattle.receive_heap.specs.Layout.{IsWithout}
@@ -81,10 +81,20 @@ pub record IsCounting (numbers : List ℕ) (r : Reclaims) : Type 0 where
   pub count : r.judged ≡ length numbers
   pub closed : r.closed ≡ r.numbers.closed
 
--- Of the numbers that were judged some named blocks that were held then, and came back; the others didn't.
+-- The numbers that were judged are those that are kept as not held, and those whose blocks came back.
 pub record IsReclaiming (numbers back : List ℕ) (r : Reclaims) : Type 0 where
   pub counting : IsCounting numbers r
   pub split : IsPermutation numbers (r.not_held.items ++ back)
+
+-- Numbers are judged one by one against the held blocks: each takes its block from them and is one of `back`, or none
+-- of them has it, and it is one of `refused`.
+abbrev pub AreJudged : (numbers back refused : List ℕ) → (old new : List Block) → Type 0
+AreJudged [] back refused old new = (back ≡ []) × (refused ≡ []) × (new ≡ old)
+AreJudged (number ∷ more) back refused old new =
+    ((between : List Block) × (others : List ℕ) × (back ≡ number ∷ others) × IsWithout number old between
+    × AreJudged more others refused between new)
+    ⊎ ((others : List ℕ) × (refused ≡ number ∷ others) × All (λ (held : Block). held.number ≢ number) old
+    × AreJudged more back others old new)
 
 -- held blocks go one by one, by their numbers in this order
 abbrev pub LosesEach : List ℕ → List Block → List Block → Type 0

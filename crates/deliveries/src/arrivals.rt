@@ -14,6 +14,7 @@ use mrpc_base::{Came, Link};
 use mrpc_table::{Memory, Table, Tree};
 use policy_access::Access;
 use receive_core::{Arrival, DropCause, Inbound, life_of_receiver};
+use receive_heap::Block;
 use shared_heap::Writer;
 
 /// What became of a frame.
@@ -224,13 +225,7 @@ impl<'t> Arrivals<'t> {
                     number,
                     tree,
                 })?;
-                Ok(Turned::Delivered(Delivered {
-                    kind,
-                    method,
-                    number,
-                    addr: block.at,
-                    block: block.number,
-                }))
+                Ok(Turned::Delivered(message_in(kind, method, number, block)))
             }
             Arrival::Dropped {
                 kind,
@@ -247,6 +242,19 @@ impl<'t> Arrivals<'t> {
                 Ok(Turned::Dropped)
             }
         }
+    }
+}
+
+// What the application is told of a message in a block.
+fn message_in(kind: u8, method: u16, number: u32, block: Block) -> Delivered
+    ensures { result ≡ record { kind = kind; method = method; number = number; addr = block.at; block = block.number } }
+{
+    Delivered {
+        kind,
+        method,
+        number,
+        addr: block.at,
+        block: block.number,
     }
 }
 

@@ -122,6 +122,7 @@ impl Notices {
             → IsTelling heap placed self.new }
         ensures rings { AreSameRings self.old self.new }
         ensures given { result ≡ true → (self.old.waiting.items ≡ []) × (self.old.owed ≡ None) }
+        ensures open { result ≡ false → StayOpen self.old self.new }
         ensures waiting { self.new.waiting ≡ self.old.waiting }
         ensures owed { self.new.owed ≡ self.old.owed }
     {
@@ -137,6 +138,7 @@ impl Notices {
         ensures telling { (heap : HeapId) (placed : List Message) → IsTelling heap placed self.old
             → IsTelling heap placed self.new }
         ensures rings { AreSameRings self.old self.new }
+        ensures open { result ≡ false → StayOpen self.old self.new }
         ensures waiting { self.new.waiting ≡ self.old.waiting }
         ensures owed { self.new.owed ≡ self.old.owed }
     {
@@ -159,6 +161,7 @@ impl Notices {
         ensures telling { (heap : HeapId) (placed : List Message) → IsTelling heap placed self.old
             → IsTelling heap placed self.new }
         ensures rings { AreSameRings self.old self.new }
+        ensures open { result ≡ false → StayOpen self.old self.new }
         ensures waiting { self.new.waiting ≡ self.old.waiting }
         ensures owed { self.new.owed ≡ self.old.owed }
     {

@@ -3,7 +3,7 @@
 ghost use Rattle.std.specs.Prelude.{◌≡◌, ◌≤◌, ◌<◌, ◌+◌, ◌^◌, ◌++◌, ◌∷◌, [], ℕ, List, true, false, OnOk, IfSome, IfNone};
 ghost use Rattle.mrpc_table.specs.declared.table.Table.{Table as TheTable};
 ghost use Rattle.receive_core.specs.Life.{Life as TheLife, Lives};
-ghost use Rattle.deliveries.specs.Telling.{IsCounting, IsReclaiming, LosesEach};
+ghost use Rattle.deliveries.specs.Telling.{AreJudged, IsCounting, IsReclaiming, LosesEach};
 
 use descriptor_ring::{NumberReceiver, NumberTaken};
 use mrpc_table::Memory;
@@ -20,7 +20,7 @@ pub struct Reclaims {
     pub judged: u64,
     /// A number that came before it could be given back, which waits.
     pub kept: Option<u64>,
-    /// The numbers that named no held block, in order.
+    /// The numbers that named no block that was held when they were judged, in order.
     pub not_held: Vec<u64>,
     /// Whether the closing was taken.
     pub closed: bool,
@@ -51,6 +51,12 @@ impl Reclaims {
         ensures reclaimed { (numbers back : List ℕ) → IsReclaiming numbers back self.old → OnOk result ((more : List ℕ)
             × (gained : List ℕ) × IsReclaiming (numbers ++ more) (back ++ gained) self.new
             × LosesEach gained inbound.old.heap.held inbound.new.heap.held) }
+
+        // The others named none of the blocks that were held when they were judged.
+        ensures refused { (numbers : List ℕ) → IsCounting numbers self.old → OnOk result ((more : List ℕ)
+            × (back : List ℕ) × (refused : List ℕ) × IsCounting (numbers ++ more) self.new
+            × (self.new.not_held.items ≡ self.old.not_held.items ++ refused)
+            × AreJudged more back refused inbound.old.heap.held inbound.new.heap.held) }
         ensures most { self.old.judged ≤ self.old.programmed + given → self.new.judged ≤ self.new.programmed + given }
         ensures programmed { self.new.programmed ≡ self.old.programmed }
         ensures ring { self.new.numbers.ring ≡ self.old.numbers.ring }

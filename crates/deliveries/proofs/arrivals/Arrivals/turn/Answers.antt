@@ -1,5 +1,8 @@
-use Rattle.std.proofs.Common.{subst, refl, arith, option_copied}
-use Rattle.receive_core.specs.Life.{Tells}
+use Rattle.std.proofs.Common.{List, sym, subst, refl, arith, option_copied}
+use Rattle.receive_core.specs.Life.{Fated, Tells, fated}
+use Rattle.deliveries.specs.Arriving.{AreTurned, HaveLived, Holds}
+use Rattle.deliveries.specs.declared.arrivals.Arrivals.{Arrivals}
+use Rattle.deliveries.specs.declared.arrivals.Turned.TheVariants.{Delivered}
 use Rattle.deliveries.proofs.Lived.{few-blocks, few-stores, held-arrived, held-dropped, held-none, held-waiting, same-heap, turned-arrived, turned-dropped, turned-nothing}
 use Rattle.deliveries.proofs.arrivals.Arrivals.turn.Goals as goal
 
@@ -11,11 +14,22 @@ turn-requires-clause-blocks c = few-blocks c.requires.0 c.args.self.now c.requir
 
 pub returns-in_ok-push-in-Arrived-clause-lived : goal.returns-in_ok-push-in-Arrived-clause-lived
 returns-in_ok-push-in-Arrived-clause-lived c life h =
-    turned-arrived life c.args.self.now _ c.in_ok-turn.field-0 c.in-Arrived.kind c.in-Arrived.method c.in-Arrived.number
+    let new : Arrivals = record {
+      inbound = c.turn.new.self;
+      writer = c.turn.new.heap;
+      table = c.args.self.now.table;
+      policy = c.args.self.now.policy;
+      lines = c.push.new.self;
+      stream = c.args.self.now.stream;
+      fault = c.args.self.now.fault;
+    } in
+    subst (λ d. (more : List Fated) × AreTurned (Delivered d) more × HaveLived (fated life more) new)
+    (sym c.message_in.ensures)
+    (turned-arrived life c.args.self.now new c.in_ok-turn.field-0 c.in-Arrived.kind c.in-Arrived.method c.in-Arrived.number
     c.in-Arrived.block c.in-Arrived.tree h (c.in_ok-turn.ensures.life life h.lives) c.in-Arrived.is
     (record { table = refl; policy = refl; words = c.turn.ensures.words; places = c.turn.ensures.places; stream = refl; fault = refl })
     c.in_ok-push-in-Arrived.ensures.items
-    (let less = c.if-len-ge-MAX_ARRIVALS.false in omega (arith, less))
+    (let less = c.if-len-ge-MAX_ARRIVALS.false in omega (arith, less)))
 
 pub returns-in_ok-push-in-Dropped-clause-lived : goal.returns-in_ok-push-in-Dropped-clause-lived
 returns-in_ok-push-in-Dropped-clause-lived c life h =
@@ -122,11 +136,14 @@ returns-in_ok-push-in-Dropped-clause-held c =
     c.in-Dropped.number c.in-Dropped.why c.in_ok-turn.ensures.turns c.in-Dropped.is
 
 pub returns-in_ok-push-in-Arrived-clause-held : goal.returns-in_ok-push-in-Arrived-clause-held
-returns-in_ok-push-in-Arrived-clause-held c = (
-  c.in-Arrived.block,
-  refl,
-  refl,
-  held-arrived c.args.self.now.table.now (option_copied c.args.self.now.policy) c.args.self.now.inbound c.turn.new.self
-      c.args.self.now.writer.stores c.turn.new.heap.stores c.in_ok-turn.field-0 c.in-Arrived.kind c.in-Arrived.method
-      c.in-Arrived.number c.in-Arrived.block c.in-Arrived.tree c.in_ok-turn.ensures.turns c.in-Arrived.is,
-)
+returns-in_ok-push-in-Arrived-clause-held c =
+    subst (λ d. Holds (Delivered d) c.args.self.now.inbound.heap.held c.turn.new.self.heap.held)
+    (sym c.message_in.ensures) (
+      c.in-Arrived.block,
+      refl,
+      refl,
+      held-arrived c.args.self.now.table.now (option_copied c.args.self.now.policy)
+          c.args.self.now.inbound c.turn.new.self c.args.self.now.writer.stores c.turn.new.heap.stores c.in_ok-turn.field-0
+          c.in-Arrived.kind c.in-Arrived.method c.in-Arrived.number c.in-Arrived.block c.in-Arrived.tree
+          c.in_ok-turn.ensures.turns c.in-Arrived.is,
+    )
