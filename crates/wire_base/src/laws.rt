@@ -17,7 +17,7 @@ pub fn varint_is_read_back()
         → VarintAt (before ++ (varint v ++ after)) (length before) v (length before + length (varint v)) }
 {}
 
-/// One payload of a wire type stands at a place of a byte string, or none does for a reason, and never both.
+/// One payload of a wire type stands at a place of a byte string, or none does for one reason, and never both.
 pub fn payload_or_reason()
     ensures either { (bytes : List ℕ) (at w : ℕ) → IsWireType w → at ≤ length bytes
         → ((p : Payload) × (next : ℕ) × PayloadAt bytes at w p next)
@@ -27,6 +27,8 @@ pub fn payload_or_reason()
         → NoPayloadAt bytes at w reason → ⊥ }
     ensures one_payload { (bytes : List ℕ) (at w : ℕ) (p q : Payload) (next other : ℕ) → PayloadAt bytes at w p next
         → PayloadAt bytes at w q other → (p ≡ q) × (next ≡ other) }
+    ensures one_reason { (bytes : List ℕ) (at w : ℕ) (reason other : WireReason) → NoPayloadAt bytes at w reason
+        → NoPayloadAt bytes at w other → reason ≡ other }
 {}
 
 /// One record or one fault stands at a place of a byte string, and never both.

@@ -1,4 +1,4 @@
-use Rattle.wire_base.proofs.OneReading.{PayloadAt-same, PayloadAt-no_fault}
+use Rattle.wire_base.proofs.OneReading.{PayloadAt-same, PayloadAt-no_fault, NoPayloadAt-same}
 use Rattle.wire_base.proofs.Choices.{payload-or}
 use Rattle.wire_base.proofs.laws.payload_or_reason.Goals as goal
 
@@ -10,3 +10,6 @@ returns-clause-not_both c = PayloadAt-no_fault
 
 pub returns-clause-one_payload : goal.returns-clause-one_payload
 returns-clause-one_payload c = PayloadAt-same
+
+pub returns-clause-one_reason : goal.returns-clause-one_reason
+returns-clause-one_reason c = NoPayloadAt-same
