@@ -10,7 +10,10 @@ ghost use Rattle.call_history.specs.Events.{rule_of};
 ghost use Rattle.call_history.specs.declared.happening.Happening.{Happening};
 ghost use Rattle.call_history.specs.declared.record.Record.TheVariants.{Refused};
 
-use crate::writing::{append_cause, append_note, append_numbers, append_step, append_took, begin};
+use crate::writing::{
+    append_away, append_cause, append_note, append_numbers, append_sent, append_step, append_took,
+    begin,
+};
 use call_history::{History, Record, Refusal};
 use engine_core::{Op, Policy};
 use mrpc_table::{Bytes, Memory, Table};
@@ -56,57 +59,30 @@ fn append_kept(
             method,
             number,
             addr,
-        } => append_numbers(
-            out,
-            b"away",
-            &[
-                u64::from(conn),
-                u64::from(*method),
-                u64::from(*number),
-                *addr,
-            ],
-        ),
+        } => append_away(out, conn, *method, *number, *addr),
         Record::Op { step } => append_step(out, conn, history.step(*step)),
         Record::Moment { ms } => append_numbers(out, b"moment", &[u64::from(conn), *ms]),
         Record::Charged { seq, step, level } => {
-            append_note(
-                out,
-                b"charged",
-                conn,
-                *seq,
-                name_at(history, *step),
-                &[*level],
-            )
+            let name = name_at(history, *step);
+            append_note(out, b"charged", conn, *seq, name, &[*level])
         }
         Record::Drawn {
             seq,
             step,
             window,
             ticket,
-        } => append_note(
-            out,
-            b"drawn",
-            conn,
-            *seq,
-            name_at(history, *step),
-            &[*window, *ticket],
-        ),
+        } => {
+            let name = name_at(history, *step);
+            append_note(out, b"drawn", conn, *seq, name, &[*window, *ticket])
+        }
         Record::Counted { seq, step } => {
             append_note(out, b"counted", conn, *seq, name_at(history, *step), &[])
         }
-        Record::Redacted { seq, step, version } => append_note(
-            out,
-            b"redacted",
-            conn,
-            *seq,
-            name_at(history, *step),
-            &[u64::from(*version)],
-        ),
-        Record::Sent { seq, bytes } => append_numbers(
-            out,
-            b"sent",
-            &[u64::from(conn), u64::from(*seq), *bytes],
-        ),
+        Record::Redacted { seq, step, version } => {
+            let name = name_at(history, *step);
+            append_note(out, b"redacted", conn, *seq, name, &[u64::from(*version)])
+        }
+        Record::Sent { seq, bytes } => append_sent(out, conn, *seq, *bytes),
         Record::Refused { seq, by } => append_kept_refusal(out, conn, history, *seq, *by),
     }
 }

@@ -53,54 +53,30 @@ pub fn append_audit_line(
             method,
             number,
             addr,
-        } => {
-            let numbers = [
-                u64::from(conn),
-                u64::from(*method),
-                u64::from(*number),
-                *addr,
-            ];
-            append_numbers(out, b"away", &numbers)
-        }
+        } => append_away(out, conn, *method, *number, *addr),
         Happening::Op(step) => append_step(out, conn, step),
         Happening::Moment { ms } => append_numbers(out, b"moment", &[u64::from(conn), *ms]),
-        Happening::Charged { seq, name, level } => append_note(
-            out,
-            b"charged",
-            conn,
-            *seq,
-            name.as_slice(),
-            &[*level],
-        ),
+        Happening::Charged { seq, name, level } => {
+            let numbers = [*level];
+            append_note(out, b"charged", conn, *seq, name.as_slice(), &numbers)
+        }
         Happening::Drawn {
             seq,
             name,
             window,
             ticket,
-        } => append_note(
-            out,
-            b"drawn",
-            conn,
-            *seq,
-            name.as_slice(),
-            &[*window, *ticket],
-        ),
+        } => {
+            let numbers = [*window, *ticket];
+            append_note(out, b"drawn", conn, *seq, name.as_slice(), &numbers)
+        }
         Happening::Counted { seq, name } => {
             append_note(out, b"counted", conn, *seq, name.as_slice(), &[])
         }
-        Happening::Redacted { seq, name, version } => append_note(
-            out,
-            b"redacted",
-            conn,
-            *seq,
-            name.as_slice(),
-            &[u64::from(*version)],
-        ),
-        Happening::Sent { seq, bytes } => append_numbers(
-            out,
-            b"sent",
-            &[u64::from(conn), u64::from(*seq), *bytes],
-        ),
+        Happening::Redacted { seq, name, version } => {
+            let numbers = [u64::from(*version)];
+            append_note(out, b"redacted", conn, *seq, name.as_slice(), &numbers)
+        }
+        Happening::Sent { seq, bytes } => append_sent(out, conn, *seq, *bytes),
         Happening::Refused { seq, cause } => append_refusal(out, conn, *seq, cause),
     }
 }
@@ -273,6 +249,29 @@ fn append_copy(out: &mut Bytes, copy: &TookCopy, encoding: &[u8]) -> Result<(), 
             begin(out, reason.word().as_bytes(), &[*place, *value])
         }
     }
+}
+
+// The line of a call that was submitted where as many stood as may.
+pub(crate) fn append_away(
+    out: &mut Bytes,
+    conn: u32,
+    method: u16,
+    number: u32,
+    addr: u64,
+) -> Result<(), Memory>
+    ensures { OnOk result (out.new ≡ out.old
+        ++ line (codes "away" ∷ decimal conn ∷ decimal method ∷ decimal number ∷ decimal addr ∷ [])) }
+{
+    let numbers = [u64::from(conn), u64::from(method), u64::from(number), addr];
+    append_numbers(out, b"away", &numbers)
+}
+
+// The line of a call that was sent, with the bytes of its frame.
+pub(crate) fn append_sent(out: &mut Bytes, conn: u32, seq: u32, bytes: u64) -> Result<(), Memory>
+    ensures { OnOk result (out.new
+        ≡ out.old ++ line (codes "sent" ∷ decimal conn ∷ decimal seq ∷ decimal bytes ∷ [])) }
+{
+    append_numbers(out, b"sent", &[u64::from(conn), u64::from(seq), bytes])
 }
 
 // The line of an operator's step.

@@ -6,7 +6,7 @@ ghost use Rattle.mrpc_table.specs.Normal.{fields_of};
 ghost use Rattle.mrpc_table.specs.Valid.{IsValid};
 ghost use Rattle.mrpc_table.specs.declared.limits.TheConstants.{MAX_HEAP};
 ghost use Rattle.mrpc_table.specs.declared.table.Table.{Table};
-ghost use Rattle.graph_form.specs.Roles.{run_word, link, case_word, behind, elements_from, entries_from};
+ghost use Rattle.graph_form.specs.Roles.{run_word, link, case_word, count, entry_count, behind, elements_from, entries_from};
 ghost use Rattle.graph_form.specs.Placed.{IsFine};
 ghost use Rattle.graph_copy.specs.Expects.{role_of, next_word, Fits};
 ghost use Rattle.graph_copy.specs.Follows.{Follows, Leads};
@@ -92,22 +92,12 @@ impl Walk {
                 depth,
                 needed,
             } => self.lead_link(table, message, depth, needed, value),
-            Role::Count { kind, depth } => {
-                let count = value;
-                self.expect_if(value != 0, Role::Elements { kind, count, depth }, place)
-            }
+            Role::Count { kind, depth } => self.lead_count(kind, depth, place, value),
             Role::Elements { kind, count, depth } => self.expect_elements(
                 kind, count, depth, value,
             ),
             Role::EntryCount { key, kind, depth } => {
-                let count = value;
-                let role = Role::Entries {
-                    key,
-                    kind,
-                    count,
-                    depth,
-                };
-                self.expect_if(value != 0, role, place)
+                self.lead_entry_count(key, kind, depth, place, value)
             }
             Role::Entries {
                 key,
@@ -174,6 +164,41 @@ impl Walk {
         }
         let words = size_words(table, message);
         self.expect_node(table, message, depth + 1, value, words)
+    }
+
+    fn lead_count(&mut self, kind: Kind, depth: u32, place: u64, value: u64) -> Result<(), Memory>
+        requires room { place + 1 < 2 ^ 64 }
+        requires no_run { self.old.run ≡ None }
+        ensures expected { OnOk result
+            ((T : Table) → Leads T (behind T (count kind depth) place value) self.old self.new) }
+        ensures size { self.new.size ≡ self.old.size }
+    {
+        let count = value;
+        self.expect_if(value != 0, Role::Elements { kind, count, depth }, place)
+    }
+
+    fn lead_entry_count(
+        &mut self,
+        key: Kind,
+        kind: Kind,
+        depth: u32,
+        place: u64,
+        value: u64,
+    ) -> Result<(), Memory>
+        requires room { place + 1 < 2 ^ 64 }
+        requires no_run { self.old.run ≡ None }
+        ensures expected { OnOk result
+            ((T : Table) → Leads T (behind T (entry_count key kind depth) place value) self.old self.new) }
+        ensures size { self.new.size ≡ self.old.size }
+    {
+        let count = value;
+        let role = Role::Entries {
+            key,
+            kind,
+            count,
+            depth,
+        };
+        self.expect_if(value != 0, role, place)
     }
 
     fn expect_elements(

@@ -9,7 +9,7 @@ abbrev pub words_in : Option (Bor (List ℕ)) → List (List ℕ)
 words_in None = []
 words_in (Some text) = words_of text.now
 
--- the code's own
+-- the code's own: of two reasons, the one that is told first
 abbrev pub earlier : Option ScriptReason → ScriptReason → ScriptReason
 earlier None reason = reason
 earlier (Some other) reason = if nat_le (order_of other) (order_of reason) then other else reason

@@ -14,9 +14,9 @@ use thiserror::Error;
 pub enum ScriptReason {
     /// The first line isn't the one that names the format.
     Header,
-    /// In the table: the form or the order of its lines.
+    /// In the table: the form or order of its lines, a label that doesn't go with its kind, or an enum without a value.
     Syntax,
-    /// A number out of its range, or a 17th tenant.
+    /// A number out of its range, a 17th tenant, or in the table an enum without 0 or a method's index out of turn.
     Number,
     /// In the table: a name or a field number that stands twice.
     Duplicate,

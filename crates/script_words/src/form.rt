@@ -6,7 +6,7 @@ ghost use Rattle.script_words.specs.Lines.{fits_key, has_form};
 ghost use Rattle.script_words.specs.Forms.{sorts_of, form_in};
 
 use crate::keyword::Keyword;
-use crate::sort::Sort;
+use crate::sort::Sort::{self, Either, Fixed, Key, Name, Unbounded, Value};
 use crate::words::first_word;
 use mrpc_table::{MAX_HEAP, MIN_HEAP};
 
@@ -130,71 +130,42 @@ impl Form {
         ensures few { length result.now ≤ 9 }
     {
         match self {
-            Form::Store => &[
-                Sort::Key(Keyword::Store),
-                CONN,
-                Sort::Unbounded,
-                Sort::Value,
-            ],
-            Form::Submit => &[Sort::Key(Keyword::Submit), CONN, METHOD, NUMBER],
-            Form::Reply => &[Sort::Key(Keyword::Submit), CONN, METHOD, NUMBER, REQUEST],
-            Form::Race => &[
-                Sort::Key(Keyword::Race),
-                CONN,
-                NUMBER,
-                Sort::Unbounded,
-                Sort::Value,
-            ],
-            Form::Turn => &[Sort::Key(Keyword::Turn), CONN, Sort::Unbounded],
-            Form::Send => &[Sort::Key(Keyword::Send), CONN],
-            Form::Drain => &[Sort::Key(Keyword::Drain), CONN],
-            Form::Moment => &[Sort::Key(Keyword::Moment), CONN, MOMENT],
-            Form::Attach => &[
-                Sort::Key(Keyword::Attach),
-                CONN,
-                Sort::Unbounded,
-                Sort::Name,
-                Sort::Name,
-            ],
-            Form::Detach => &[Sort::Key(Keyword::Detach), CONN, Sort::Name],
-            Form::Upgrade => &[Sort::Key(Keyword::Upgrade), CONN, Sort::Name, Sort::Name],
-            Form::Conn => &[Sort::Key(Keyword::Conn), CONN, WORDS],
-            Form::Tenant => &[Sort::Key(Keyword::Tenant), Sort::Name, MILLISECONDS],
-            Form::Access => &[
-                Sort::Key(Keyword::Policy),
-                Sort::Name,
-                Sort::Key(Keyword::Access),
-            ],
+            Form::Store => &[Key(Keyword::Store), CONN, Unbounded, Value],
+            Form::Submit => &[Key(Keyword::Submit), CONN, METHOD, NUMBER],
+            Form::Reply => &[Key(Keyword::Submit), CONN, METHOD, NUMBER, REQUEST],
+            Form::Race => &[Key(Keyword::Race), CONN, NUMBER, Unbounded, Value],
+            Form::Turn => &[Key(Keyword::Turn), CONN, Unbounded],
+            Form::Send => &[Key(Keyword::Send), CONN],
+            Form::Drain => &[Key(Keyword::Drain), CONN],
+            Form::Moment => &[Key(Keyword::Moment), CONN, MOMENT],
+            Form::Attach => &[Key(Keyword::Attach), CONN, Unbounded, Name, Name],
+            Form::Detach => &[Key(Keyword::Detach), CONN, Name],
+            Form::Upgrade => &[Key(Keyword::Upgrade), CONN, Name, Name],
+            Form::Conn => &[Key(Keyword::Conn), CONN, WORDS],
+            Form::Tenant => &[Key(Keyword::Tenant), Name, MILLISECONDS],
+            Form::Access => &[Key(Keyword::Policy), Name, Key(Keyword::Access)],
             Form::Rate => &[
-                Sort::Key(Keyword::Policy),
-                Sort::Name,
-                Sort::Key(Keyword::Rate),
+                Key(Keyword::Policy),
+                Name,
+                Key(Keyword::Rate),
                 CALLS,
-                Sort::Fixed(Keyword::Per),
+                Fixed(Keyword::Per),
                 MILLISECONDS,
-                Sort::Fixed(Keyword::Burst),
+                Fixed(Keyword::Burst),
                 CALLS,
-                Sort::Either(Keyword::Hold, Keyword::Deny),
+                Either(Keyword::Hold, Keyword::Deny),
             ],
             Form::Quota => &[
-                Sort::Key(Keyword::Policy),
-                Sort::Name,
-                Sort::Key(Keyword::Quota),
-                Sort::Name,
-                Sort::Fixed(Keyword::Cap),
+                Key(Keyword::Policy),
+                Name,
+                Key(Keyword::Quota),
+                Name,
+                Fixed(Keyword::Cap),
                 CAP,
             ],
-            Form::Count => &[
-                Sort::Key(Keyword::Policy),
-                Sort::Name,
-                Sort::Key(Keyword::Count),
-            ],
-            Form::Redact => &[
-                Sort::Key(Keyword::Policy),
-                Sort::Name,
-                Sort::Key(Keyword::Redact),
-            ],
-            Form::Close => &[Sort::Key(Keyword::Close)],
+            Form::Count => &[Key(Keyword::Policy), Name, Key(Keyword::Count)],
+            Form::Redact => &[Key(Keyword::Policy), Name, Key(Keyword::Redact)],
+            Form::Close => &[Key(Keyword::Close)],
         }
     }
 }
@@ -228,7 +199,7 @@ fn has_form(sorts: &[Sort], line: &[u8]) -> bool
     rest.is_none()
 }
 
-/// The form of a line, by its number of words and by those that stand in it as they are; none where it has no form.
+/// The form of a line, by its number of words and by those by which a form is known; none where it has no form.
 /// What its other words are isn't asked. It takes time in proportion to the line.
 pub fn form_of(line: &[u8]) -> Option<Form>
     ensures { result ≡ form_in (words_of line.now) }

@@ -1,7 +1,7 @@
 //! Lines of words: which words a line of a form has, what they say, and what is wrong with them.
 //!
 //! A [`Form`] is a row of one table: its words, each of a [`Sort`]. [`form_of`] finds the form of a line by the words
-//! that stand in it as they are, and [`judge`] judges each word by its sort: it gives what the words say, or the first
+//! by which a form is known, and [`judge`] judges each word by its sort: it gives what the words say, or the first
 //! reason against them, in the order of [`ScriptReason`]. `specs/Forms.antt` has the table, `specs/Sorts.antt` says
 //! what a word of a sort says and what stands against it, and `specs/Lines.antt` the same of a line. It stands on
 //! `mrpc_table` and `table_text`. The layers above use one contract: words of some sorts say one list, or one reason
