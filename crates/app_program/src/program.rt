@@ -2,7 +2,7 @@
 
 use mrpc_table::Sequence;
 
-/// How many stores a program makes at most.
+/// How many stores a client's program makes at most.
 pub const MAX_STORES: u64 = 1_000_000;
 
 /// How many stores a server's program makes at most for one request.

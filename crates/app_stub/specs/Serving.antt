@@ -43,6 +43,6 @@ all_served_replies lines made (d ∷ notices) =
 
 -- ---- blocks
 
--- which blocks are given back, of the numbers that came: one for each notice that was taken, in order
+-- which blocks are given back: of the numbers that came the first ones, one for each notice that was taken, in order
 abbrev pub blocks_of : List Descriptor → List ℕ → List ℕ
 blocks_of notices numbers = take (length notices) numbers

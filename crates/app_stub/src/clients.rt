@@ -1,7 +1,6 @@
 //! Clients.
 
 ghost use Rattle.std.specs.Prelude.{◌≡◌, ◌<◌, ◌≤◌, ◌+◌, ◌^◌, ◌++◌, ℕ, List, false, [], IfOk, OnOk, OnErr, IfSome, IfNone, IsTrue, length, map};
-ghost use Rattle.app_stub.specs.Pairing.{IsPaired};
 ghost use Rattle.app_stub.specs.Ports.{HasSent, IsNew, IsOfPort, TookAll};
 ghost use Rattle.app_program.specs.Programs.{IsClientLine, IsClientProgram, line_reclaims, line_stores, line_submits, reclaims_of, stores_of, submits_of};
 ghost use Rattle.app_stub.specs.Serving.{blocks_of, submission_of};

@@ -7,8 +7,6 @@ ghost use Rattle.mrpc_table.specs.Valid.{IsValid};
 ghost use Rattle.mrpc_table.specs.declared.call.Sort.TheVariants.{Request, Reply};
 ghost use Rattle.mrpc_table.specs.declared.limits.TheConstants.{MAX_HEAP, MIN_HEAP};
 ghost use Rattle.graph_place.specs.Size.{tree_words};
-ghost use Rattle.graph_place.specs.Stored.{StandsIn};
-ghost use Rattle.shared_heap.specs.Fresh.{Fresh};
 ghost use Rattle.descriptor_ring.specs.Rings.{IsOf};
 ghost use Rattle.descriptor_ring.specs.declared.descriptor.Descriptor.{Descriptor};
 ghost use Rattle.descriptor_ring.specs.declared.limits.TheConstants.{MAX_CAPACITY};
@@ -48,11 +46,11 @@ pub(crate) struct Desk {
     pub(crate) replies: u64,
 }
 
-/// Runs an echo: it takes its notices to their closing, copies each request, gives the block of each notice back, and
-/// replies to a request with its own message, placed into the next slice of the heap; then it closes both its rings. A
-/// request has no reply where its number is 0, where the method's input and output differ, where its graph is
-/// malformed, and where its tree doesn't fit a slice. Where a ring is full or empty the echo waits, and ends once the
-/// stop flag is set. Where it finds no memory it sets the flag and ends.
+/// Runs an echo: it takes its notices to their closing, copies each request of a method of the table, gives the block
+/// of each notice back, and replies to a request with its own message, placed into the next slice of the heap; then it
+/// closes both its rings. A request has no reply where the table hasn't its method, its number is 0, the method's input
+/// and output differ, its graph is malformed, or its tree doesn't fit a slice. Where a ring is full or empty the echo
+/// waits, and ends once the stop flag is set. Where it finds no memory it sets the flag and ends.
 pub fn echo<R: Wait, F: StopFlag + Drop>(
     rt: &R,
     alloc: Global,
@@ -69,8 +67,8 @@ pub fn echo<R: Wait, F: StopFlag + Drop>(
     ensures stopped { IfNone result.sent (IsTrue result.memory ⊎ F.may_be_set port.stop) }
     ensures memory { IfSome result.sent (λ _. result.memory ≡ false) }
 
-    // Unless no memory was found, or the flag was seen set, it made copies of the requests that it was told of, which
-    // with them determine its stores and its replies, and gave back the block of each notice.
+    // Unless no memory was found, or the flag was seen set, it made copies of requests that it was told of, which with
+    // them determine its stores and its replies, and gave back the block of each notice.
     ensures echoed { IfSome result.sent (λ sent. Echoed
         (record { table = table.now; heap = port.writer.heap.words; receive = port.reader.heap.words; ring = port.capacity })
         result.notices.taken result.note.stores (map submission_of sent.calls.items) result.reader) }

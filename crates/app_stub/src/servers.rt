@@ -3,7 +3,7 @@
 ghost use Rattle.std.specs.Prelude.{◌≡◌, ◌<◌, ◌≤◌, ◌+◌, ◌*◌, ◌^◌, ◌++◌, ℕ, List, false, [], IfOk, OnOk, OnErr, IfSome, IfNone, IsTrue, All, length, map};
 ghost use Rattle.app_stub.specs.Ports.{HasSent, IsNew, IsOfPort, TookAll};
 ghost use Rattle.app_program.specs.Programs.{StoresIn, IsServerProgram, reply_address, stores_of};
-ghost use Rattle.app_stub.specs.Serving.{all_served_replies, all_served_stores, blocks_of, can_be_answered, is_request, served_replies, served_stores, submission_of};
+ghost use Rattle.app_stub.specs.Serving.{all_served_replies, all_served_stores, blocks_of, served_replies, served_stores, submission_of};
 
 use crate::delivery::Delivery;
 use crate::lines::{call, store_line};

@@ -61,10 +61,10 @@ enum Stop {
 
 /// The input of `audit` that a text says.
 ///
-/// A text (this project's own format) begins with `mrpc-audit 1`, with `loads N` where the limit of loads isn't 1024,
-/// and with `table`. Then come the canonical text of a table, `end`, tenants and policies, and the line `audit`. Each of
-/// these lines ends with a line feed, and none of them is empty or a comment. It takes time in proportion to the text in
-/// front of the audit, but for the look-up of names.
+/// A text (this project's own format) begins with `mrpc-audit 1`, with `loads N` or, where the limit of loads is 1024,
+/// without, and with `table`. Then come the canonical text of a table, `end`, tenants and policies, and the line
+/// `audit`. Each of these lines ends with a line feed, and none of them is empty or a comment. It takes time in
+/// proportion to the text in front of the audit, but for the look-up of names.
 ///
 /// # Errors
 ///

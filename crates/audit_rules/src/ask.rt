@@ -6,7 +6,7 @@ ghost use Rattle.std.specs.VecDeque.{deque_capacity};
 ghost use Rattle.mrpc_table.specs.Calls.{IsCallOf};
 ghost use Rattle.engine_core.specs.Answers.{pass};
 ghost use Rattle.engine_core.specs.Chains.{Entry};
-ghost use Rattle.engine_core.specs.Marks.{StandingCall, seqs_of};
+ghost use Rattle.engine_core.specs.Marks.{seqs_of};
 ghost use Rattle.engine_core.specs.Turns.{noted_in};
 ghost use Rattle.engine_core.specs.Working.{Works};
 ghost use Rattle.call_history.specs.Behind.{Behind, moment, standing};

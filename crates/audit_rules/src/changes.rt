@@ -6,7 +6,7 @@ ghost use Rattle.std.specs.Prelude.{Some};
 ghost use Rattle.mrpc_table.specs.declared.table.Table.{Table as TheTable};
 ghost use Rattle.engine_core.specs.Policies.{IsPolicy};
 ghost use Rattle.engine_core.specs.declared.op.Op.TheVariants.{Attach, Detach, Upgrade};
-ghost use Rattle.call_history.specs.Behind.{Behind, chain};
+ghost use Rattle.call_history.specs.Behind.{Behind};
 ghost use Rattle.call_history.specs.Rules.{May};
 ghost use Rattle.call_history.specs.Rules.{KeepsChain};
 ghost use Rattle.call_history.specs.declared.happening.Happening.TheVariants.{Op as Operated};

@@ -6,7 +6,6 @@ ghost use Rattle.std.specs.Prelude.{IfNone, IfOk, IfSome, IsTrue, None, Some};
 ghost use Rattle.std.specs.Prelude.{length, slice_get};
 ghost use Rattle.mrpc_table.specs.Valid.{IsValid};
 ghost use Rattle.mrpc_table.specs.declared.table.Table.{Table as TheTable};
-ghost use Rattle.engine_core.specs.Turns.{refusal};
 ghost use Rattle.call_history.specs.Behind.{Behind, standing};
 ghost use Rattle.call_history.specs.Legal.{AwaitsLink, IsSettledUp};
 ghost use Rattle.call_history.specs.Rules.{IsNumbered, MayTake, RefusesDrawn, RefusesMalformed, EndsWithLink, May};

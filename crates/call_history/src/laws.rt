@@ -28,7 +28,6 @@ ghost use Rattle.call_history.specs.Rules.{Under, May, payload};
 ghost use Rattle.call_history.specs.declared.happening.Cause.{Cause};
 ghost use Rattle.call_history.specs.declared.happening.Cause.TheVariants as cause;
 ghost use Rattle.call_history.specs.declared.happening.Happened.{Happened};
-ghost use Rattle.call_history.specs.declared.happening.Happening.{Happening};
 ghost use Rattle.call_history.specs.declared.happening.Happening.TheVariants.{Took, Op, Moment, Charged, Drawn, Counted, Redacted, Sent, Refused};
 ghost use Rattle.call_history.specs.declared.happening.Taken.{Taken};
 ghost use Rattle.engine_core.specs.declared.call_row.TheConstants.{MAX_CALLS};

@@ -31,7 +31,7 @@ pub fn what_is_read_is_that_of_decode()
 }
 
 /// Where a view of frames is cut by a fault, this is the first fault for `decode`, and where all frames are shown,
-/// `decode` tells all of them. A text has one first fault for `decode`, and only one that it doesn't tell to its end.
+/// `decode` tells all of them. A text has one first fault at most for `decode`, and none where all of it is told.
 pub fn views_end_as_decode_does()
     ensures cut { (text word : List ℕ) (place : ℕ) (out out' : Option (List ℕ)) → CutsView text out out' place word
         → IsDecodeFault text place word }

@@ -1,7 +1,7 @@
 //! The access policy of the drill.
 
 ghost use Rattle.std.specs.Prelude.{◌≡◌, [], ◌∷◌, IfOk};
-ghost use Rattle.drill_plan.specs.Drill.{acl, big_line, default_line, named_acl, only_acl, schema};
+ghost use Rattle.drill_plan.specs.Drill.{acl, big_line, default_line, only_acl, schema};
 
 use crate::schema::name;
 use engine_core::Policy;

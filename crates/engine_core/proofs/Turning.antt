@@ -373,7 +373,8 @@ stays_true-step entry level moment old new left outcome (redacts clears is other
 
 -- ---- what becomes of the marks
 
--- they stay, or the engine's own is set, by a note or since its access policy allows the call, or a redaction takes away those of access engines
+-- they stay, or the engine's own is set, by a note or since its access policy allows the call, or a redaction takes
+-- away those of access engines
 data Became (policy : Policy) (attach version : ℕ) (old new : StandingCall) (outcome : Outcome) : Type 0 where
   stays : new ≡ old → Became policy attach version old new outcome
   noted : (n : Note) → new ≡ with_mark attach n old → ((v : ℕ) → is_allowed_by v (Some n) ≡ false)

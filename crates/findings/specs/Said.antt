@@ -30,7 +30,7 @@ pub data IsTextOf (input text : List ℕ) : Type 0 where
       → IsTextOf input text
 
 -- what is pointed at, from its first byte up to the one behind its last: the token at fault of a proto file, a name or a
--- number that something stands against, or a part of a line
+-- number that something stands against, or any part that begins in the text or at its end
 pub data IsAtFault (text : List ℕ) (start end : ℕ) : Type 0 where
   token : (reason : ProtoReason) (first line : ℕ) → proto.IsFaultOf text (proto_fault.At reason first end line)
       → start ≡ min first (length text) → IsAtFault text start end

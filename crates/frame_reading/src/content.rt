@@ -6,7 +6,6 @@ ghost use Rattle.frame_transport.specs.Frames.{IsFrame};
 ghost use Rattle.frame_transport.specs.Standing.{frame_of};
 ghost use Rattle.frame_transport.specs.declared.format.TheConstants.{HELLO};
 ghost use Rattle.frame_reading.specs.Contents.{IsContentOf};
-ghost use Rattle.frame_transport.specs.Messages.{message_in};
 ghost use Rattle.frame_reading.specs.Faults.{OnFault, IsFaultIn};
 
 use crate::fault::ReadFault;

@@ -10,8 +10,8 @@ pub record Kept : Type 0 where
   pub end : ℕ  -- the place behind them in the stream
   pub begun : List ℕ  -- the bytes from there on, up to the first fault or further
 
--- Frames stand from this place on, and less than a whole frame behind them. All bytes that were fed
--- can be counted.
+-- Frames stand from this place on, and less than a whole frame behind them. All bytes that were fed can be counted, with
+-- those, so many, that came behind the ones that are kept.
 pub record IsKept (taken : ℕ) (waiting : List Frame) (end : ℕ) (begun : List ℕ) (behind : ℕ) : Type 0 where
   pub each : All IsFrame waiting
   pub places : StandFrom taken waiting

@@ -1,5 +1,5 @@
--- The code's own: what the parts of a feed do: the numbers of a header, the front of a stream that comes in two parts, and
--- its split.
+-- The code's own: what the parts of a feed do: the numbers of a header, the front of a stream that comes in two parts,
+-- and its split.
 use Rattle.std.specs.Prelude.{◌≡◌, ℕ, ◌+◌, ◌-◌, ◌<◌, ◌≤◌, List, [], ◌∷◌, ◌++◌, length, take, drop, slice_index, Option, Some, None}
 use Rattle.byteorder.specs.Endian.{big_number}
 use Rattle.frame_transport.specs.Frames.{IsFrame, bytes_of, joined, Splits, length_in, HasFault, HasNoFrame}
@@ -37,7 +37,8 @@ pub record EndsFrame (place : ℕ) (begun piece : List ℕ) (f : Frame) : Type 0
   pub within : HEADER_LEN + length f.payload ≤ length begun + length piece
   pub bytes : begun ++ piece ≡ bytes_of f ++ drop (HEADER_LEN + length f.payload - length begun) piece
 
--- how two parts begin
+-- what two parts begin with: no whole frame, and a fault; no whole frame, and no fault so far; or a header without a
+-- fault, whose frame the first part doesn't have whole
 abbrev pub Begins : ℕ → List ℕ → List ℕ → Beginning → Type 0
 Begins place begun piece (BadField e) = HasNoFrame place (begun ++ piece) (Some e)
 Begins place begun piece Short = HasNoFrame place (begun ++ piece) None

@@ -18,7 +18,7 @@ path_of T method = unwrap_or (option_map (λ m. m.service ++ (codes "/" ++ m.nam
 abbrev pub sort_word : ℕ → List ℕ
 sort_word kind = if kind == REQUEST then codes "request" else codes "reply"
 
--- the line of a hello: its connection, and how many bytes it has
+-- the line of a hello: its connection, and how many bytes its payload has
 abbrev pub hello_head : Frame → List ℕ
 hello_head f = line (codes "#" ∷ codes "hello" ∷ codes "conn" ∷ decimal f.conn ∷ codes "bytes" ∷ decimal (length f.payload)
     ∷ [])

@@ -1,7 +1,6 @@
 //! The lines in front of messages.
 
 ghost use Rattle.std.specs.Prelude.{◌≡◌, ◌<◌, ◌++◌, length, OnOk};
-ghost use Rattle.mrpc_table.specs.Valid.{IsValid};
 ghost use Rattle.frame_transport.specs.Standing.{frame_of};
 ghost use Rattle.frame_view.specs.Views.{call_head, hello_head, path_of, sort_word};
 

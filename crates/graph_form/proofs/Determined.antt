@@ -202,7 +202,8 @@ same-sound T H msg address P Q h g e =
     (placed-sound T H (node_words T msg 1 address) Q g.words)
     (append-nil (loads P) ∙ e ∙ sym (append-nil (loads Q)))).0
 
--- a sound tree's loads and those that lead to a further word are not those of one reading, unless the latter go past the limit
+-- a sound tree's loads and those that lead to a further word are not those of one reading, unless the latter go past
+-- the limit
 sound-not_led : (T : Table) (H : ℕ) (reading : ℕ → ℕ → ℕ) (es : Expected) (xs ys : List (ℕ × ℕ)) (e : Role × ℕ)
     (rest : Expected) → LeadsTo T H es xs [] → LeadsTo T H es ys (e ∷ rest) → ReadsBy reading 1 xs
     → ReadsBy reading 1 ys → length xs ≤ length ys → ⊥

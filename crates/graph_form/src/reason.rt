@@ -9,7 +9,7 @@ pub enum Reason {
     Presence,
     /// A case word that is neither 0 nor the number of a member.
     Case,
-    /// A length or a count whose span has more words than the heap.
+    /// A length or a count whose span has as many words as the heap, or more.
     Length,
     /// A string whose bytes aren't UTF-8, at its last word.
     Utf8,

@@ -108,10 +108,10 @@ member_tells fs o t up few =
 
 pub tells_member : (fs : List Field) (o : ℕ) (t : Node) (found : ℕ) → NumbersAscend 0 t → Tells fs o t found → IsMemberOf fs o t found
 tells_member fs o t found up (tells_none is none) = record {
-  some = λ zero_is. ap (λ n. content_at t n) zero_is ∙ absent 0 0 t (omega arith) up;
+  none = λ zero_is. ap (λ n. content_at t n) zero_is ∙ absent 0 0 t (omega arith) up;
   there = λ some. absurd (some is);
 }
 tells_member fs o t found up (tells_one some sole) = record {
-  some = λ zero_is. absurd (some zero_is);
+  none = λ zero_is. absurd (some zero_is);
   there = λ _. (sole.content, sole.at, sole.is);
 }

@@ -184,7 +184,7 @@ pub case_none : (T : Table) (fs : List Field) (t : Node) (member place c d : ℕ
 case_none T fs t member place c d before next none slot size put = λ H level oneof within deep known.
     subst (λ e. PutsWordAt T H (case_word fs oneof level, place) (place + 3) c e before next (λ w. (u : Node)
     → with_member T fs w u ≡ with_field member (content_at t member) u)) (sym size)
-    (no_case T H fs oneof level place c member t before next none (known.some none) slot put)
+    (no_case T H fs oneof level place c member t before next none (known.none none) slot put)
 
 -- a member
 pub case_some : (T : Table) (fs : List Field) (t : Node) (member place c mid_free d : ℕ) (i : Item)

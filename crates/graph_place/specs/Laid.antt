@@ -165,9 +165,9 @@ listed (pair i j ps) = (i, j) ∷ listed ps
 
 -- ---- what a part must be
 
--- of the oneof the tree has the member of this number, and no other; or none, and the number is 0
+-- the number of a member of the oneof that the tree has, or 0, under which it has nothing
 pub record IsMemberOf (fs : List Field) (oneof : ℕ) (t : Node) (n : ℕ) : Type 0 where
-  pub some : n ≡ 0 → content_at t n ≡ None
+  pub none : n ≡ 0 → content_at t n ≡ None
   pub there : n ≢ 0 → (c : Content) × (content_at t n ≡ Some c) × (is_member_of fs oneof n ≡ true)
 
 -- what stands under a label that isn't a member's

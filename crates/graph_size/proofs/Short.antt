@@ -131,7 +131,8 @@ items-more T k i is a b h rest = record {
 no_items-short : (T : Table) (k : Kind) (loads : ℕ) → ItemsShort T k no_items loads
 no_items-short T k loads = record { records = λ n small. omega arith; joined = omega arith }
 
--- an entry: its tag and its prefix have eight bytes, the tags in it two, and of its key's and its value's loads ten are left
+-- an entry: its tag and its prefix have eight bytes, the tags in it two, and of its key's and its value's loads ten are
+-- left
 entry-short : (T : Table) (n : ℕ) (key k : Kind) (i j : Item) (a b : ℕ) → n < 2 ^ 29 → a + b ≤ 16384
     → ItemShort T key i a → ItemShort T k j b → length (entry_bytes T n key k i j) ≤ 15 * (a + b)
 entry-short T n key k i j a b small few h g =

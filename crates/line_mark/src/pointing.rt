@@ -9,7 +9,7 @@ use crate::place::LineAt;
 use mrpc_table::{Bytes, Memory};
 
 /// Appends `LINE:COLUMN: SENTENCE`, and below that the line of the text up to `width` of its bytes, and below that a
-/// mark under each byte of it from one place up to another: under the first at the least.
+/// mark under each column of what is shown from one place up to another: one mark at the least.
 pub fn point(
     text: &[u8],
     at: usize,

@@ -1,8 +1,8 @@
--- The text of a message (Protocol Buffers, "Text Format Language Specification"), laid out as `protoc --decode` does: the
--- entries of each field that the message has, by ascending number. An entry of a scalar stands on a line of its own, and
--- one of a message has the entries of that message between braces (the standard calls an entry a field of the text, and
--- writes one for each element of a repeated field: "Fields"). A map has an entry for each of its own, with a key and a
--- value ("Map Fields").
+-- The text of a message (Protocol Buffers, "Text Format Language Specification"), laid out as `protoc --decode` does:
+-- the entries of each field that the message has, by ascending number. An entry of a scalar stands on a line of its
+-- own, and one of a message has the entries of that message between braces (the standard calls an entry a field of the
+-- text, and writes one for each element of a repeated field: "Fields"). A map has an entry for each of its own, with a
+-- key and a value ("Map Fields").
 use Rattle.std.specs.Prelude.{◌≡◌, ℕ, ◌+◌, List, [], ◌++◌, codes, option_map, unwrap_or}
 use Rattle.mrpc_table.specs.Node.{Node, no_fields, field, Content, one, many, pairs, Item, number, run, node, Items, no_items, item, Pairs, no_pairs, pair}
 use Rattle.mrpc_table.specs.Normal.{fields_of, field_at, kind_at, label_at}

@@ -1,4 +1,5 @@
--- The word at a place after a list of stores: what one more store does, what stores elsewhere leave, and what the words keep.
+-- The word at a place after a list of stores: what one more store does, what stores elsewhere leave, and what the words
+-- keep.
 use Rattle.std.proofs.Common.{◌≡◌, ◌≢◌, ◌<◌, ℕ, nat_eq, true, false, List, [], ◌∷◌, ◌++◌, length, filter, map}
 use Rattle.std.proofs.Common.{replicate, set, get_or, arith, refl, sym, ap, ◌∙◌, subst, get_or-set_same}
 use Rattle.std.proofs.Common.{get_or-set_other, length-set, ⊎_elim}

@@ -1,4 +1,5 @@
--- The code's own: the parts of a heap of plain words: the words with their stores, the races that wait, and the room for both.
+-- The code's own: the parts of a heap of plain words: the words with their stores, the races that wait, and the room
+-- for both.
 use Rattle.std.specs.Prelude.{◌≡◌, ◌<◌, ℕ, ◌+◌, ◌^◌, ◌≤◌, List, ◌∷◌, length, slice_index, All}
 use Rattle.mrpc_base.specs.Heap.{Race, word_after}
 

@@ -44,7 +44,7 @@ abbrev pub push_item : Items → Item → Items
 push_item no_items i = item i no_items
 push_item (item j js) i = item j (push_item js i)
 
--- the pairs, and one more at the end
+-- the code's own: the pairs, and one more at the end
 abbrev pub push_pair : Pairs → Item → Item → Pairs
 push_pair no_pairs k v = pair k v no_pairs
 push_pair (pair l w ps) k v = pair l w (push_pair ps k v)

@@ -14,11 +14,11 @@ use Rattle.mrpc_table.specs.MapEntries.{key_code}
 abbrev pub items_of_entry : Value × Value → Item × Item
 items_of_entry e = (item_of e.0, item_of e.1)
 
--- the code's own
+-- the code's own: the bytes by which an entry stands among the others, those of its key
 abbrev pub code : Kind → Value × Value → List ℕ
 code k e = key_code k (item_of e.0)
 
--- the code's own
+-- the code's own: how the keys of two entries compare
 abbrev pub entry_cmp : Kind → Value × Value → Value × Value → Ordering
 entry_cmp k e f = slice_cmp nat_cmp (code k e) (code k f)
 
@@ -27,7 +27,7 @@ abbrev pub AreSorted : Kind → List (Value × Value) → Type 0
 AreSorted k es = (i j : ℕ) (d : Value × Value) → i ≤ j → j < length es
     → is_lt (entry_cmp k (slice_index_or es j d) (slice_index_or es i d)) ≡ false
 
--- the code's own: an entry stands in place of the last one with the same key, or behind the last one with another key
+-- the code's own: an entry stands in place of the last one where that has its key, and else behind it
 pub data IsEntryAdded (k : Kind) (old : List (Value × Value)) (e : Value × Value)
     (new : List (Value × Value)) : Type 0 where
   replaced : (front : List (Value × Value)) (l : Value × Value) → old ≡ front ++ l ∷ [] → entry_cmp k l e ≡ Equal

@@ -4,9 +4,9 @@ ghost use Rattle.std.specs.Prelude.{◌≡◌, ◌<◌, ◌≤◌, ◌↔◌, �
 ghost use Rattle.std.specs.Option.{option_copied};
 ghost use Rattle.mrpc_table.specs.declared.table.Kind.{Kind};
 ghost use Rattle.mrpc_table.specs.declared.table.Label.TheVariants.{Map};
-ghost use Rattle.mrpc_table.specs.Words.{IsWordForm, rank};
-ghost use Rattle.mrpc_table.specs.Normal.{IsNormal, IsRun, IsBefore, KeysAscend, TakesOne, TakesMany, field_at};
-ghost use Rattle.mrpc_table.specs.Valid.{IsValid, IsMessage, IsKnown, Ascends};
+ghost use Rattle.mrpc_table.specs.Words.{rank};
+ghost use Rattle.mrpc_table.specs.Normal.{IsNormal, IsRun, IsBefore, KeysAscend, TakesOne, TakesMany};
+ghost use Rattle.mrpc_table.specs.Valid.{IsValid, IsMessage, IsKnown};
 ghost use Rattle.mrpc_table.specs.View.{item_of, items_of, pairs_of, content_of};
 ghost use Rattle.mrpc_table.specs.Fits.{FitsWithin, RestFits, ContentFits, ItemFits, ItemsFit, PairsFit, is_free, taken_after, IsPlaced};
 

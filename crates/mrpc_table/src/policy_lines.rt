@@ -15,7 +15,7 @@ pub type Lines = Sequence<Bytes>;
 /// What is wrong with a line. Of several reasons at one line, the first of this list counts.
 #[derive(Clone, Copy, Debug)]
 pub enum RuleReason {
-    /// A line, or its value, that is out of form, or a 65th rule.
+    /// A line, or its value, that is out of form, a 65th rule or clear, or no clear at all.
     Word,
     /// An index above 65535, or a value out of the range of its kind.
     Number,

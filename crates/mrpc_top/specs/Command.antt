@@ -45,7 +45,7 @@ WorksOn Audit text out out' wire wire' = AuditsText text out out'
 
 -- ---- what a command writes of a faulty text
 
--- the command wrote the first fault of a text
+-- the command wrote the first fault of a text, `decode` behind the lines of the frames in front of it
 abbrev pub Refuses : Command → List ℕ → Option (List ℕ) → Option (List ℕ) → Type 0
 Refuses Replay text out out' = RefusesScript text out out'
 Refuses Decode text out out' = CutsText text out out'
@@ -68,7 +68,8 @@ abbrev pub IsDone : Command → Option (List ℕ) → Option (List ℕ) → Opti
     → Option (List ℕ) → Type 0
 IsDone command left out out' wire wire' = (text : List ℕ) × IsInput left text × WorksOn command text out out' wire wire'
 
--- an input has a fault for the command: it is too long, or its text has a first fault; the fault's line was written
+-- an input has a fault for the command: it is too long, or its text has a first fault; the fault's line was written, of
+-- `decode` behind the lines of the frames in front of it
 abbrev pub IsRefused : Command → Option (List ℕ) → Option (List ℕ) → Option (List ℕ) → Option (List ℕ) → Type 0
 IsRefused command left left' out out' =
     (ReadsPast INPUT_LIMIT left left' × Appends out out' (fault_line INPUT_LIMIT (codes "Input")))
@@ -95,8 +96,8 @@ StopsOn Decode text out out' wire wire' = EndsEarly (DecodesText text) (CutsText
 StopsOn Check text out out' wire wire' = EndsEarly (ChecksText text) (RefusesProto text) out out'
 StopsOn Audit text out out' wire wire' = EndsEarly (AuditsText text) (RefusesAudit text) out out'
 
--- A command ended early, and what it wrote is in front of what it may write: nothing, where the input wasn't read to its
--- end, some of the line of its fault, where it is too long, or what `StopsOn` says.
+-- A command ended early, and what it wrote is in front of what it may write: nothing; some of the line of its fault,
+-- where the input is too long; or what `StopsOn` says.
 pub data IsCutShort (command : Command) (left left' out out' wire wire' : Option (List ℕ)) : Type 0 where
   unread : Appends out out' [] → Appends wire wire' [] → IsCutShort command left left' out out' wire wire'
   too_long : ReadsPast INPUT_LIMIT left left' → WritesFront out out' (fault_line INPUT_LIMIT (codes "Input"))

@@ -38,7 +38,7 @@ pub record IsCallCount (word : List ℕ) (calls : ℕ) : Type 0 where
 abbrev pub IsDrill : List (String Global) → ℕ → Type 0
 IsDrill words calls = (word : List ℕ) × (map string_bytes words ≡ codes "drill" ∷ word ∷ []) × IsCallCount word calls
 
--- the words have the scenario of an input run, or a drill of so many calls
+-- the words have the scenario of an input run, or the drill of so many calls of each client
 abbrev pub NamesRun : List (String Global) → Running → Type 0
 NamesRun words Scenario = map string_bytes words ≡ codes "run" ∷ []
 NamesRun words (Drill calls) = IsDrill words calls

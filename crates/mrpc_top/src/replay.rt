@@ -13,10 +13,10 @@ ghost use Rattle.replay_run.specs.Sound.{IsAllowed, IsSoundOn};
 use replay_run::{one_follows, what_follows_is_sound};
 use script_text::one_script;
 
-/// A text has one replay. It is that of one script or has one first fault, and never both. One history at most follows
-/// from the script, with its loads and the calls that stand: whole, and up to a sending that fails behind as many calls
-/// that were sent. It is legal; on each connection its loads are those of its calls, each part of a message loaded once,
-/// and the calls that stand are at places where they may stand.
+/// A text has one replay at most. It is that of one script or has one first fault, and never both. One history at most
+/// follows from the script, with its loads and the calls that stand: whole, and up to a sending that fails behind as
+/// many calls that were sent. It is legal; on each connection its loads are those of its calls, each part of a message
+/// loaded once, and the calls that stand are at places where they may stand.
 pub fn one_replay()
     ensures scripts { (text : List ℕ) (s t : Script) → Spells text s → Spells text t → s ≡ t }
     ensures faults { (text : List ℕ) (line at : ℕ) (reason other : ScriptReason) → IsFault text line reason

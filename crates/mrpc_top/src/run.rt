@@ -46,7 +46,7 @@ pub const FABRIC_FAILED: u8 = 7;
 pub(crate) enum Running {
     // The scenario that the input says.
     Scenario,
-    // The drill of so many calls.
+    // The drill of so many calls of each client.
     Drill(u64),
 }
 

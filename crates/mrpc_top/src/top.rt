@@ -21,8 +21,8 @@ use text_commands::{
 
 /// Runs the command that the words name, and answers its exit status.
 ///
-/// `run` reads a scenario from `input` and runs it over links of `fabric`; `drill N` runs the drill of N calls, and reads
-/// nothing. Other words are those of [`run_still`].
+/// `run` reads a scenario from `input` and runs it over links of `fabric`; `drill N` runs the drill in which each of
+/// four clients submits N calls, 1 to 2048, and reads nothing. Other words are those of [`run_still`].
 pub fn run_command<
     R: Threads + Wait + Sync,
     S: Source,
@@ -56,7 +56,7 @@ pub fn run_command<
     ensures refused { (command : Command) (text : List ℕ) → Names words.now.items command → S.left input.old ≡ Some text
         → HasFault command text → (result ≢ DONE) × (result ≢ WIRE_FAILED) }
 
-    // An input that has no fault is worked on, unless a device fails or memory is short.
+    // An input of such a command that has no fault is worked on, unless a device fails or memory is short.
     ensures complete { (command : Command) (text : List ℕ) → Names words.now.items command
         → S.left input.old ≡ Some text → (HasFault command text → ⊥)
         → (Rose (S.faults input.old) (S.faults input.new) → ⊥) → (Rose (K.faults out.old) (K.faults out.new) → ⊥)
@@ -97,7 +97,8 @@ pub fn run_command<
         → HasPlan running (S.left input.old) × (out.new ≡ out.old) }
     ensures drilled { (calls : ℕ) → NamesRun words.now.items (Drill calls) → input.new ≡ input.old }
 
-    // Only what is run touches the fabric, and it gives all links back that it opened.
+    // Only what is run touches the fabric, and only behind an input without a fault. What ran to its end gave back all
+    // links that it opened.
     ensures unrun { ((result ≡ FAULTY_INPUT) ⊎ (result ≡ INPUT_FAILED)) ⊎ (IsRunning words.now.items → ⊥)
         → fabric.new ≡ fabric.old }
     ensures away { (result ≡ DONE) ⊎ (result ≡ LINK_FAILED) → F.away fabric.new ≡ F.away fabric.old }

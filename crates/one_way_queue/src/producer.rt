@@ -47,8 +47,8 @@ impl<T> Producer<T> {
     ghost use Rattle.std.specs.Prelude.{◌<◌, [], ◌∷◌, ◌++◌, Err, IsOk, MatchResult, OnErr, OnOk};
     ghost use Rattle.one_way_queue.specs.Ends.{put_of, free_of, capacity_of, producer_queue};
 
-    /// Puts an item behind those that wait. It gives the item back where no place is known to be free: then the queue
-    /// was full once as many had been put.
+    /// Puts an item behind those that wait. It gives the item back where no place is known to be free: then at least as
+    /// many were put in all as the queue holds.
     pub fn put<R: Wait>(&mut self, rt: &R, item: T) -> Result<(), T>
         ensures done { OnOk result (put_of self.new ≡ put_of self.old ++ item ∷ []) }
         ensures back { OnErr result ((result ≡ Err item) × (put_of self.new ≡ put_of self.old)) }

@@ -2,7 +2,7 @@
 
 ghost use Rattle.std.specs.Prelude.{◌≡◌, ◌+◌, ◌++◌, ◌^◌, ◌<◌, ◌≤◌, ℕ, List, [], ◌∷◌, Err, false, length, IfOk, IfErr, OnOk, MatchResult, nat_le};
 ghost use Rattle.mrpc_table.specs.Valid.{IsValid};
-ghost use Rattle.policy_access.specs.Faults.{is_rule_name, is_among, reason_of, IsFaultOf};
+ghost use Rattle.policy_access.specs.Faults.{is_rule_name, is_among, IsFaultOf};
 ghost use Rattle.policy_access.specs.Lines.{line_of};
 ghost use Rattle.policy_access.specs.Names.{Holds};
 ghost use Rattle.policy_access.specs.Reading.{names_in, AreRead, DefaultAt};

@@ -10,8 +10,8 @@ pub fn bounded_level()
         → level first start past ≤ full_level (rate_after first past) }
 {}
 
-/// Between two moments without an upgrade an attachment is charged for no more calls than a full bucket
-/// and the time between them pay for.
+/// Between two moments without an upgrade an attachment is charged for no more calls than a full bucket and the time
+/// between them pay for, where each call was charged at a level that had its cost.
 pub fn bounded_charges()
     ensures { (first : Rate) (start : ℕ) (past recent : List BucketHappening) → IsRate (rate_after first past)
         → IsPaid first start (recent ++ past) → HasNoUpgrade recent

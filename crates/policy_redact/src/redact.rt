@@ -91,7 +91,7 @@ impl Model for Redact {
 impl Redact {
     ghost use Rattle.mrpc_table.specs.declared.table.Table.{Table};
     ghost use Rattle.mrpc_table.specs.Calls.{IsCallOf};
-    ghost use Rattle.policy_redact.specs.Redacting.{cleared, cleared_call, FitsSomeTable};
+    ghost use Rattle.policy_redact.specs.Redacting.{cleared_call, FitsSomeTable};
 
     // The policy of these clears.
     pub(crate) fn new(clears: Vec<Clear>) -> Redact

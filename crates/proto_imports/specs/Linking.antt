@@ -1,4 +1,5 @@
--- The code's own: what is kept of the imports of a set: the places of files by their paths, and where the imports of each file lead.
+-- The code's own: what is kept of the imports of a set: the places of files by their paths, and where the imports of
+-- each file lead.
 use Rattle.std.specs.Prelude.{◌≡◌, ◌≢◌, ℕ, ◌<◌, List, Option, Some, slice_get, length, MatchOption}
 use Rattle.std.specs.Ordering.{nat_cmp}
 use Rattle.std.specs.Cmp.Lexicographic.{slice_cmp}

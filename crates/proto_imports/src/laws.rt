@@ -15,7 +15,7 @@ pub fn one_outcome()
     ensures { (set : List Member) (o p : Outcome) → HaveOwnPaths set → VisitsRoot set o → VisitsRoot set p → o ≡ p }
 {}
 
-/// A ring that visiting the root names is one, and where it names none there is none.
+/// A ring that visiting the root names is one; where it names none, the root reaches none, if each path is one file's.
 pub fn rings()
     // The import that is named leads from a file that the root reaches to one from which that file is reached.
     ensures named { (set : List Member) (i n : ℕ) → VisitsRoot set (ring i n)

@@ -15,7 +15,7 @@ pub enum ProtoReason {
     Token,
     /// The token can't stand there.
     Expected,
-    /// Behind `import` stands neither a string nor `public`.
+    /// Behind `import` stands neither a string nor `public`, nor the end of the text.
     Import,
     /// `stream` before the type of an rpc.
     Stream,
@@ -23,7 +23,7 @@ pub enum ProtoReason {
     Group,
     /// `extend` or `extensions`, where a statement of a file or of a message begins.
     Extend,
-    /// The file doesn't begin with `syntax = "proto3";`.
+    /// The first token isn't `syntax`, or the syntax that is named isn't proto3.
     Syntax2,
     /// A 33rd level of messages in one another.
     Nesting,

@@ -1,11 +1,11 @@
 -- Line feeds: none stands in a token, and those before a place are counted piece by piece.
-use Rattle.std.proofs.Common.{◌≡◌, ◌≢◌, ◌⊎◌, inl, inr, ℕ, ◌+◌, ◌-◌, ◌≤◌, ◌==◌, Bool, true, false, not, cond, ◌&&◌}
+use Rattle.std.proofs.Common.{◌≡◌, ◌⊎◌, inl, inr, ℕ, ◌+◌, ◌-◌, ◌≤◌, ◌==◌, Bool, true, false, not, cond, ◌&&◌}
 use Rattle.std.proofs.Common.{List, [], ◌∷◌, ◌++◌, codes, take, drop, refl, arith, sym, ◌∙◌, ap}
 use Rattle.std.specs.Prelude.{count_by}
 use Rattle.std.specs.List.{list_all}
 use Rattle.std.proofs.lemmas.List.{take-append-drop, take-take, drop-take}
 use Rattle.std.proofs.lemmas.List.Sums.{sum_by-append, sum_by-cons}
-use Rattle.std.proofs.lemmas.Bool.{ne_eqb, and_parts, and_from, not-true, not_from_false}
+use Rattle.std.proofs.lemmas.Bool.{and_parts, and_from, not-true}
 use Rattle.std.proofs.lemmas.Bool.Decides.{nat_tests}
 use Rattle.mrpc_table.specs.Names.{is_name_start, is_name_byte, is_name_form}
 use Rattle.proto_tokens.specs.Gaps.{has_no_line_feed}
@@ -23,9 +23,6 @@ abbrev pub is_feed : ℕ → Bool
 is_feed c = c == 10
 
 -- ---- no line feed stands in a token
-
-no_feed : (c : ℕ) → c ≢ 10 → not (c == 10) ≡ true
-no_feed c n = not_from_false (c == 10) (ne_eqb c 10 n)
 
 digit_feed : (c : ℕ) → is_decimal_digit c ≡ true → not (c == 10) ≡ true
 digit_feed c h = grind (arith, nat_tests)

@@ -15,7 +15,7 @@ use Rattle.proto_tokens.specs.Literals.{is_decimal_digit, is_octal_digit, is_hex
 use Rattle.proto_tokens.specs.Literals.{decimal, octal, hexadecimal, is_exponent_letter, is_sign, IsExponent}
 use Rattle.proto_tokens.specs.Literals.{unsigned, signed, IsNumber, point, fraction, exponent, is_glue}
 use Rattle.proto_tokens.specs.Scanning.{integer_of, hexadecimal_behind, octal_behind, fraction_len, unless_none}
-use Rattle.proto_tokens.specs.Scanning.{exponent_len, decimal_of, decimal_at, is_hexadecimal, unsplit_number_at}
+use Rattle.proto_tokens.specs.Scanning.{exponent_len, decimal_of, decimal_at, begins_hexadecimal, unsplit_number_at}
 use Rattle.proto_tokens.specs.Scanning.{if_split, number_at}
 use Rattle.proto_tokens.specs.declared.token.Kind.{Kind}
 use Rattle.proto_tokens.specs.declared.token.Kind.TheVariants.{Integer, Number}
@@ -181,7 +181,7 @@ unsplit_decimal : (whole tail : List ℕ) → is_decimal whole ≡ true → begi
 unsplit_decimal [] tail h digit x = absurd (let t : false ≡ true = h in cc)
 unsplit_decimal (c ∷ []) [] h digit x = refl
 unsplit_decimal (c ∷ []) (t ∷ ts) h digit x =
-    let a : is_hexadecimal c t ≡ false = and_right (c == 48) (is_x t) x in
+    let a : begins_hexadecimal c t ≡ false = and_right (c == 48) (is_x t) x in
     let b : (c == 48 && is_decimal_digit t) ≡ false = and_right (c == 48) (is_decimal_digit t) digit in
     rw (a, b) refl
 unsplit_decimal (c ∷ d ∷ ds) tail h digit x =
@@ -190,7 +190,7 @@ unsplit_decimal (c ∷ d ∷ ds) tail h digit x =
       | inl e ↦ not-true (c == 48) e
       | inr e ↦ absurd (let n : length (d ∷ ds) ≡ 0 = eqb-true (length (d ∷ ds)) 0 e in omega arith)
     ] in
-    let a : is_hexadecimal c d ≡ false = and_left (c == 48) (is_x d) z in
+    let a : begins_hexadecimal c d ≡ false = and_left (c == 48) (is_x d) z in
     let b : (c == 48 && is_decimal_digit d) ≡ false = and_left (c == 48) (is_decimal_digit d) z in
     rw (a, b) refl
 
@@ -588,7 +588,7 @@ decimal_front c cs leads =
 some_same : {X : Type 0} (x y : X) → Some x ≡ Some y → x ≡ y
 some_same x y e = cc
 
-hexadecimal_front : (a b : ℕ) (cs : List ℕ) (w : Scanned) → is_hexadecimal a b ≡ true → hexadecimal_behind cs ≡ Some w → Front (a ∷ b ∷ cs) w
+hexadecimal_front : (a b : ℕ) (cs : List ℕ) (w : Scanned) → begins_hexadecimal a b ≡ true → hexadecimal_behind cs ≡ Some w → Front (a ∷ b ∷ cs) w
 hexadecimal_front a b cs w h e =
     let parts = and_parts (a == 48) (is_x b) h in
     let zero : a ≡ 48 = eqb-true a 48 parts.0 in
@@ -638,7 +638,7 @@ leads_other a b cs n (inr (e, h)) = inr (e, h)
 
 unsplit_front : (c : ℕ) (cs : List ℕ) (w : Scanned) → Begins c cs → unsplit_number_at (c ∷ cs) ≡ Some w → Front (c ∷ cs) w
 unsplit_front c [] w b e = rw (some_same _ _ e) at (decimal_front c [] (leads_alone c b))
-unsplit_front a (b ∷ cs) w beginning e = elim (cases_Bool (is_hexadecimal a b)) [
+unsplit_front a (b ∷ cs) w beginning e = elim (cases_Bool (begins_hexadecimal a b)) [
   | inl h ↦ hexadecimal_front a b cs w h (rw h at e)
   | inr no_x ↦ elim (cases_Bool (a == 48 && is_decimal_digit b)) [
     | inl o ↦ octal_front a (b ∷ cs) w (eqb-true a 48 (and_parts _ _ o).0) (rw (no_x, o) at e)

@@ -78,12 +78,12 @@ decimal_at bytes =
     let part = fraction_len (drop whole bytes) in
     decimal_of bytes whole part (exponent_len (drop part (drop whole bytes)))
 
-abbrev pub is_hexadecimal : ℕ → ℕ → Bool
-is_hexadecimal a b = a == 48 && (b == 120 || b == 88)
+abbrev pub begins_hexadecimal : ℕ → ℕ → Bool
+begins_hexadecimal a b = a == 48 && (b == 120 || b == 88)
 
 abbrev pub unsplit_number_at : List ℕ → Option Scanned
 unsplit_number_at (a ∷ b ∷ cs) =
-    if is_hexadecimal a b then hexadecimal_behind cs
+    if begins_hexadecimal a b then hexadecimal_behind cs
     else if a == 48 && is_decimal_digit b then octal_behind (b ∷ cs)
     else Some (decimal_at (a ∷ b ∷ cs))
 unsplit_number_at bytes = Some (decimal_at bytes)

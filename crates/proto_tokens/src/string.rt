@@ -4,7 +4,7 @@ ghost use Rattle.std.specs.Prelude.{◌≡◌, ◌≤◌, ◌<◌, ◌+◌, ◌-
 ghost use Rattle.std.specs.List.{prefix_len};
 ghost use Rattle.std.specs.Char.{is_digit, digit_char};
 ghost use Rattle.proto_tokens.specs.Strings.{few, spelled, utf8, low_six, hexadecimal_char, is_high, is_low};
-ghost use Rattle.proto_tokens.specs.Strings.{is_low_escape, is_pair, joined, code_point, unicode_escape, simple_value};
+ghost use Rattle.proto_tokens.specs.Strings.{is_low_escape, is_pair, code_point, unicode_escape, simple_value};
 ghost use Rattle.proto_tokens.specs.Strings.{escape_of, StandsFor, body_of, string_value};
 
 use crate::word::{digits_len, is_digit};

@@ -9,7 +9,7 @@ ghost use Rattle.mrpc_table.specs.Names.{is_name_byte};
 ghost use Rattle.proto_tokens.specs.Literals.{is_decimal_digit, is_simple_escape, has_digits, is_wide, is_mark};
 ghost use Rattle.proto_tokens.specs.Literals.{is_glue, is_quote, goes_on};
 ghost use Rattle.proto_tokens.specs.Scanning.{is_escape, closes, hexadecimal_behind, octal_behind, fraction_len};
-ghost use Rattle.proto_tokens.specs.Scanning.{exponent_len, decimal_at, is_hexadecimal, unsplit_number_at};
+ghost use Rattle.proto_tokens.specs.Scanning.{exponent_len, decimal_at, begins_hexadecimal, unsplit_number_at};
 ghost use Rattle.proto_tokens.specs.Scanning.{begins_number, mark_at, number_at, word_at};
 
 use crate::token::Kind;
@@ -114,8 +114,8 @@ fn exponent_len(bytes: &[u8]) -> usize
 }
 
 // Whether hexadecimal digits have to stand behind these two bytes.
-fn is_hexadecimal(first: u8, second: u8) -> bool
-    ensures { result ≡ is_hexadecimal first second }
+fn begins_hexadecimal(first: u8, second: u8) -> bool
+    ensures { result ≡ begins_hexadecimal first second }
 {
     first == b'0' && (second == b'x' || second == b'X')
 }
@@ -149,7 +149,7 @@ fn unsplit_number_at(bytes: &[u8]) -> Option<Scanned>
 {
     match bytes {
         [first, second, behind @ ..] => {
-            if is_hexadecimal(*first, *second) {
+            if begins_hexadecimal(*first, *second) {
                 hexadecimal_behind(behind)
             } else if *first == b'0' && is_digit(*second, 10) {
                 octal_behind(&bytes[1..])

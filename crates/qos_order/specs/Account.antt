@@ -67,7 +67,7 @@ pub record IsBalanced (weight : ℕ) (account : Account) : Type 0 where
   pub all : weight * account.visits ≡ account.rounds + account.kept + account.dropped
   pub most : account.kept ≤ 2 * weight
 
--- over every list of visits at one weight the account is balanced
+-- over every list of visits at one weight that fit their grants the account is balanced
 abbrev pub VisitsBalance : Type 0
 VisitsBalance = (weight : ℕ) (visits : List Visit) → IsWeight weight → AllFit weight new_account visits
     → IsBalanced weight (account_after weight visits)

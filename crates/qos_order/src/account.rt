@@ -32,7 +32,7 @@ const MOST_VISITS: u64 = 1_099_511_627_776;
 
 impl Account {
     ghost use Rattle.std.specs.Prelude.{◌≡◌, ◌≤◌, ℕ};
-    ghost use Rattle.qos_order.specs.Account.{Fits, IsBalanced, IsWeight, Visit, granted, new_account, visited};
+    ghost use Rattle.qos_order.specs.Account.{Fits, IsBalanced, IsWeight, granted, new_account, visited};
 
     /// The account before the first visit.
     pub fn new() -> Account

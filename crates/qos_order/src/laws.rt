@@ -1,12 +1,12 @@
-//! What holds over every list of visits, and of every list of weights.
+//! What holds over every list of visits that fit their grants, and of every list of weights.
 
 ghost use Rattle.qos_order.specs.Account.{VisitsBalance};
 ghost use Rattle.qos_order.specs.Weights.{FaultsOnce, SoundHasNone, SoundOrFault};
 ghost use Rattle.qos_order.specs.Wheel.{TurnsBalance, VisitsAreEven, SharesAreEven};
 
-/// Over every list of visits the rounds that an account was given, keeps and dropped are its weight
-/// times its visits, and it keeps at most twice its weight; so it is with each account of a wheel. The
-/// call does nothing.
+/// Over every list of visits that fit their grants the rounds that an account was given, keeps and drops are its
+/// weight times its visits, and it keeps at most twice its weight; so it is with each account of a wheel. The call
+/// does nothing.
 pub fn visits_balance()
     ensures account { VisitsBalance }
     ensures wheel { TurnsBalance }

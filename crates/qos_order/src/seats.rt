@@ -2,7 +2,7 @@
 
 ghost use Rattle.std.specs.Prelude.{◌≡◌, ◌<◌, ◌==◌, nat_eq, All, IfOk, IfSome, IsSomeAnd, find, length, map, option_and_then, slice_get};
 ghost use Rattle.std.specs.List.{IsDistinct};
-ghost use Rattle.qos_order.specs.Account.{Fits, IsBalanced, IsWeight, Visit, granted};
+ghost use Rattle.qos_order.specs.Account.{Fits, IsBalanced, IsWeight, granted};
 ghost use Rattle.qos_order.specs.Weights.{conns_of};
 ghost use Rattle.qos_order.specs.Wheel.{SeatsAscend, listed_after, numbers_of, opened};
 

@@ -32,9 +32,8 @@ impl Model for Wheel {
 
 impl Wheel {
     ghost use Rattle.std.specs.Prelude.{◌≡◌, ◌≢◌, ℕ, Err, OnOk, IfOk, IfErr, option_copied, option_map, slice_get};
-    ghost use Rattle.qos_order.specs.Account.{Fits, Visit};
     ghost use Rattle.qos_order.specs.Weights.{IsFirstFault, IsSound, conns_of, entry_of};
-    ghost use Rattle.qos_order.specs.Wheel.{IsTurn, IsWheel, Turn, account_of, first_grant, opened, seat_of, turned};
+    ghost use Rattle.qos_order.specs.Wheel.{IsTurn, IsWheel, account_of, first_grant, opened, seat_of, turned};
 
     /// The wheel of these connections, in the order of their list, with accounts of zeros. `Memory`
     /// comes only where the list has no fault.

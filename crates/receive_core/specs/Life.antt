@@ -124,7 +124,8 @@ abbrev pub TakesEach : Type 0
 TakesEach = (T : Table) (life : Life) (r : Receiving) → Lives T life r → IsPartial r.fed.bytes
     → Reads 0 life.stream (frames_of life) life.fault
 
--- and while there is no fault, the stream is shorter than a hello, the frames that had their fates, and one more
+-- and while there is no fault, the stream is shorter than a hello, the frames that had their fates, and one more would
+-- be, each of the largest size
 abbrev pub StreamIsShort : Type 0
 StreamIsShort = (T : Table) (life : Life) (r : Receiving) → Lives T life r → IsPartial r.fed.bytes
     → life.fault ≡ None → length life.stream < (length life.fates + 2) * (HEADER_LEN + MAX_PAYLOAD)

@@ -52,7 +52,7 @@ pub fn a_drained_connection_is_settled()
     drains_settle();
 }
 
-/// A script has one history, with its loads and the calls that stand, never two: whole, and up to a sending that fails
+/// A script has one history at most, with its loads and the calls that stand: whole, and up to a sending that fails
 /// behind as many calls that were sent.
 pub fn one_follows()
     ensures whole { (s : Script) (end other : State) → IsScript s → Follows s end → Follows s other → end ≡ other }

@@ -12,8 +12,8 @@ pub const MAX_RING: u64 = 1024;
 /// The largest weight of a connection.
 pub const MAX_WEIGHT: u64 = 100;
 
-/// How many loads a run makes at most: its calls, each of a client counted twice for its reply, times the limit of one
-/// call.
+/// How many loads the service's copies may take at most: the calls of clients, each counted twice for its reply, times
+/// the limit of one call.
 pub const MAX_WORK: u64 = 16_777_216;
 
 /// How many steps an operator has at most, so that each number that a step raises stays in its range. No text of a

@@ -33,12 +33,12 @@ standing_lines c = all_told c.conn (course c)
 abbrev pub arrivals_text : Table → Judging → ℕ → List ArrivalLine → List ℕ
 arrivals_text T judging conn arrivals = flat_map (λ a. line (arrival_words T judging conn a)) arrivals
 
--- the numbers that were given back, and named no held block
+-- the numbers that came back and are told as not held
 abbrev pub not_held_text : ℕ → List ℕ → List ℕ
 not_held_text conn blocks = flat_map (λ block. line (not_held_words conn block)) blocks
 
--- Where a stream is cut: at its frame fault, or at the first byte of the frame that it has in part. A link that failed
--- cuts nothing.
+-- Where a stream is cut: at its frame fault, or, unless its link failed, at the first byte of the frame that it has in
+-- part.
 abbrev pub cut_text : (conn : ℕ) → (failed : Bool) → Option FeedFault → (place : ℕ) → (rest : List ℕ) → List ℕ
 cut_text conn failed (Some fault) place rest = line (cut_words conn fault)
 cut_text conn true None place rest = []

@@ -3,7 +3,6 @@
 ghost use Rattle.std.specs.Prelude.{◌≡◌, ◌<◌, All, IfOk, Some, length, map, slice_index_or};
 ghost use Rattle.run_text.specs.Fronts.{AreMade, CanMake, IsMade, Making, front_text, making_by, making_of};
 ghost use Rattle.run_text.specs.Told.{IsTellable};
-ghost use Rattle.run_text.specs.declared.fronts.Front.{Front as TheFront};
 
 use crate::arrived::append_arrivals;
 use crate::connection::append_history;

@@ -3,7 +3,6 @@
 ghost use Rattle.std.specs.Prelude.{◌≡◌, ◌≢◌, ◌-◌, ◌++◌, ℕ, List, None, OnOk, Some, length};
 ghost use Rattle.frame_transport.specs.Frames.{Splits};
 ghost use Rattle.frame_transport.specs.Feed.{total};
-ghost use Rattle.frame_transport.specs.declared.fault.FeedFault.TheVariants.{Memory as NoMemory};
 ghost use Rattle.frame_transport.specs.declared.format.Frame.{Frame as TheFrame};
 ghost use Rattle.receive_core.specs.Life.{Life as TheLife};
 ghost use Rattle.deliveries.specs.Arriving.{AreArriving, HaveLived};

@@ -30,9 +30,9 @@ pub struct RunText {
     pub totals: Totals,
 }
 
-/// What a run tells, of connections in this order, and behind them the counts of all lines. What is long of each
-/// connection is made, and its lines are counted, in a thread of its own, where one can be made. The only error is
-/// `Memory`.
+/// What a run tells, of connections in this order, behind them the accounts of their visits, and then the counts of all
+/// lines. What is long of each connection is made, and its lines are counted, in a thread of its own, where one can be
+/// made. The only error is `Memory`.
 pub fn run_text<R: Threads + Sync>(
     rt: &R,
     alloc: Global,

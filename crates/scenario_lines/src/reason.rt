@@ -6,7 +6,7 @@ ghost use Rattle.scenario_lines.specs.Reasons.{order_of};
 /// What is wrong with a line. Of several reasons, the first of this list counts.
 #[derive(Clone, Copy)]
 pub enum LineReason {
-    /// A number out of its range, counts of steps that fall, or too many stores.
+    /// A number out of its range, or too many stores or lines of a program.
     Number,
     /// A word that is no name of at most 64 bytes, where a name stands.
     Name,

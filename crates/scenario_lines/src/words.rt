@@ -4,7 +4,6 @@ ghost use Rattle.std.specs.Prelude.{◌≡◌, ◌≤◌, length, false, MatchRe
 ghost use Rattle.mrpc_table.specs.Lines.{words_of};
 ghost use Rattle.script_words.specs.Lines.{AreSaid};
 ghost use Rattle.script_words.specs.Meanings.{meanings_of};
-ghost use Rattle.script_words.specs.Rests.{words_in};
 ghost use Rattle.scenario_lines.specs.Judging.{is_no_name, lacks_name, ordered};
 ghost use Rattle.scenario_lines.specs.Lines.{WordsAgainst};
 ghost use Rattle.scenario_lines.specs.Reasons.{IsFirst};

@@ -103,14 +103,6 @@ module _ (all : Members) (declared : List NamedPolicy) (before : List Members) (
   key_late q (against.is_alone h is) = at_least q Pair 1 is (omega arith)
   key_late q (against.too_much h is) = at_least q Work 1 is (omega arith)
 
-  early_late : (q : ScenarioReason) → Early q → 2 ≤ order_of q
-  early_late q (inl (inl (inl (no_name n there h is)))) = at_least q Name 2 is (omega arith)
-  early_late q (inl (inl (inl (no_policy n there h is)))) = at_least q Unknown 2 is (omega arith)
-  early_late q (inl (inl (inr (h, is)))) = at_least q Known 2 is (omega arith)
-  early_late q (inl (inr (w, is_role, fails))) = at_least q (of_line fails.why) 2 fails.is (line_late fails.why)
-  early_late q (inr (inl gone)) = at_least q Schema 2 gone.is (omega arith)
-  early_late q (inr (inr (why, fails, is))) = at_least q (of_rule why) 2 is (rule_late why)
-
   early_soon : (q : ScenarioReason) → Early q → order_of q ≤ 10
   early_soon q (inl (inl (inl (no_name n there h is)))) = at_most q Name 10 is (omega arith)
   early_soon q (inl (inl (inl (no_policy n there h is)))) = at_most q Unknown 10 is (omega arith)

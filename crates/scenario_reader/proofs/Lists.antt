@@ -65,15 +65,6 @@ module _ {X Y : Type 0} (R : X → Y → Type 0) where
     | inr more ↦ (let r = each_of xs ys x e.1 more in (r.0, there_more z ys r.0 r.1, r.2))
   ]
 
-  pub each_from : (xs : List X) (ys : List Y) (y : Y) → Each R xs ys → Contains ys y → (x : X) × Contains xs x × R x y
-  each_from [] [] y e h = absurd (none_in y h)
-  each_from [] (z ∷ ys) y e h = absurd e
-  each_from (w ∷ xs) [] y e h = absurd e
-  each_from (w ∷ xs) (z ∷ ys) y e h = elim (there_cases z ys y h) [
-    | inl is ↦ (w, there_first w xs, subst (R w) is e.0)
-    | inr more ↦ (let r = each_from xs ys y e.1 more in (r.0, there_more w xs r.0 r.1, r.2))
-  ]
-
 -- ---- places
 
 module _ {X Z : Type 0} (f : X → Z) (p : Z → Bool) where

@@ -123,13 +123,6 @@ module _ (all : Members) (tables : List Members) (ms : Members) where
       )))
       head_from head_to
 
-  head_late : (q : ScenarioReason) → OperatorHeadFails all tables ms q → 2 ≤ order_of q
-  head_late q (in_lines (inl (line, why, there, fails, is))) = at_least q (of_line why) 2 is (line_late why)
-  head_late q (in_lines (inr (falls, is))) = at_least q Number 2 is (omega arith)
-  head_late q (too_many h is) = at_least q Number 2 is (omega arith)
-  head_late q (is_known h is) = at_least q Known 2 is (omega arith)
-  head_late q (no_policy name named none is) = at_least q Unknown 2 is (omega arith)
-
   head_soon : (q : ScenarioReason) → OperatorHeadFails all tables ms q → order_of q ≤ 10
   head_soon q (in_lines (inl (line, why, there, fails, is))) = at_most q (of_line why) 10 is (line_soon why)
   head_soon q (in_lines (inr (falls, is))) = at_most q Number 10 is (omega arith)

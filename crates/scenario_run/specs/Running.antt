@@ -31,7 +31,7 @@ use Rattle.service.specs.declared.served.ServedConn.{ServedConn}
 
 -- ---- what is told
 
--- the access policy by which an application's messages are judged, under its name
+-- the access policy by which what arrives for an application is judged, under its name
 abbrev pub named : List ℕ → AccessPolicy → List ℕ × AccessPolicy
 named name policy = (name, policy)
 
@@ -91,8 +91,9 @@ NeverFailed of_link s = of_link.faults s.link ≡ 0
 
 -- A run of a plan over a fabric that had some links back and has others now. Each connection of the plan was served, or
 -- left unbound for what its link gave; each two have the ends of one link; and the tickets of a tenant's window are 0,
--- 1, 2 and so on, each once. This is the text of these connections, by ascending number, and these are the counts of its
--- lines. The fabric has all their links back, of which one failed or none.
+-- 1, 2 and so on, each once, where they are fewer than 2^64. This is the text of these connections, by ascending number,
+-- and these are the counts of its lines. The fabric has all their links back, and it is said whether one of them
+-- failed.
 pub record HasRun {C L : Type 0} (of_clock : ClockMembers C) (of_link : LinkMembers L) (pair : L → L → Type 0)
     (plan : Plan) (clock : C) (back back' : List (ℕ × L)) (text : List ℕ) (totals : List (ℕ × Counts)) (failed : Bool)
     : Type 0 where

@@ -5,12 +5,11 @@ ghost use Rattle.std.specs.List.{AllZip};
 ghost use Rattle.std.specs.Option.{option_copied};
 ghost use Rattle.arrival_text.specs.Lines.{judging_of};
 ghost use Rattle.run_plan.specs.Plans.{IsPlan};
-ghost use Rattle.run_plan.specs.Ports.{application_in};
 ghost use Rattle.run_text.specs.Told.{IsTellable};
 ghost use Rattle.run_text.specs.declared.shown.Shown.{Shown as TheShown};
 ghost use Rattle.service.specs.declared.served.ServedConn.{ServedConn as TheConn};
-ghost use Rattle.scenario_run.specs.Running.{HasFailed, NeverFailed, Shows, ShowsBound, by_number, conn_in, judging_by, judging_on, rounds_in};
-ghost use Rattle.scenario_run.specs.Telling.{ArePartsOf, AreTellable, AreTold, CanTell, IsTellableBound, TellsFailure};
+ghost use Rattle.scenario_run.specs.Running.{Shows, ShowsBound, by_number, conn_in, judging_by, judging_on, rounds_in};
+ghost use Rattle.scenario_run.specs.Telling.{ArePartsOf, AreTold, CanTell, TellsFailure};
 
 use arrival_text::Judge;
 use link_greeting::Unbound;

@@ -1,5 +1,6 @@
--- When two tables agree on a service, and how they may not. Types, oneofs and fields are compared by what the canonical
--- text prints of them, so places in a table say nothing. The values of enums aren't compared.
+-- When two tables agree on a service, and how they may not. Under a hello of version 1 their texts are compared. Under
+-- one of version 2 the methods are, with their indices, and types, oneofs and fields by what the canonical text prints
+-- of them: other places in a table say nothing then, and the values of enums aren't compared.
 use Rattle.std.specs.Prelude.{◌≡◌, ◌≢◌, ◌⊎◌, ◌↔◌, ℕ, ◌≤◌, Bool, IsTrue, List, ◌++◌, codes, take, map, Contains, Option, Some, None, slice_get, if◌then◌else◌}
 use Rattle.std.specs.List.{filter_map, enumerate_from}
 use Rattle.std.specs.Str.{bytes_eq}

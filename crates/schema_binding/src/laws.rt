@@ -17,7 +17,7 @@ pub fn one_hello()
     table_or_fault();
 }
 
-/// Two valid tables agree on a service, or there is one reason why they don't, and never both. The call does nothing.
+/// Under version 1 or 2 two valid tables agree on a service, or for one reason not, never both. The call does nothing.
 pub fn one_agreement()
     ensures never_both { NeverAgreeAndRefuse }
     ensures once { RefuseOnce }

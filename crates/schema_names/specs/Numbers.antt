@@ -11,7 +11,7 @@ use Rattle.schema_names.specs.Scopes.{IsScope, Sort, a_message, an_enum}
 use Rattle.schema_names.specs.declared.named.Named.{Named}
 use Rattle.schema_names.specs.declared.named.Named.TheVariants.{Message, Enum}
 
--- messages and enums stand in files that are there, and in messages before them
+-- messages and enums stand in files that are there, messages in messages before them, enums in messages that are there
 pub record StandBehind (F : Joined) : Type 0 where
   pub messages : (i p : ℕ) (m : MessageDecl) → slice_get F.messages i ≡ Some m → m.parent ≡ Some p → p < i
   pub enums : (e : EnumDecl) (p : ℕ) → Contains F.enums e → e.parent ≡ Some p → p < length F.messages

@@ -1,5 +1,5 @@
--- The code's own: the names that files declare, each with the number of its scope. The methods of a service stand in a scope of their
--- own here, whose number is behind those of all scopes.
+-- The code's own: the names that files declare, each with the number of its scope. The methods of a service stand in a
+-- scope of their own here, whose number is behind those of all scopes.
 use Rattle.std.specs.Prelude.{◌≡◌, ◌⊎◌, ◌↔◌, ℕ, ◌+◌, ◌<◌, List, [], ◌∷◌, ◌++◌, map, length, Option, Some, slice_get, Contains}
 use Rattle.std.specs.Ordering.{nat_cmp, ordering_then}
 use Rattle.std.specs.Cmp.Lexicographic.{slice_cmp}

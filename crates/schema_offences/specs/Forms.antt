@@ -21,12 +21,12 @@ IsType F file scope name (Scalar k) = IsScalar name k
 IsType F file scope name (OfName n) =
     IsNoScalar name × ((full : List (List ℕ)) × Names F file scope name (sort_of n) full × IsFirstAt F file n full)
 
--- the code's own
+-- the code's own: it is a message
 abbrev pub is_message : TypeOf → Bool
 is_message (OfName (Message i)) = true
 is_message _ = false
 
--- the code's own
+-- the code's own: repeated values of it may stand packed
 abbrev pub is_packable : TypeOf → Bool
 is_packable (Scalar k) = is_numeric k
 is_packable (OfName (Message i)) = false

@@ -1,5 +1,5 @@
--- The code's own: how long full names and the lines of a table's text are, where no length is above the largest number of 64 bits, and
--- which lines were added up to a declaration.
+-- The code's own: how long full names and the lines of a table's text are, where no length is above the largest number
+-- of 64 bits, and which lines were added up to a declaration.
 use Rattle.std.specs.Prelude.{◌≡◌, ◌⊎◌, ℕ, pos, ◌+◌, ◌<◌, ◌≢◌, List, [], ◌∷◌, ◌++◌, codes, length, map, take, sum_by, Option, Some, None, slice_get, Contains, FitsSigned}
 use Rattle.std.proofs.Common.{suc, get_or}
 use Rattle.std.specs.Int.{w32}

@@ -2,7 +2,7 @@
 
 ghost use Rattle.std.specs.Prelude.{◌≡◌, ◌↔◌, ℕ, List, IsTrue, IfOk};
 ghost use Rattle.proto_file.specs.declared.file.Word.{Word};
-ghost use Rattle.schema_offences.specs.Members.{IsReservedName, IsLong, NameOffends};
+ghost use Rattle.schema_offences.specs.Members.{IsLong, NameOffends};
 ghost use Rattle.schema_offences.specs.Meeting.{Meets};
 ghost use Rattle.schema_offences.specs.ReservedNames.{KeepsNames, has_name};
 

@@ -14,7 +14,7 @@ pub enum ResolveReason {
     NumberRange,
     /// A field number that an earlier field of the message has.
     DuplicateNumber,
-    /// A name that an earlier thing of the scope has. The values of an enum stand in the scope of the enum.
+    /// A name that an earlier thing of its scope has (values stand beside their enum), or a type that fronts a package.
     DuplicateName,
     /// A number or a name of a field or of an enum's value that is reserved there.
     Reserved,

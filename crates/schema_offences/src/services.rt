@@ -7,7 +7,7 @@ ghost use Rattle.schema_names.specs.Scopes.{a_message, Names};
 ghost use Rattle.schema_names.specs.Numbers.{IsFirstAt};
 ghost use Rattle.schema_names.specs.declared.named.Named.TheVariants as named;
 ghost use Rattle.schema_offences.specs.Methods.{rpcs_of};
-ghost use Rattle.schema_offences.specs.Members.{IsNoMessage, IsLong, MethodOffends};
+ghost use Rattle.schema_offences.specs.Members.{IsNoMessage, MethodOffends};
 ghost use Rattle.schema_offences.specs.Meeting.{Meets, AtSome, OfElement, MethodIn, IsLongService, IsBadMessage, PackageIn, PackageOffends};
 
 use crate::first::First;

@@ -19,8 +19,8 @@ use std::alloc::Global;
 /// The table of files that are resolved together, or the offence that starts first: of several at one place, the first
 /// one in the list of [`ResolveReason`]. Without memory it answers `Memory`.
 ///
-/// The methods have indices from 0, along the files. An `optional` message is plain, and a repeated field of numbers is
-/// packed unless `packed = false` stands with it.
+/// The methods have indices from 0, along the files. An `optional` message is plain, and a repeated field of numbers,
+/// bools or enums is packed unless `packed = false` stands with it.
 ///
 /// [`ResolveReason`]: schema_offences::ResolveReason
 pub fn resolve_together(alloc: Global, files: &Joined<'_>) -> Result<Table, ResolveFault>

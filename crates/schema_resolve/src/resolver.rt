@@ -22,7 +22,7 @@ use std::alloc::Global;
 /// several at one place, the first one in the list of [`ResolveReason`]. Without memory it answers `Memory`.
 ///
 /// The methods have the indices of the file's order, from 0. An `optional` message is plain, and a repeated field of
-/// numbers is packed unless `packed = false` stands with it.
+/// numbers, bools or enums is packed unless `packed = false` stands with it.
 ///
 /// [`ResolveReason`]: schema_offences::ResolveReason
 pub fn resolve(alloc: Global, file: &File) -> Result<Table, ResolveFault>

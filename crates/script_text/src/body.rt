@@ -7,7 +7,7 @@ ghost use Rattle.script_words.specs.Meanings.{meanings_of};
 ghost use Rattle.script_words.specs.Sorts.{number_at};
 ghost use Rattle.script_text.specs.Stores.{drain_words, store_words, submit_words, turn_words};
 ghost use Rattle.script_text.specs.Words.{IsSaid};
-ghost use Rattle.script_text.specs.Keeping.{words_kept, links_kept, heap_kept, place_kept, load_kept, work_kept, policy_kept, kind_at, conn_said, store_said, race_said, submit_said, attaching, attach_said, detaching, detach_said, upgrading, upgrade_said, turn_said, moment_said, send_said, drain_said, line_said, IsMade, IsFreshBody, CanAdd, connections_after, submissions_after};
+ghost use Rattle.script_text.specs.Keeping.{words_kept, heap_kept, place_kept, load_kept, work_kept, policy_kept, kind_at, conn_said, store_said, race_said, submit_said, attaching, attach_said, detaching, detach_said, upgrading, upgrade_said, turn_said, moment_said, send_said, drain_said, line_said, IsMade, IsFreshBody, CanAdd, connections_after, submissions_after};
 
 use crate::chain::{Kind, Link};
 use crate::connections::Connections;

@@ -43,11 +43,11 @@ enum Stop {
 
 /// The script that a text spells, each byte of it.
 ///
-/// A text (this project's own format; the manual's "Scripts") begins with `mrpc-replay 1`, with `loads N` where the
-/// limit of loads isn't 1024, and with `table`. Then come the canonical text of a table, `end`, and lines that declare
-/// something or do something, the last of which is `close`. Behind the table empty lines and lines that begin with `#`
-/// say nothing. Each line ends with a line feed. Reading takes time in proportion to the text, but for the search of
-/// policies by their names.
+/// A text (this project's own format; the manual's "Scripts") begins with `mrpc-replay 1`, with `loads N` or, where
+/// the limit of loads is 1024, without, and with `table`. Then come the canonical text of a table, `end`, and lines that
+/// declare something or do something, the last of which is `close`. Behind the table empty lines and lines that begin
+/// with `#` say nothing. Each line ends with a line feed. Reading takes time in proportion to the text, but for the
+/// search of policies by their names.
 ///
 /// # Errors
 ///

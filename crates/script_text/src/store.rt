@@ -4,7 +4,6 @@
 ghost use Rattle.std.specs.Prelude.{◌≡◌, ◌∷◌, true, IfSome};
 ghost use Rattle.std.specs.Char.{is_ascii_digit};
 ghost use Rattle.std.specs.List.{list_all};
-ghost use Rattle.mrpc_table.specs.Lines.{is_decimal};
 ghost use Rattle.script_words.specs.declared.form.Form.TheVariants.{Store as StoreForm};
 ghost use Rattle.script_text.specs.Stores.{store_words, IsNumberBefore, SaysInFront};
 

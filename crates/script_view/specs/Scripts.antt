@@ -26,7 +26,7 @@ pub record FitsReplay (body : List ℕ) (made : Made) : Type 0 where
   pub short : length body ≤ MAX_BODY
   pub few : made.calls * made.loads ≤ MAX_WORK
 
--- the script of an input makes all its frames, in order, within the limits of a replay
+-- the script of an input makes all its frames but hellos, in order, within the limits of a replay
 pub record IsScriptOf (text script : List ℕ) : Type 0 where
   pub table : Table
   pub stream : List ℕ

@@ -17,7 +17,7 @@ use spare_trees::Spare;
 use std::alloc::Global;
 use table_lines::table_text;
 
-/// The script whose replay sends the frames of an input, each with the encoding of its message.
+/// The script that stores, submits and sends the message of each frame of an input but hellos.
 pub fn script_of(alloc: Global, text: &[u8]) -> Result<Bytes, ReadFault>
     requires short { length text.now < 2 ^ 63 }
     ensures script { IfOk result (IsScriptOf text.now) }

@@ -69,8 +69,8 @@ pub record WasRefused {L : Type 0} (of_link : LinkMembers L) (plan : Plan) (app 
 
 -- A connection was bound, and began so: by the hello with which what its link gave begins, behind which its receiver
 -- lives on with what came after it; with its own hello handed over, and no fault of its link; with the steps of
--- operators that the plan has for it, the policy by which its application's messages are judged, a new heap for these,
--- and seats of all tenants, which drew nothing.
+-- operators that the plan has for it, the policy by which what arrives for its application is judged, a new heap for
+-- that, and seats of all tenants, which drew nothing.
 pub record WasBound {C L : Type 0} (of_link : LinkMembers L) (plan : Plan) (clock : C) (app : Application) (start : L)
     (opening : Opening C L) : Type 0 where
   pub its_plan : opening.plan ≡ plan

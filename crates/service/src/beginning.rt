@@ -3,17 +3,15 @@
 ghost use Rattle.std.specs.Prelude.{◌≡◌, ◌≢◌, ◌<◌, ◌≤◌, [], ◌∷◌, ◌++◌, All, Contains, IfOk, List, OnOk, Some, length, map, slice_get};
 ghost use Rattle.std.specs.List.{AllZip};
 ghost use Rattle.mrpc_table.specs.declared.limits.TheConstants.{MIN_HEAP};
-ghost use Rattle.tenant_quota.specs.Drawing.{Drawing, WasSplit, kept_half, new_half};
+ghost use Rattle.tenant_quota.specs.Drawing.{Drawing, new_half};
 ghost use Rattle.receive_core.specs.Life.{Life as TheLife};
 ghost use Rattle.deliveries.specs.Arriving.{HaveLived};
 ghost use Rattle.run_plan.specs.Plans.{IsPlan};
 ghost use Rattle.service_loop.specs.Steps.{AreSteps, KnowTenants};
-ghost use Rattle.service_wiring.specs.Wired.{IsWired};
 ghost use Rattle.worker_pool.specs.declared.limits.TheConstants.{MOST_ITEMS};
 ghost use Rattle.service_wiring.specs.Weighing.{GoesBy};
 ghost use Rattle.service.specs.Ends.{Opened};
 ghost use Rattle.service.specs.Greeted.{WasGreeted};
-ghost use Rattle.service.specs.Prepared.{HasSteps};
 ghost use Rattle.service.specs.Standing.{AllBegun, HaveBegun, HaveStepsAt, TookUp};
 
 use crate::greeting::Greeted;

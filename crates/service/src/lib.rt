@@ -9,7 +9,7 @@
 //! The layer above uses one contract: of each connection of the plan, in the order of its links, [`serve`] gives back
 //! what a run did on it (`WasServed`): that it was not bound, for the cause that its link shows, or that it was, and
 //! then what it did from its hello on. Each two in turn have the ends of one link, and over all of them the tickets of a
-//! tenant's window are 0, 1, 2 and so on, each once.
+//! tenant's window are 0, 1, 2 and so on, each once, where they are fewer than 2^64.
 #![tactic(auto)]
 
 mod beginning;

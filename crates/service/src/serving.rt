@@ -58,12 +58,12 @@ pub fn serve<'t, R: Threads + Wait + Sync, F: Fabric, C: Clock, G: Gate, O: Read
     // Each two in turn have the ends of one link.
     ensures pairs { IfOk result (λ served. ArePairs (λ s. s.link) F.pair served.conns.items) }
 
-    // The tickets of a tenant's window are 0, 1, 2 and so on, each once.
+    // The tickets of a tenant's window are 0, 1, 2 and so on, each once, where they are fewer than 2^64.
     ensures tickets { IfOk result (λ served. (tenant window : ℕ) → tenant < length plan.now.declared.tenants
         → window < WINDOWS → length (all_tickets tenant window served.conns.items) < 2 ^ 64
         → EachOnce (all_tickets tenant window served.conns.items)) }
 
-    // The fabric has no link back, and those that it gave away are here.
+    // The fabric got no link back, and as many more are away as there are connections here.
     ensures away { IfOk result (λ served. F.away fabric.new ≡ F.away fabric.old + length served.conns.items) }
     ensures back { F.back fabric.new ≡ F.back fabric.old }
     ensures cause { HasCause (IsErrOf result ServeFault.Fabric) (F.faults fabric.old) (F.faults fabric.new) }

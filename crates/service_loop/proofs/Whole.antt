@@ -1,5 +1,5 @@
 -- What holds of a connection holds again behind each part of a round.
-use Rattle.std.proofs.Common.{◌≡◌, ◌≢◌, ◌≤◌, ◌<◌, ◌^◌, ◌⊎◌, inl, inr, ℕ, Bool, true, false, List, [], ◌++◌, length}
+use Rattle.std.proofs.Common.{◌≡◌, ◌≢◌, ◌≤◌, ◌<◌, ◌^◌, ◌⊎◌, inl, inr, ℕ, Bool, true, false, List, [], length}
 use Rattle.std.proofs.Common.{refl, sym, subst, ◌∙◌, append-nil}
 use Rattle.std.specs.Prelude.{All, IsTrue}
 use Rattle.mrpc_base.specs.Faults.{HasCause}
@@ -78,20 +78,6 @@ module _ {C Q L : Type 0} (clock : ClockMembers C) (quotas : TicketMembers Q) (l
         → new.deliveries.arrivals.stream ≡ old.deliveries.arrivals.stream
     pub handed : link.handed new.link ≡ link.handed old.link
     pub tickets : new.tickets ≡ old.tickets
-
-  pub delivering-on : (old new : Endpoint C Q L) → IsWhole clock quotas link old → HasDelivered old new
-      → AreDelivering new.deliveries
-  delivering-on old new h d =
-      let w = h.delivering in
-      let on = d.on w.0 w.1 w.2 w.3 in
-      (on.later, w.1 ++ on.more, w.2 ++ on.gained, on.delivered)
-
-  pub ended-on : (old new : Endpoint C Q L) → IsWhole clock quotas link old → HasDelivered old new
-      → new.submissions.conn.ended ≡ true → CountsAsEnded new.deliveries.arrivals
-  ended-on old new h d is = elim d.ends [
-    | inl same ↦ d.over (h.ended (sym same.0 ∙ is))
-    | inr failed ↦ inl (failed-ended new.deliveries.arrivals.stream failed.1)
-  ]
 
   pub failed-on : (old new : Endpoint C Q L) → HasDelivered old new → new.deliveries.arrivals.stream ≡ Failed
       → new.submissions.conn.ended ≡ true

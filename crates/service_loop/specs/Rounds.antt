@@ -49,8 +49,8 @@ GrantsShare grant_of e = IfSome e.share (λ share. (kept : ℕ)
 -- The members of traits say what a clock gives, what quotas know and drew, and what a link was handed, gave and counted.
 module _ {C Q L : Type 0} (of_clock : ClockMembers C) (of_quotas : TicketMembers Q) (of_link : LinkMembers L) where
   -- What holds of a connection between two rounds. The calls are served as far as they have come, and each moment is the
-  -- clock's; what was delivered is what came. The connection has ended exactly where its link failed, and then nothing
-  -- more is received.
+  -- clock's; what was delivered is what came. The connection has ended where its stream failed, and where it has ended
+  -- nothing more is received.
   pub record IsWhole (e : Endpoint C Q L) : Type 0 where
     pub served : IsServed e.submissions
     pub known : KnowTenants (of_quotas.knows e.tickets) e.submissions.steps.now
@@ -87,7 +87,7 @@ module _ {C Q L : Type 0} (of_clock : ClockMembers C) (of_quotas : TicketMembers
     pub stays_ended : old.submissions.conn.ended ≡ true → new.submissions.conn.ended ≡ true
     pub delivers : DeliversOn (of_link.given old.link) (of_link.given new.link) old.deliveries new.deliveries
 
-  -- it is over: its application's rings were taken to their closings, its link was finished, and the rings of notices
+  -- it is over: its application's rings were taken to their closings, the last drain is done, and the rings of notices
   -- were closed
   pub record IsOver (e : Endpoint C Q L) : Type 0 where
     pub finished : e.submissions.finished ≡ true

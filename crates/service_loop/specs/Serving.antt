@@ -12,7 +12,8 @@ use Rattle.service_loop.specs.declared.due_step.DueStep.{DueStep}
 use Rattle.service_loop.specs.declared.submissions.Submissions.{Submissions}
 
 -- As far as the calls of a connection have come: their loads are those of the reader, they are the submissions that
--- were taken from the ring, and the steps of operators that came are the first ones, each in its place.
+-- were taken from the ring, all or, where it has ended, the first ones, and the steps of operators that came are the
+-- first ones, each in its place.
 pub record Serves (conn : Connection) (reader : Reading) (ring : Receiving) (steps : List DueStep)
     (applied accepted : ℕ) : Type 0 where
   pub least_heap : MIN_HEAP ≤ reader.heap.words

@@ -97,8 +97,8 @@ impl<'t> Deliveries<'t> {
         ensures on { OnOk result (DeliversOn (L.given link.old) (L.given link.new) self.old self.new) }
         ensures same { AreSameDeliveries self.old self.new }
 
-        // The link counts as failed where its count of faults rises, and as ended where it told so. Then nothing more is
-        // received.
+        // The link counts as failed where its count of faults rises, and as ended where it told so. What counts as ended
+        // goes on so.
         ensures cause { OnOk result (HasCause
             ((self.old.arrivals.stream ≢ Stream.Failed) × (self.new.arrivals.stream ≡ Stream.Failed))
             (L.faults link.old) (L.faults link.new)) }

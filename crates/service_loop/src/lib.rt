@@ -8,9 +8,9 @@
 //! rings, has no lock, and may be driven by any loop. It stands on `conn_core`, `deliveries`, `shared_heap` and
 //! `descriptor_ring`. The layers above use one contract: what `specs/Rounds.antt` says of a connection holds between
 //! rounds, and a connection later on has gone on from what it was. As far as it has come, the history is legal, its loads
-//! are those of the reader and fresh, its calls are those of the ring, all and in order, the steps came where they were
-//! due, each moment is the clock's, what the link was handed is the frames of the history, and each line of an arrival is
-//! the fate of a frame that the link gave.
+//! are those of the reader and fresh, its calls are those of the ring, in order, all or, where it has ended, the first
+//! ones, the steps came where they were due, each moment is the clock's, what the link was handed is the frames of the
+//! history, and each line of an arrival is the fate of a frame that the link gave.
 #![tactic(auto)]
 
 mod activity;

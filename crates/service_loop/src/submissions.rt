@@ -129,7 +129,7 @@ impl<'t> Submissions<'t> {
         ensures served { result ≢ Activity.Memory → IsServed self.new }
         ensures same { AreSameSubmissions self.old self.new }
 
-        // Its moment is the clock's, and the call that it takes is taken then.
+        // Its moment is the clock's, and no call is taken before the clock's least one.
         ensures moments { result ≢ Activity.Memory → All (C.gives clock.now) (moments_in (behind self.old.conn))
             → All (C.gives clock.now) (moments_in (behind self.new.conn)) }
         ensures least { result ≢ Activity.Memory

@@ -33,7 +33,7 @@ use Rattle.service_run.specs.declared.served.BoundConn.{BoundConn}
 
 -- ---- the application
 
--- these stores were made, and these calls submitted; of them the service knows and took all, and these blocks came back
+-- these stores were made, these calls submitted, of which the service took all, and these numbers of blocks came back
 pub record HasMade (stores : List (ℕ × ℕ)) (calls : List Submission) (blocks : List ℕ) (b : BoundConn) : Type 0 where
   pub stored : b.note.stores ≡ stores
   pub submitted : map submission_of b.submissions.calls.taken ≡ calls
@@ -119,8 +119,8 @@ module _ {C L : Type 0} (of_clock : ClockMembers C) (of_link : LinkMembers L) wh
     pub table : b.submissions.conn.table ≡ table_of opening.plan opening.app
     pub limit : b.submissions.conn.limit ≡ opening.plan.loads
     pub steps : b.submissions.steps.now ≡ opening.begun.steps
-    -- its calls are those that its application submitted, all and in order, its loads are fresh, and the steps of
-    -- operators came where they were due, all of them
+    -- its calls are those that its application submitted, in order, all of them or, where it has ended, the first ones;
+    -- its loads are fresh, and the steps of operators came where they were due, all of them
     pub served : IsServed b.submissions
     pub finished : b.submissions.finished ≡ true
     pub known : b.submissions.reader.known ≡ b.note.stores

@@ -147,20 +147,6 @@ module _ (plan : Plan) (app : Application) where
   next-step later i step within here =
       rw add-one (drop-cons later i step within ∙ ap (λ (x : Step). x ∷ drop (suc i) later) (sym here))
 
-  pub listed-step : (steps : List DueStep) (later : List Step) (i : ℕ) (due : DueStep) (step : Step)
-      → i < length later → step ≡ get_or later i step → due.count ≡ step.count
-      → op_of plan app step.line ≡ Some due.step
-      → AreListed plan app steps (lines_of (drop i later)) (counts_of (drop i later))
-      → AreListed plan app (steps ++ due ∷ []) (lines_of (drop (i + 1) later)) (counts_of (drop (i + 1) later))
-  listed-step steps later i due step within here count is h =
-      let rest = drop (i + 1) later in
-      let left : AreListed plan app steps (step.line ∷ lines_of rest) (step.count ∷ counts_of rest) =
-      subst (λ (xs : List Step). AreListed plan app steps (lines_of xs) (counts_of xs))
-      (next-step later i step within here) h in
-      let counted : AreListed plan app steps (step.line ∷ lines_of rest) (due.count ∷ counts_of rest) =
-      subst (λ (n : ℕ). AreListed plan app steps (step.line ∷ lines_of rest) (n ∷ counts_of rest)) (sym count) left in
-      listed-one plan app steps step.line (lines_of rest) due.count (counts_of rest) due.step counted is
-
   pub step-there : IsApplication plan app → (steps : List DueStep) (later : List Step) (i : ℕ) (step : Step)
       (counts : List ℕ) → i < length later → step ≡ get_or later i step
       → AreListed plan app steps (lines_of (drop i later)) counts → IsSome (op_of plan app step.line)

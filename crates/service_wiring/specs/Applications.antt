@@ -48,7 +48,7 @@ module _ {F : Type 0} (port : AppPort F) (end : AppEnd) (left : AppSent) where
         (blocks_of end.notices.taken end.blocks.taken) left
     pub reader : end.reader ≡ port.reader
 
-  -- An echo replies to the requests that it is told of with their own messages.
+  -- An echo replies to requests that it is told of with their own messages, where they have a reply.
   pub record DidEcho (T : Table) : Type 0 where
     pub echoed : Echoed (record {
       table = T;
@@ -73,7 +73,7 @@ pub record HasDone (job : Job) (end : AppEnd) (left : AppSent) : Type 0 where
   pub all : TookAll end
   pub did : Did job.role.now job.table.now job.port end left
 
--- what it left, of its port's heaps and rings; unless the run was stopped, it came to its end
+-- what it left, of its port's heaps and rings; unless it found no memory or the run was stopped, it came to its end
 pub record IsEndOf (job : Job) (end : AppEnd) : Type 0 where
   pub of_port : IsOfPort job.port end
   pub done : IfSome end.sent (HasDone job end)

@@ -1,13 +1,13 @@
 //! How a connection, its application and its link are put together.
 
 ghost use Rattle.std.specs.Prelude.{◌≡◌, ◌≢◌, ◌<◌, ◌≤◌, [], Contains, IfOk, length};
-ghost use Rattle.mrpc_table.specs.declared.limits.TheConstants.{MAX_HEAP, MIN_HEAP};
+ghost use Rattle.mrpc_table.specs.declared.limits.TheConstants.{MIN_HEAP};
 ghost use Rattle.receive_core.specs.Life.{Life as TheLife};
 ghost use Rattle.deliveries.specs.Arriving.{AreSame, HaveLived};
-ghost use Rattle.run_plan.specs.Plans.{IsApplication, IsPlan};
+ghost use Rattle.run_plan.specs.Plans.{IsPlan};
 ghost use Rattle.service_loop.specs.Steps.{AreSteps, KnowTenants};
 ghost use Rattle.service_wiring.specs.Weighing.{GoesBy, share_in};
-ghost use Rattle.service_wiring.specs.Wired.{Beginning, IsWired};
+ghost use Rattle.service_wiring.specs.Wired.{IsWired};
 
 use crate::applications::Job;
 use crate::common::Common;

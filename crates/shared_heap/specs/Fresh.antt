@@ -47,7 +47,7 @@ AreNumbered loads stores = (numbers : List ℕ) × IsNonDecreasing numbers × Al
 abbrev pub Fresh : List CallLoads → List (ℕ × ℕ) → Type 0
 Fresh calls stores = AreNumbered (loads_of calls) stores
 
--- a load of a call is one that a reader made, which then knew as many stores as the call is after
+-- a load of a call is one that a reader made, which then knew at least as many stores as the call is after
 pub record IsMade (load made : Load) : Type 0 where
   pub place : load.place ≡ made.place
   pub value : load.value ≡ made.value

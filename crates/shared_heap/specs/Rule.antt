@@ -1,5 +1,5 @@
--- The code's own: the rule of a heap's table, and what each step tells. The words are those of one list of stores, of which each seat
--- knows a front.
+-- The code's own: the rule of a heap's table, and what each step tells. The words are those of one list of stores, of
+-- which each seat knows a front.
 use Rattle.std.specs.Prelude.{◌≡◌, ◌<◌, ◌||◌, ℕ, Bool, true, false, List, [], ◌∷◌, ◌++◌, length, slice_index}
 use mathlib.Core.Option.{some}
 use lib.ListN.{get_elem?}

@@ -3,7 +3,7 @@
 ghost use Rattle.std.specs.Prelude.{◌≡◌, ◌++◌, ◌∷◌, ◌==◌, ◌&&◌, ℕ, [], List, length, IfOk, IfSome, MatchOption};
 ghost use Rattle.mrpc_table.specs.Lines.{words_of};
 ghost use Rattle.mrpc_table.specs.Names.{is_name_form, is_full_form};
-ghost use Rattle.table_lines.specs.Lines.{line_of_words, line_of, enum_of, value_of, message_of, field_of, method_of};
+ghost use Rattle.table_lines.specs.Lines.{line_of, enum_of, value_of, message_of, field_of, method_of};
 
 use crate::line::{FieldLine, Line, MethodLine};
 use crate::words::{full_name_of, index_of, kind_of, label_of, name_of, whole_of};

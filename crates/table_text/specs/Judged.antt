@@ -1,5 +1,5 @@
--- The code's own: the tests by which a line of a table's text is judged while it is read, over what the lines before it left: the first
--- fault that they find is the first one of the text.
+-- The code's own: the tests by which a line of a table's text is judged while it is read, over what the lines before it
+-- left: the first fault that they find is the first one of the text.
 use Rattle.std.specs.Prelude.{◌≡◌, ℕ, ℤ, pos, ◌+◌, ◌-◌, ◌<◌, ◌==◌, nat_lt, nat_le, Bool, true, false, not, ◌&&◌, ◌||◌, if◌then◌else◌, List, [], ◌∷◌, ◌++◌, codes, length, take, map, Option, Some, None, slice_get}
 use Rattle.std.specs.List.{list_any, filter_map, fold}
 use Rattle.std.specs.Option.{option_map_or}

@@ -1,6 +1,6 @@
--- The code's own: the types by which the lines of a text are judged while it is read (this project's own). None is read behind the line
--- that passes the largest size of a text. So the types that the lines up to it name, and of those that later lines name
--- the ones that they use, are as good as all the types of the text.
+-- The code's own: the types by which the lines of a text are judged while it is read (this project's own). None is read
+-- behind the line that passes the largest size of a text. So the types that the lines up to it name, and of those that
+-- later lines name the ones that they use, are as good as all the types of the text.
 use Rattle.std.specs.Prelude.{◌≡◌, ℕ, ◌<◌, List, [], ◌∷◌, ◌++◌, codes, Option, Some, None, option_and_then, if◌then◌else◌, slice_get}
 use Rattle.std.specs.List.{filter_map, flat_map}
 use Rattle.mrpc_table.specs.Lines.{whole_lines}

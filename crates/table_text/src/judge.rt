@@ -3,10 +3,9 @@
 ghost use Rattle.std.specs.Prelude.{◌≡◌, ◌<◌, ◌++◌, ◌∷◌, ℕ, [], length, not, IfOk, OnOk, Some};
 ghost use Rattle.mrpc_table.specs.Names.{is_short, is_short_full};
 ghost use Rattle.mrpc_table.specs.Words.{is_numeric, is_key};
-ghost use Rattle.table_text.specs.Faults.{is_packable, is_key_kind};
-ghost use Rattle.table_text.specs.Judged.{Types, clashes, is_message_word, is_short_kind, is_short_label, is_within, has_field_number, is_index, has_short_names, is_full, is_limit, is_map_key, is_unknown_kind, is_unknown_label, is_unknown, is_syntax, is_number, is_duplicate, line_fault};
-ghost use Rattle.table_text.specs.Drafts.{before, method_names, enum_names, message_names};
-ghost use Rattle.table_text.specs.Places.{Holds};
+ghost use Rattle.table_text.specs.Faults.{is_key_kind};
+ghost use Rattle.table_text.specs.Judged.{clashes, is_short_kind, is_short_label, has_field_number, is_index, has_short_names, is_full, is_limit, is_map_key, is_syntax, is_number};
+ghost use Rattle.table_text.specs.Drafts.{before};
 
 use crate::draft::Draft;
 use mrpc_table::{

@@ -1,11 +1,11 @@
 //! A draft with the names that were met.
 
 ghost use Rattle.std.specs.Prelude.{◌≡◌, ◌++◌, ◌∷◌, ℕ, List, [], length, IfOk, IfErr, OnOk, Some, None};
-ghost use Rattle.table_lines.specs.declared.line.Line.TheVariants.{Enum, Value, Message as MessageLine, Field as FieldOf, Method as MethodOf};
-ghost use Rattle.table_text.specs.Judged.{Types, none_before, is_type_before, is_value_before, is_field_before, method_key, is_unknown_kind, is_unknown_label, is_unknown, is_duplicate, line_fault, end_fault};
+ghost use Rattle.table_lines.specs.declared.line.Line.TheVariants.{Enum, Value};
+ghost use Rattle.table_text.specs.Judged.{Types, is_type_before, is_value_before, is_field_before, method_key, is_unknown_kind, is_unknown_label, is_unknown, is_duplicate, line_fault, end_fault};
 ghost use Rattle.table_lines.specs.Lines.{line_of};
 ghost use Rattle.table_text.specs.Drafts.{Blames, added_line, table_of, before, open_part, empty_draft, resolved, labeled, joined_with, new_oneof, oneofs_of, field_of, method_of, added, added_enum, added_message, added_value, added_field, added_method};
-ghost use Rattle.table_text.specs.Places.{place, Holds};
+ghost use Rattle.table_text.specs.Places.{Holds};
 ghost use Rattle.table_text.specs.Readers.{IsKept};
 
 use crate::draft::{Draft, Open};

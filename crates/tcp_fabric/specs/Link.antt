@@ -31,12 +31,13 @@ pub record LinkEnd : Type 0 where
 abbrev pub ArePair : LinkEnd → LinkEnd → Type 0
 ArePair a b = (a.local ≡ b.peer) × (b.local ≡ a.peer)
 
--- the socket took the frames that were handed over, one behind another, and more only where a frame was cut
+-- a socket that tells its bytes took the frames that were handed over, one behind another, and more only where a frame
+-- was cut
 pub record SendsInOrder (end : LinkEnd) : Type 0 where
   pub front : IfSome end.sent (λ bytes. IsPrefix (concat end.handed) bytes)
   pub whole : end.outgoing ≢ Cut → IfSome end.sent (λ bytes. bytes ≡ concat end.handed)
 
--- what the socket gave was received, in order and once, or waits
+-- what a socket that tells its bytes gave was received, in order and once, or waits
 abbrev pub GivesInOrder : LinkEnd → Type 0
 GivesInOrder end = IfSome end.came (λ bytes. bytes ≡ end.given ++ end.waiting)
 

@@ -117,8 +117,8 @@ impl<'r, R, S: Socket + Drop> SocketLink<'r, R, S> {
         &self.wire.socket
     }
 
-    /// A law, of each moment: what the socket took are the frames that were handed over, and what it gave was received
-    /// or waits, both in order and once.
+    /// A law, of each moment, of a socket that tells its bytes: it took the frames that were handed over, and more only
+    /// where a frame was cut; what it gave was received or waits; both in order and once.
     pub fn is_in_order(&self)
         ensures sends { SendsInOrder self.now }
         ensures gives { GivesInOrder self.now }

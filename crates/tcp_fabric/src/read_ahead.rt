@@ -1,7 +1,7 @@
 //! Bytes that were read from a socket before they were asked for.
 
 ghost use Rattle.std.specs.Prelude.{◌≡◌, ◌≢◌, ◌<◌, ◌≤◌, ◌+◌, [], ◌++◌, ◌==◌, length, min, take, drop};
-ghost use Rattle.mrpc_base.specs.Linking.{OnCame, OnNoneCame};
+ghost use Rattle.mrpc_base.specs.Linking.{OnNoneCame};
 ghost use Rattle.tcp_fabric.specs.Link.{Receives};
 
 use crate::Socket;

@@ -1,4 +1,5 @@
--- The code's own: the rule of a quota's table, and what each step tells. A window's word is the number of its draws modulo 2^64.
+-- The code's own: the rule of a quota's table, and what each step tells. A window's word is the number of its draws
+-- modulo 2^64.
 use Rattle.std.specs.Prelude.{◌≡◌, ℕ, ◌+◌, ◌-◌, ◌/◌, ◌%◌, ◌^◌, ◌<◌, ◌≤◌, List, [], ◌∷◌, ◌++◌, length, slice_index, sum_by, flat_map}
 use mathlib.Core.Option.{some}
 use lib.ListN.{get_elem?}

@@ -41,8 +41,8 @@ impl Model for Seat {
 }
 
 impl Seat {
-    /// Draws a ticket in a window, which is counted from 0: the number of the window's draws before, modulo 2^64. It
-    /// waits for nobody and takes no memory.
+    /// Draws a ticket in a window, which is counted from 0, and keeps it among the seat's draws. Which tickets there are
+    /// is told by [`Seat::tickets_are_distinct`]. It waits for nobody and takes no memory.
     pub fn draw(&mut self, window: u64) -> u64
         requires { window < self.old.quota.words }
 
@@ -92,15 +92,15 @@ impl Seat {
     }
 
     /// The law of tickets: where a seat has all shares, the tickets of each window are 0, 1, 2 and so on, each once,
-    /// if they are fewer than 2^64. They are all that were drawn from the quota.
+    /// if they are fewer than 2^64.
     pub fn tickets_are_distinct(&self)
         ensures { self.now.share ≡ all_shares → AllOnce self.now.quota.words self.now.draws }
     {
         let _ = &self.seat;
     }
 
-    /// The law of a cap: of all tickets of a window, no more than `cap` are below it, so that one cap over all seats
-    /// allows no more calls than it says.
+    /// The law of a cap: where a seat has all shares and a window has fewer than 2^64 tickets, no more than `cap` of them
+    /// are below it, so that one cap over all seats allows no more calls than it says.
     pub fn cap_is_kept(&self, window: u64, cap: u64)
         requires { window < self.now.quota.words }
         ensures { self.now.share ≡ all_shares → length (tickets_in window self.now.draws) < 2 ^ 64

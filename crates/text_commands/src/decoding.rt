@@ -9,7 +9,6 @@ ghost use Rattle.frame_transport.specs.Standing.{frame_of};
 ghost use Rattle.frame_transport.specs.declared.format.TheConstants.{HELLO};
 ghost use Rattle.text_commands.specs.DecodeInput.{OnFault};
 ghost use Rattle.text_commands.specs.Decoding.{IsLineOf, IsFaultIn, IsFaultOfHeader, IsDecoded, IsCutAt, hello_line, call_line};
-ghost use Rattle.frame_transport.specs.Messages.{message_in};
 ghost use Rattle.text_commands.specs.Telling.{Tells, TellsEarly};
 
 use crate::laws::{frame_law, meaning_law};

@@ -51,7 +51,8 @@ fate_word was_sent = codes "sent"
 fate_word (was_refused cause) = codes "refused"
 fate_word stands = codes "stands"
 
--- the bar of a call, from where it was taken to where it ends, with its number; and what is shown where somebody points at it
+-- the bar of a call, from where it was taken to where it ends, with its number; and what is shown where somebody points
+-- at it
 unfoldable pub rect_text : (lane : ℕ) → Bar → List ℕ
 rect_text lane b = svg (
     text (codes "<rect class=\"") ∷ text (fate_word b.end.fate) ∷ text (codes "\" x=\"") ∷ number (x_of b.from)

@@ -35,8 +35,8 @@ pub fn copy_message(
     requires least_limit { 1 ≤ limit }
     requires greatest_limit { limit ≤ MAX_LOADS }
 
-    // A graph that stands after so many stores as the reader knows, and to which no later store goes, whatever list of
-    // stores goes on from what the reader knows now, is copied, by as many loads as it has words.
+    // A sound graph within the limit that stands after so many stores as the reader knows, and to which no later store
+    // goes, whatever list of stores goes on from what the reader knows now, is copied, by a load of each word.
     ensures untouched { (P : Placed) (all : List (ℕ × ℕ)) (after : ℕ)
         → IsSound table.now reader.old.heap.words msg addr P → length (loads P) ≤ limit
         → BeginsWith all reader.new.known → after ≤ length reader.old.known → StandsUntouched all after P

@@ -41,7 +41,7 @@ pub fn run_view<S: Source, K: Sink, E: Sink>(
     ensures faulty { (view : View) → Names words.now.items view → result ≡ FAULTY_INPUT
         → IsRefused view (S.left input.old) (S.left input.new) (K.written out.old) (K.written out.new) }
 
-    // Each device is answered for by its own status.
+    // The input and the output are each answered for by a status.
     ensures input_cause { HasCause (result ≡ INPUT_FAILED) (S.faults input.old) (S.faults input.new) }
     ensures out_cause { HasCause (result ≡ OUTPUT_FAILED) (K.faults out.old) (K.faults out.new) }
     ensures unread { result ≡ INPUT_FAILED → out.new ≡ out.old }

@@ -15,7 +15,7 @@ abbrev pub IsAllOf : Option (List ℕ) → List ℕ → Type 0
 IsAllOf None text = Unit {0}
 IsAllOf (Some bytes) text = bytes ≡ text
 
--- the text is all that the input had left, and no longer than an input may be
+-- the text is all that the input had left, where it tells that, and no longer than an input may be
 pub record IsInput (left : Option (List ℕ)) (text : List ℕ) : Type 0 where
   pub all : IsAllOf left text
   pub short : length text ≤ INPUT_LIMIT

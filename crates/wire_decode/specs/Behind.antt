@@ -13,13 +13,13 @@ overtakes Nothing number = false
 overtakes (Only other) number = not (other == number)
 overtakes Several number = true
 
--- With a record of the member `added` in front, each other member is overtaken, and besides those that were before.
+-- With a record of the member `added` in front, each other member is overtaken, and each that was before.
 abbrev pub IsInFront : Behind → ℕ → Behind → Type 0
 IsInFront behind added whole = (number : ℕ)
     → overtakes whole number ≡ (not (added == number) || overtakes behind number)
 
--- The list has for each oneof, at its place, which of its members stand behind: it tells of each member whether one of the later
--- records overtakes it.
+-- The list has for each oneof, at its place, which of its members stand behind: it tells of each member whether one of
+-- the later records overtakes it.
 abbrev pub TellsOvertaken : List Field → List Behind → Node → Type 0
 TellsOvertaken fields list later = (number oneof : ℕ) → oneof_at fields number ≡ Some oneof
     → overtakes (slice_index_or list oneof Nothing) number ≡ is_overtaken fields number later

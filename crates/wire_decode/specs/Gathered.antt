@@ -10,9 +10,9 @@ use Rattle.wire_decode.specs.TwoInOne.{form_of}
 use Rattle.wire_decode.specs.NumberOrder.{NumbersRise, NumbersAreAtMost}
 use Rattle.wire_decode.specs.declared.gather.Form.{Form}
 
--- The new contents are the old ones and one more of this number. Contents of other numbers are unchanged. A field of this
--- form and number means by the new contents what it means by the old ones with this content behind. Numbers still rise
--- where none was above this one, and stay below each limit that this one keeps.
+-- The new contents are the old ones and one more of this number. Contents of other numbers are unchanged. By the new
+-- contents a field of this form and number has what it has by the old ones and this content, whatever stands behind.
+-- Numbers still rise where none was above this one, and stay within each limit that this one keeps to.
 pub record HasOneMore (form : Form) (old : Node) (number : ℕ) (content : Content) (new : Node) : Type 0 where
   pub others : (other : ℕ) → other ≢ number → contents_of other new ≡ contents_of other old
   pub same : (label : Label) (kind : Kind) → form_of label kind ≡ form
@@ -22,8 +22,8 @@ pub record HasOneMore (form : Form) (old : Node) (number : ℕ) (content : Conte
   pub rise : NumbersRise old → NumbersAreAtMost number old → NumbersRise new
   pub most : (limit : ℕ) → number ≤ limit → NumbersAreAtMost limit old → NumbersAreAtMost limit new
 
--- The held contents are the raw ones, gathered: their numbers rise, none is above the greatest raw one, and each field has from
--- its held content what it has from its raw ones, with any others behind.
+-- The held contents are the raw ones, gathered: their numbers rise, none is above the greatest raw one, and each field
+-- has from its held content what it has from its raw ones, with any others behind.
 pub record IsGathered (fields : List Field) (raw held : Node) : Type 0 where
   pub rise : NumbersRise held
   pub most : (limit : ℕ) → NumbersAreAtMost limit raw → NumbersAreAtMost limit held

@@ -3,7 +3,7 @@
 ghost use Rattle.std.specs.Prelude.{◌≡◌, ℕ, List, [], ◌∷◌, ◌++◌, map, true, false, IfOk, OnOk};
 ghost use Rattle.mrpc_table.specs.Node.{Node, Item};
 ghost use Rattle.mrpc_table.specs.View.{item_of, content_of, node_of};
-ghost use Rattle.wire_decode.specs.Merged.{values_in, singles_in, joined, join_fields};
+ghost use Rattle.wire_decode.specs.Merged.{values_in, joined, join_fields};
 ghost use Rattle.wire_decode.specs.TwoInOne.{form_of, MeansBoth, HoldsBoth, StandsForBoth};
 ghost use Rattle.wire_decode.specs.Gathered.{HasOneMore};
 

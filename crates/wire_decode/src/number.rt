@@ -1,9 +1,8 @@
 //! Numbers: the word form of what a record or a packed piece has.
 
 ghost use Rattle.std.specs.Prelude.{◌≡◌, ℕ, ◌%◌, ◌^◌};
-ghost use Rattle.mrpc_table.specs.WireTypes.{wire_type_of};
 ghost use Rattle.wire_decode.specs.Known.{is_message};
-ghost use Rattle.wire_decode.specs.Words.{word_of, sign_extended, unzigzag_of, is_map, is_list, own_type, payload_type, number_in, suits, may_be_packed};
+ghost use Rattle.wire_decode.specs.Words.{word_of, sign_extended, unzigzag_of, is_list, suits};
 
 use mrpc_table::{Kind, Label};
 use wire_base::{Payload, unzigzag};

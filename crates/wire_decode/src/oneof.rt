@@ -1,12 +1,12 @@
 //! Oneofs: of the records of a oneof, the longest run of its last member's records at the end counts.
 
 ghost use Rattle.std.specs.Prelude.{◌≡◌, ◌≢◌, ℕ, ◌<◌, ◌^◌, [], ◌∷◌, ◌++◌, if◌then◌else◌, length, not, false, IfOk, OnOk, IfSome, vec_len, slice_index_or};
-ghost use Rattle.mrpc_table.specs.Node.{Node, Content, field};
+ghost use Rattle.mrpc_table.specs.Node.{field};
 ghost use Rattle.mrpc_table.specs.View.{node_of};
 ghost use Rattle.mrpc_table.specs.Ascending.{FieldsAscend};
-ghost use Rattle.wire_decode.specs.Merged.{counted, is_overtaken};
+ghost use Rattle.wire_decode.specs.Merged.{counted};
 ghost use Rattle.wire_decode.specs.Oneofs.{oneof_at};
-ghost use Rattle.wire_decode.specs.Behind.{overtakes, IsInFront, IsNotedAt, TellsOvertaken, HasNoMember, SaysIfCounted};
+ghost use Rattle.wire_decode.specs.Behind.{overtakes, IsInFront, IsNotedAt, HasNoMember, SaysIfCounted};
 
 use mrpc_table::{Field, FieldValue, Label, Memory, Numbered, find_field};
 use std::alloc::Global;

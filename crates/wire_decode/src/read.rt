@@ -4,7 +4,6 @@ ghost use Rattle.std.specs.Prelude.{◌≡◌, ℕ, ◌+◌, ◌<◌, ◌≤◌,
 ghost use Rattle.mrpc_table.specs.View.{items_of, content_of, node_of};
 ghost use Rattle.mrpc_table.specs.Node.{one, run, number as number_item};
 ghost use Rattle.mrpc_table.specs.Words.{is_numeric};
-ghost use Rattle.mrpc_table.specs.WireTypes.{wire_type_of};
 ghost use Rattle.wire_base.specs.Records.{PayloadAt, VarintAt, IsWithin};
 ghost use Rattle.wire_base.specs.declared.records.Payload.{Payload};
 ghost use Rattle.mrpc_table.specs.Ascending.{AllAscend, FieldsAscend};

@@ -1,7 +1,7 @@
 //! What a table says of a field.
 
 ghost use Rattle.std.specs.Prelude.{◌≡◌, ◌<◌, length, IsTrue, IfSome, IfNone, None, slice_get};
-ghost use Rattle.mrpc_table.specs.Normal.{fields_of, field_at, kind_at, label_at};
+ghost use Rattle.mrpc_table.specs.Normal.{kind_at, label_at};
 ghost use Rattle.mrpc_table.specs.Ascending.{FieldsAscend};
 
 use mrpc_table::{Field, Kind, Label, find_field};

@@ -6,7 +6,7 @@ use Rattle.std.proofs.lemmas.List.Sorted.{IsPermutation-append_right, IsPermutat
 use Rattle.std.proofs.lemmas.List.Sums.{sum_by-cons}
 use mathlib.Core.Option.{some, some-injective, some-ne-none}
 use lib.ListN.{get_elem?}
-use Rattle.worker_pool.specs.Rule.{Every, without_last}
+use Rattle.worker_pool.specs.Rule.{Every}
 
 module _ {V : Type 0} where
   pub there : (views : List V) (pass : ℕ) (v w : V) → get_elem? views pass ≡ some v → get_elem? (set views pass w) pass ≡ some w
@@ -114,10 +114,6 @@ module _ {X : Type 0} where
   take_front [] ys (suc n) e = absurd (omega (arith, e))
   take_front (x ∷ xs) ys zero e = absurd (omega (arith, e))
   take_front (x ∷ xs) ys (suc n) e = ap (λ l. x ∷ l) (take_front xs ys n (omega (arith, e)))
-
-  -- the last of a list that one was put behind
-  pub without_snoc : (xs : List X) (x : X) → without_last (xs ++ x ∷ []) ≡ xs
-  without_snoc xs x = take_front xs (x ∷ []) _ (omega (arith, length-append xs (x ∷ [])))
 
   pub every_append : (P : X → Type 0) (xs ys : List X) → Every P xs → Every P ys → Every P (xs ++ ys)
   every_append P [] ys p q = q

@@ -1,5 +1,4 @@
 use Rattle.drill_laws.proofs.Bound.{drill-binds}
-use Rattle.drill_laws.proofs.Unbound.{Laws}
 use Rattle.drill_laws.proofs.laws.drills_are_bound.Goals as goal
 
 pub returns-clause-bound : goal.returns-clause-bound

@@ -35,7 +35,7 @@ use Rattle.graph_place.proofs.builder.Builder.+builder.Goals as goal
 pub case-returns-then-member-eq0-clause-free : goal.case-returns-then-member-eq0-clause-free
 case-returns-then-member-eq0-clause-free t c =
     let none = found_none c.args.table.now (kind_at (fields_of c.args.table.now c.args.message) c.args.member)
-    c.args.member c.args.tree.now (c.requires.member.1.some c.if-member-eq0.true) in
+    c.args.member c.args.tree.now (c.requires.member.1.none c.if-member-eq0.true) in
     omega (arith, none, c.put.ensures.free)
 
 pub case-returns-then-member-eq0-clause-puts : goal.case-returns-then-member-eq0-clause-puts
