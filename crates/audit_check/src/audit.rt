@@ -24,7 +24,7 @@ use wire_encode::Output;
 
 /// Checks the text of an audit, of at most 16777216 bytes, under a table, the policies that were declared, and a
 /// limit of loads. It is legal where its happenings are a legal history, behind which there are no lines of calls that stand, or
-/// those of all its calls that stand at positions that may be theirs; else it names the first line through which it
+/// those of all its calls that stand, where they may and held as they are; else it names the first line through which it
 /// isn't, and the first rule that is broken there.
 ///
 /// `Bad` comes exactly where a line is none of an audit text, or it is that of a happening behind one of a call that

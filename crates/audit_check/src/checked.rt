@@ -14,7 +14,7 @@ pub enum Checked {
     },
     /// The history is illegal, or the lines behind it don't tell the calls that stand.
     Illegal {
-        /// The first line, counted from 1, through which it is.
+        /// The first line, counted from 1, through which it is; where lines are missing, the one behind the last.
         line: u64,
         /// The first rule that is broken there.
         rule: Rule,

@@ -11,8 +11,8 @@ use audit_text::{
     a_line_is_cut_into_its_words, a_stands_line_tells_one_call, a_text_has_one_history,
 };
 
-/// A text has one answer: it is checked with one result, or it has one first line that is bad, never both and never
-/// neither.
+/// Under a valid table a text has one answer: it is checked with one result, or has one first line that is bad, never
+/// both and never neither.
 pub fn a_text_has_one_answer()
     ensures checked { (T : Table) (declared : Declared) (limit : ℕ) (text : List ℕ) (one other : Checked) → IsValid T
         → IsChecked T declared limit text one → IsChecked T declared limit text other → one ≡ other }

@@ -13,7 +13,7 @@ ghost use Rattle.audit_text.specs.declared.holding.Holding.{Holding};
 
 use wire_decode::{meaning_of_encoding, one_meaning};
 
-/// A text tells one history, of those that can be told under a table and the policies that were declared: the line at
+/// Under a valid table and declared policies a text tells one history at most, of those that can be told: the line at
 /// its front tells one happening, and what stands behind it.
 pub fn a_text_has_one_history()
     ensures front { (T : Table) (declared : Declared) (x y : Happened) (a b : List ℕ) → IsValid T
@@ -26,8 +26,8 @@ pub fn a_text_has_one_history()
     one_meaning();
 }
 
-/// A text is never both that of a history that can be told and one with a first line that is none of one, and it has
-/// one such line at most.
+/// Under a valid table a text is never both that of a history that can be told and one with a first line that is none of
+/// one, and it has one such line at most.
 pub fn a_text_has_one_bad_line()
     ensures bad { (T : Table) (declared : Declared) (text : List ℕ) (line other : ℕ) → IsValid T
         → IsFirstBad T declared text line → IsFirstBad T declared text other → line ≡ other }

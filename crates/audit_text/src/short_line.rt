@@ -126,8 +126,8 @@ fn told_of_kind(kind: Kind, text: &[u8]) -> Option<(Brief<'_>, &[u8])>
 }
 
 /// What the line tells with which a text begins, where it is a line of an audit text that notes something of a call or
-/// tells that it was sent, and what stands behind its line feed. It takes no memory. Of any other line nothing comes:
-/// [`read_line`](crate::read_line) reads it.
+/// tells that it was sent, and what stands behind its line feed. It takes no memory. Where nothing comes, as of any other
+/// line, [`read_line`](crate::read_line) reads it.
 pub fn read_brief(text: &[u8]) -> Option<(BriefLine<'_>, &[u8])>
     ensures told { IfSome result (λ r. (T : Table) (declared : Declared)
         → text.now ≡ audit_line T (told_in r.0) ++ r.1.now) }

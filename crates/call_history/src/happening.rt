@@ -11,7 +11,7 @@ pub enum TookCopy {
     Copy {
         tree: Tree,
     },
-    /// The graph is malformed: why, and the place and the value of the last word that was loaded.
+    /// The graph is malformed: why, and the place and the value of the last word that was loaded, if one was.
     Malformed {
         reason: Reason,
         place: u64,
@@ -120,7 +120,7 @@ pub enum Happening {
 /// A happening, with its connection.
 #[derive(Drop)]
 pub struct Happened {
-    /// The connection, 1 to 16.
+    /// The number of the connection.
     pub conn: u32,
     pub what: Happening,
 }

@@ -149,7 +149,7 @@ pub fn standing_goes_on()
         → standing (refused_for_link (standing past) past) ≡ [] }
 {}
 
-/// In a legal history each call of a connection has one fate at most, and it is one that was accepted before.
+/// In a legal history a call of a connection has one fate at most, and its number is none above that of accepted calls.
 pub fn one_fate()
     ensures once { (T : Table) (limit conn seq : ℕ) (h : History) → IsLegal T limit h
         → count_by (is_fate_of seq) (behind conn h) ≤ 1 }
@@ -217,7 +217,7 @@ pub fn events_keep()
     stays_chain();
 }
 
-/// An event leads from a course to one other: what it adds follows from it. How a turn comes out follows from the
+/// An event leads from a course to one at most: what it adds follows from it. How a turn comes out follows from the
 /// course, up to the ticket that it draws.
 pub fn an_event_has_one_end()
     ensures end { (u : Under) (old new other : Course) (event : Event) → Comes u old event new
@@ -241,7 +241,7 @@ pub fn drains_settle()
     stays_chain();
 }
 
-/// What is left of a call of the table has no longer encoding than the call had.
+/// What is left of a call of a valid table has no longer encoding than the call had.
 pub fn clears_shorten()
     ensures { (T : Table) (clears : List Clear) (call : Call) → IsValid T → IsCallOf T call
         → length (payload T (cleared_call clears call)) ≤ length (payload T call) }

@@ -299,8 +299,8 @@ impl Chain {
         Ok(())
     }
 
-    /// Puts another policy of its kind in the place of that of a name; its level pays for as many calls as before.
-    /// Calls behind it go back to it.
+    /// Puts another policy of its kind in the place of that of a name; its level pays for as many calls as before,
+    /// rounded down and up to a full bucket. Calls behind it go back to it.
     pub fn upgrade(&mut self, name: Name, policy: Policy) -> Result<(), ChainFault>
         requires ranges { IsPolicy policy }
         requires number { All (λ e. e.entry.version + 1 < 2 ^ 32) self.old.engines }

@@ -96,7 +96,7 @@ impl<'t> Conn<'t> {
     ghost use Rattle.conn_core.specs.Kept.{PassesBy};
     ghost use Rattle.conn_core.specs.Steps.{Accepts, DrawsTickets, FailsInDrain, FailsToSend, Hands, IfPolicy, OnSent, Reads, Sends, Steps, parts, redactions};
 
-    /// A connection without a call, of a number from 1 to 16, whose moment is 0 and whose chain is empty. All its calls
+    /// A connection without a call, of this number, whose moment is 0 and whose chain is empty. All its calls
     /// are judged and encoded by this table, and each is taken by at most `limit` loads, 1 to 16384.
     pub fn open(alloc: Global, conn: u32, table: &'t Table, limit: u64) -> Result<Conn<'t>, Memory>
         requires valid { IsValid table.now }
@@ -136,8 +136,8 @@ impl<'t> Conn<'t> {
         let _ = &self.chain;
     }
 
-    /// A law; it does nothing. No number of a connection is larger than its history is long: at most so many calls were
-    /// accepted and so many policies attached, and none was upgraded more often.
+    /// A law; it does nothing. Three numbers of a connection are no larger than its history is long: at most so many
+    /// calls were accepted and so many policies attached, and none was upgraded more often.
     pub fn numbers_are_few(&self)
         ensures calls { length (taken (behind self.now)) ≤ length self.now.happenings }
         ensures attachments { self.now.chain.attached ≤ length self.now.happenings }
@@ -169,7 +169,7 @@ impl<'t> Conn<'t> {
         ensures as_before { OnErr result (self.new ≡ self.old) }
         ensures same { IsSame self.old self.new }
 
-        // Whatever the answer is, the heap has room made and these loads more, and nothing else.
+        // Whatever the answer is, nothing becomes of the heap, or room is made and there are these loads more.
         ensures size { W.size words.new ≡ W.size words.old }
         ensures adds { W.loads words.new ≡ W.loads words.old ++ since (W.loads words.old) (W.loads words.new) }
         ensures reads { Reads W.after_room W.after_load words.old (since (W.loads words.old) (W.loads words.new))

@@ -139,8 +139,8 @@ impl Engine {
     }
 
     /// Works on a call of the table, which has the marks of at most seven other engines. Each turn is one
-    /// of the engine's entry: what is to be noted is noted, and then the call passes, is held or is refused, or
-    /// it loses fields and begins again. The bucket is as `clock` left it, a quota's window the moment's.
+    /// of the engine's entry, if the mark of its version is true: what is due is noted, and the call passes, is held or is
+    /// refused, or loses fields and begins again. The bucket is as `clock` left it, a quota's window the moment's.
     pub fn work<Q: Tickets>(
         &mut self,
         call: &mut Standing,
@@ -264,7 +264,7 @@ impl Engine {
             → policy ≡ Policy.Rate rate → HasPast state first start past
             → HasPast result first start (upgrade rate ∷ past) }
 
-        // No mark says that the new version has allowed a call.
+        // Marks that were true for the version before are true for the new one.
         ensures stays_true { (s : StandingCall) → IsTrueFor state.entry s → IsTrueFor result.entry s }
     {
         let old = state.engine;

@@ -22,7 +22,7 @@ pub enum Policy {
         tenant: u32,
         /// The milliseconds of a window, 1 to 86400000. Window 1023 is the last, and lasts.
         per: u64,
-        /// How many tickets of a window pass.
+        /// The tickets below it pass.
         cap: u64,
     },
     /// Calls are counted, and pass.

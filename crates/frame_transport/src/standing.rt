@@ -19,11 +19,11 @@ pub struct FrameRef<'a> {
     pub kind: u8,
     /// 1, or in a hello also 2.
     pub version: u8,
-    /// The method's index; 0 in a hello.
+    /// The method's index; in a hello it says nothing.
     pub method: u16,
     /// The sender's connection.
     pub conn: u32,
-    /// The sequence number of a request, the answered number of a reply, 0 in a hello.
+    /// The sequence number of a request, the answered number of a reply; in a hello it says nothing.
     pub number: u32,
     /// The payload, at most 262144 bytes.
     pub payload: &'a [u8],

@@ -1,6 +1,6 @@
 //! Why a graph is refused.
 
-/// What is wrong with the last word that was loaded of a graph.
+/// Why a graph is malformed: of most reasons, what is wrong with the last word that was loaded of it.
 #[derive(Clone, Copy, PartialEq, Eq)]
 pub enum Reason {
     /// An address whose span doesn't lie in the heap.

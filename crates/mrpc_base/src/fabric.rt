@@ -26,7 +26,7 @@ pub trait Fabric {
     /// How many ends it opened that it doesn't have back.
     ghost away: { Self → ℕ };
 
-    /// How many openings have failed; it stands still at 2^64 - 1.
+    /// A count that rises where an opening fails, and stands still at 2^64 - 1.
     ghost faults: { Self → ℕ };
 
     /// That two ends are those of one link, whatever they have done since.
@@ -45,7 +45,7 @@ pub trait Fabric {
         ensures back { back self.new ≡ back self.old }
         ensures cause { HasCause (IsErrOf result OpenFault.Failed) (faults self.old) (faults self.new) };
 
-    /// Takes back the end of connection `conn` of a link that this fabric opened. It takes no memory.
+    /// Takes back an end, as that of connection `conn`, while some end that it opened is away. It takes no memory.
     fn keep(&mut self, conn: u32, link: Self::L)
         requires opened { 0 < away self.old }
 

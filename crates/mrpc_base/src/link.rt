@@ -21,9 +21,9 @@ pub enum Handed {
 pub enum Came {
     /// So many bytes, from 1 to the buffer's length, stand at the buffer's start.
     Bytes(usize),
-    /// Nothing was ready.
+    /// Nothing was ready, as far as the link tells (`nothing_ready`).
     Idle,
-    /// The other side has finished, and nothing is left.
+    /// The other side has finished, as far as the link tells (`peer_finished`).
     End,
     /// The link failed, and took nothing of what is left.
     Failed,
@@ -48,7 +48,7 @@ pub trait Link {
     /// What an answer that the other side has finished tells of the link before and after the call.
     ghost peer_finished: { Self → Self → Type 0 };
 
-    /// How many sends and receives have failed; it stands still at 2^64 - 1.
+    /// A count that rises where a send or a receive fails, and stands still at 2^64 - 1.
     ghost faults: { Self → ℕ };
 
     /// That the second is the first, later on: whatever a link was once, each call leaves it so.

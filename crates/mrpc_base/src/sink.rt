@@ -19,7 +19,7 @@ pub trait Sink {
     /// What was written so far, where the sink tells it.
     ghost written: { Self → Option (List ℕ) };
 
-    /// How many writes have failed; it stands still at 2^64 - 1.
+    /// A count that rises where a write fails, and stands still at 2^64 - 1.
     ghost faults: { Self → ℕ };
 
     /// Writes a piece from its start on, as much of it as the sink takes in one call.

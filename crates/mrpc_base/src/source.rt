@@ -21,7 +21,7 @@ pub trait Source {
     /// What is left to read, where the source tells it.
     ghost left: { Self → Option (List ℕ) };
 
-    /// How many reads have failed; it stands still at 2^64 - 1.
+    /// A count that rises where a read fails, and stands still at 2^64 - 1.
     ghost faults: { Self → ℕ };
 
     /// Reads the next bytes into the start of `buf`. What it leaves behind them is open.

@@ -2,7 +2,7 @@
 
 ghost use Rattle.std.specs.Prelude.{◌≡◌, ◌≢◌, ◌<◌, ◌⊎◌, List, [], ◌∷◌, ◌++◌, ℕ, Option, IfSome, IsSomeAnd};
 
-/// How many windows a quota has: a draw at or past the last one is a draw in the last one.
+/// How many windows a quota has. Who draws takes the last one for each that is past it.
 pub const WINDOWS: u64 = 1024;
 
 /// Where the quotas of tenants draw their tickets.

@@ -8,7 +8,7 @@ ghost use Rattle.mrpc_base.specs.Writing.{AppendsFront};
 use crate::{Put, Sink};
 
 /// Writes all the bytes, and answers whether the sink took them. Each write is handed all that is left, so no
-/// bytes take no write. After a write that failed, a front of the bytes was written, and not all of them.
+/// bytes take no write. After a write that failed, a sink that tells its bytes has taken a front of them.
 pub fn write_all<K: Sink>(out: &mut K, bytes: &[u8]) -> bool
     ensures done { IsTrue result → Appends (K.written out.old) (K.written out.new) bytes.now }
     ensures front { result ≡ false → AppendsFront (K.written out.old) (K.written out.new) bytes.now }

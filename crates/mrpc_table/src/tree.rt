@@ -34,7 +34,7 @@ pub enum FieldValue {
 /// The elements of a repeated field, in order.
 pub type Values = Vec<Value>;
 
-/// The entries of a map, by ascending key.
+/// The entries of a map, in a normal tree by ascending key.
 pub type Entries = Vec<(Value, Value)>;
 
 /// One value.

@@ -4,7 +4,7 @@
 //! for each place where it is attached. A call costs `per`, a full bucket has `burst * per`, and each
 //! millisecond adds `amount`. `specs/Level.antt` says what the level is after moments, charges and
 //! upgrades. It stands on no crate of the project. The layers above use one contract: a bucket's level
-//! follows its past, so the charges between two moments are bounded.
+//! follows its past; of paid ones the charges between two moments without an upgrade are bounded.
 #![tactic(auto)]
 
 mod bucket;

@@ -20,7 +20,7 @@ pub fn any_order()
         cleared b (cleared_call a call) ≡ cleared a (cleared_call b call) }
 {}
 
-/// A second clear changes nothing.
+/// A second clear by the same policy changes nothing.
 pub fn clear_again()
     ensures { (clears : List Clear) (call : Call) → cleared clears (cleared_call clears call) ≡ cleared clears call }
 {}

@@ -67,7 +67,7 @@ impl Clear {
     }
 }
 
-/// A redacting policy: 1 to 64 clears. Clauses see their list.
+/// A redacting policy: as it is read, 1 to 64 clears. Clauses see their list.
 pub struct Redact {
     clears: Sequence<Clear>,
 }

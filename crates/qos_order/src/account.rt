@@ -21,7 +21,7 @@ pub struct Account {
     pub visits: u64,
     /// The rounds that were given.
     pub rounds: u64,
-    /// The rounds that later visits may still use, at most twice the weight.
+    /// The rounds that were left when the connection was shut, at most twice the weight.
     pub kept: u64,
     /// The rounds that were granted, and neither given nor kept.
     pub dropped: u64,

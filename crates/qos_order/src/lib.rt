@@ -2,10 +2,10 @@
 //! turn is next.
 //!
 //! A connection of weight 3 gets three rounds where one of weight 1 gets one. What a visit leaves
-//! unused because its connection was shut may be used in a later one, up to the weight each time; what
+//! unused because its connection was shut may be used in the next one, up to the weight; what
 //! it leaves because there was nothing to do is dropped. [`Weighted`] answers grants, an [`Account`]
 //! counts the visits of one connection, and a [`Wheel`] says which connection is visited next. It
-//! stands on `mrpc_base`. The layers above use one contract: over every list of visits, the rounds
+//! stands on `mrpc_base`. The layers above use one contract: over visits that fit their grants, the rounds
 //! given, kept and dropped of a connection are its weight times its visits.
 #![tactic(auto)]
 

@@ -28,7 +28,7 @@ pub enum DecodeReason {
     Utf8 = 6,
     /// The payload of packed numbers isn't a join of whole elements.
     PackedLength = 7,
-    /// The payload would be the 33rd message inside one another.
+    /// The payload, or the value that a map's entry lacks, would be the 33rd message inside one another.
     Depth = 8,
 }
 

@@ -52,7 +52,7 @@ pub fn one_fault()
     record_or_fault();
 }
 
-/// What bytes mean is a tree in normal form.
+/// What bytes mean under a valid table is a tree in normal form.
 pub fn meaning_is_normal()
     ensures { (T : Table) (msg : ℕ) (bytes : List ℕ) (t : Node) → IsValid T → msg < length T.messages
         → All (λ b. b < 256) bytes
