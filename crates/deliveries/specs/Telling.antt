@@ -95,3 +95,8 @@ AreJudged (number ∷ more) back refused old new =
     × AreJudged more others refused between new)
     ⊎ ((others : List ℕ) × (refused ≡ number ∷ others) × All (λ (held : Block). held.number ≢ number) old
     × AreJudged more back others old new)
+
+-- held blocks go one by one, by their numbers in this order
+abbrev pub LosesEach : List ℕ → List Block → List Block → Type 0
+LosesEach [] old new = new ≡ old
+LosesEach (number ∷ more) old new = (between : List Block) × IsWithout number old between × LosesEach more between new

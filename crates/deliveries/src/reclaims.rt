@@ -3,7 +3,7 @@
 ghost use Rattle.std.specs.Prelude.{◌≡◌, ◌≤◌, ◌<◌, ◌+◌, ◌^◌, ◌++◌, ◌∷◌, [], ℕ, List, true, false, OnOk, IfSome, IfNone};
 ghost use Rattle.mrpc_table.specs.declared.table.Table.{Table as TheTable};
 ghost use Rattle.receive_core.specs.Life.{Life as TheLife, Lives};
-ghost use Rattle.deliveries.specs.Telling.{AreJudged, IsCounting, IsReclaiming};
+ghost use Rattle.deliveries.specs.Telling.{AreJudged, IsCounting, IsReclaiming, LosesEach};
 
 use descriptor_ring::{NumberReceiver, NumberTaken};
 use mrpc_table::Memory;
@@ -47,11 +47,16 @@ impl Reclaims {
         requires few_programmed { self.old.programmed < 2 ^ 63 }
         requires few_given { given < 2 ^ 63 }
 
-        // More numbers were judged, each by the blocks that were held then: some came back, and the others are kept.
+        // More numbers were judged: those that came back took each its block from the held ones, in order.
         ensures reclaimed { (numbers back : List ℕ) → IsReclaiming numbers back self.old → OnOk result ((more : List ℕ)
-            × (gained : List ℕ) × (refused : List ℕ) × IsReclaiming (numbers ++ more) (back ++ gained) self.new
+            × (gained : List ℕ) × IsReclaiming (numbers ++ more) (back ++ gained) self.new
+            × LosesEach gained inbound.old.heap.held inbound.new.heap.held) }
+
+        // The others named none of the blocks that were held when they were judged.
+        ensures refused { (numbers : List ℕ) → IsCounting numbers self.old → OnOk result ((more : List ℕ)
+            × (back : List ℕ) × (refused : List ℕ) × IsCounting (numbers ++ more) self.new
             × (self.new.not_held.items ≡ self.old.not_held.items ++ refused)
-            × AreJudged more gained refused inbound.old.heap.held inbound.new.heap.held) }
+            × AreJudged more back refused inbound.old.heap.held inbound.new.heap.held) }
         ensures most { self.old.judged ≤ self.old.programmed + given → self.new.judged ≤ self.new.programmed + given }
         ensures programmed { self.new.programmed ≡ self.old.programmed }
         ensures ring { self.new.numbers.ring ≡ self.old.numbers.ring }

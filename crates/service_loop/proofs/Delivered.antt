@@ -1,13 +1,13 @@
 -- Deliveries go on.
 use Rattle.std.proofs.Common.{◌≡◌, ◌≢◌, ℕ, ◌+◌, ◌<◌, ◌≤◌, ◌^◌, ◌⊎◌, inl, inr, List, [], ◌∷◌, ◌++◌, map, length}
 use Rattle.std.proofs.Common.{Option, Some, None, refl, sym, ap, subst, ◌∙◌, arith, append_assoc, append-nil}
-use Rattle.std.proofs.Common.{length-append, option_to_list, All, Contains, IsPermutation}
+use Rattle.std.proofs.Common.{length-append, option_to_list, IsPermutation}
 use Rattle.std.specs.List.{AllZip}
 use Rattle.std.specs.Prelude.{IfSome}
 use Rattle.std.proofs.lemmas.List.{map-append}
-use Rattle.std.proofs.lemmas.List.Elements.{All-append, All-cons, All-contains, All-map, All-nil, All-weaker, Contains-append_cases}
+use Rattle.std.proofs.lemmas.List.Elements.{All-nil}
 use Rattle.std.proofs.lemmas.List.Concat.{flat_map-append}
-use Rattle.std.proofs.lemmas.List.Sorted.{Contains-permutation, IsPermutation-append, IsPermutation-append_comm, IsPermutation-refl, IsPermutation-trans}
+use Rattle.std.proofs.lemmas.List.Sorted.{IsPermutation-append, IsPermutation-append_comm, IsPermutation-refl, IsPermutation-trans}
 use Rattle.std.proofs.lemmas.Option.{none-some}
 use Rattle.std.proofs.lemmas.Slice.Zip.{AllZip-long}
 use Rattle.std.specs.Io.KnownBytes.{Appends}
@@ -23,7 +23,7 @@ use Rattle.receive_heap.specs.declared.extents.Block.{Block}
 use Rattle.receive_core.specs.Life.{Fated, Life, Lives, fated, fed, was_dropped, was_placed}
 use Rattle.receive_core.specs.Turns.{Receiving}
 use Rattle.deliveries.specs.Arriving.{AreTurned, HasAll, HaveLived, Holds, IsTold}
-use Rattle.deliveries.specs.Telling.{AreJudged, IsMessage, IsReclaiming, IsTelling, StayOpen, TellsOf}
+use Rattle.deliveries.specs.Telling.{IsMessage, IsReclaiming, IsTelling, LosesEach, StayOpen, TellsOf}
 use Rattle.deliveries.specs.Telling.{notices_of as notices_told, numbers_of as numbers_told}
 use Rattle.deliveries.specs.declared.arrivals.Arrivals.{Arrivals}
 use Rattle.deliveries.specs.declared.arrivals.Delivered.{Delivered}
@@ -34,7 +34,7 @@ use Rattle.deliveries.specs.declared.arrivals.Turned.TheVariants as turned
 use Rattle.deliveries.specs.declared.limits.TheConstants.{MAX_ARRIVALS}
 use Rattle.deliveries.specs.declared.notices.Notices.{Notices}
 use Rattle.deliveries.specs.declared.reclaims.Reclaims.{Reclaims}
-use Rattle.service_loop.specs.Delivering.{CountsAsEnded, HaveDelivered, HaveEnded, HaveGoneOn, IsClosing, NamedNone, held_numbers, message_blocks, message_of, messages_of}
+use Rattle.service_loop.specs.Delivering.{CountsAsEnded, HaveDelivered, HaveEnded, HaveGoneOn, IsClosing, held_numbers, message_blocks, message_of, messages_of}
 use Rattle.service_loop.specs.declared.delivering.Deliveries.{Deliveries}
 
 -- ---- how many there are
@@ -79,17 +79,15 @@ few-given heap placed n h =
 -- nothing was placed, told or given back
 pub delivered-none : (life : Life) (d : Deliveries) → HaveLived life d.arrivals → life.fates ≡ []
     → IsTelling d.arrivals.writer.heap [] d.notices → IsReclaiming [] [] d.reclaims
-    → d.reclaims.not_held.items ≡ [] → d.arrivals.inbound.heap.held ≡ [] → d.reclaims.programmed < 2 ^ 63
-    → (IsClosing d.notices → ⊥) → HaveDelivered life [] [] d
-delivered-none life d lived none told returned not_held held few unclosed = record {
+    → d.arrivals.inbound.heap.held ≡ [] → d.reclaims.programmed < 2 ^ 63 → (IsClosing d.notices → ⊥)
+    → HaveDelivered life [] [] d
+delivered-none life d lived none told returned held few unclosed = record {
   lived = lived;
   told = subst (λ fs. IsTelling d.arrivals.writer.heap (messages_of fs) d.notices) (sym none) told;
   returned = returned;
   held = subst (λ fs. IsPermutation (message_blocks (messages_of fs)) (held_numbers d.arrivals.inbound.heap.held ++ []))
       (sym none) (subst (λ (bs : List Block). IsPermutation [] (held_numbers bs ++ [])) (sym held)
       (IsPermutation-refl []));
-  not_held = subst (All (NamedNone (message_blocks (messages_of life.fates)) [])) (sym not_held)
-      (All-nil (NamedNone (message_blocks (messages_of life.fates)) []));
   programmed = few;
   closed = λ closing. absurd (unclosed closing);
 }
@@ -142,87 +140,15 @@ left-one number old new back placed without is =
     subst (IsPermutation placed) (ap (λ xs. xs ++ number ∷ []) (sym (append_assoc before after back))
     ∙ append_assoc (before ++ after) back (number ∷ []) ∙ ap (λ xs. xs ++ (back ++ number ∷ [])) (sym news)) second
 
-left-judged : (more gained refused : List ℕ) (old new : List Block) (back placed : List ℕ)
-    → AreJudged more gained refused old new → IsPermutation placed (held_numbers old ++ back)
-    → IsPermutation placed (held_numbers new ++ (back ++ gained))
-left-judged [] gained refused old new back placed judged is =
-    subst (λ xs. IsPermutation placed (held_numbers xs ++ (back ++ gained))) (sym judged.2)
-    (subst (λ xs. IsPermutation placed (held_numbers old ++ (back ++ xs))) (sym judged.0)
-    (subst (λ xs. IsPermutation placed (held_numbers old ++ xs)) (sym (append-nil back)) is))
-left-judged (number ∷ more) gained refused old new back placed judged is = elim judged [
-  | inl it ↦ subst (λ xs. IsPermutation placed (held_numbers new ++ xs))
-      (append_assoc back (number ∷ []) it.1 ∙ ap (λ xs. back ++ xs) (sym it.2))
-      (left-judged more it.1 refused it.0 new (back ++ number ∷ []) placed it.4
-      (left-one number old it.0 back placed it.3 is))
-  | inr it ↦ left-judged more gained it.0 old new back placed it.3 is
-]
-
--- ---- numbers that named no held block
-
-not-held : (blocks : List Block) (number : ℕ) → All (λ (held : Block). held.number ≢ number) blocks
-    → Contains (held_numbers blocks) number → ⊥
-not-held blocks number none there =
-    All-contains (λ n. n ≢ number) (held_numbers blocks) number
-    (All-map (λ n. n ≢ number) (λ (b : Block). b.number) blocks none) there refl
-
--- more blocks came back since
-named-back : (blocks back gained : List ℕ) (number : ℕ) → NamedNone blocks back number
-    → NamedNone blocks (back ++ gained) number
-named-back blocks back gained number n = record {
-  placed = n.placed;
-  later = n.later;
-  gone = n.gone;
-  others = n.others ++ gained;
-  of_blocks = n.of_blocks;
-  of_back = ap (λ xs. xs ++ gained) n.of_back ∙ append_assoc n.gone n.others gained;
-  none = n.none;
-}
-
--- more blocks were placed since
-named-placed : (blocks more back : List ℕ) (number : ℕ) → NamedNone blocks back number
-    → NamedNone (blocks ++ more) back number
-named-placed blocks more back number n = record {
-  placed = n.placed;
-  later = n.later ++ more;
-  gone = n.gone;
-  others = n.others;
-  of_blocks = ap (λ xs. xs ++ more) n.of_blocks ∙ append_assoc n.placed n.later more;
-  of_back = n.of_back;
-  none = n.none;
-}
-
--- none of the held blocks has it
-named-now : (blocks back gained : List ℕ) (held : List Block) (number : ℕ)
-    → IsPermutation blocks (held_numbers held ++ back) → All (λ (block : Block). block.number ≢ number) held
-    → NamedNone blocks (back ++ gained) number
-named-now blocks back gained held number is none = record {
-  placed = blocks;
-  later = [];
-  gone = back;
-  others = gained;
-  of_blocks = sym (append-nil blocks);
-  of_back = refl;
-  none = λ there. elim (Contains-append_cases (held_numbers held) back number
-      (Contains-permutation blocks (held_numbers held ++ back) number is there)) [
-        | inl still ↦ absurd (not-held held number none still)
-        | inr came ↦ came
-      ];
-}
-
-refused-none : (more gained refused : List ℕ) (old new : List Block) (back blocks : List ℕ)
-    → AreJudged more gained refused old new → IsPermutation blocks (held_numbers old ++ back)
-    → All (NamedNone blocks (back ++ gained)) refused
-refused-none [] gained refused old new back blocks judged is =
-    subst (All (NamedNone blocks (back ++ gained))) (sym judged.1) (All-nil (NamedNone blocks (back ++ gained)))
-refused-none (number ∷ more) gained refused old new back blocks judged is = elim judged [
-  | inl it ↦ subst (λ xs. All (NamedNone blocks xs) refused)
-      (append_assoc back (number ∷ []) it.1 ∙ ap (λ xs. back ++ xs) (sym it.2))
-      (refused-none more it.1 refused it.0 new (back ++ number ∷ []) blocks it.4
-      (left-one number old it.0 back blocks it.3 is))
-  | inr it ↦ subst (All (NamedNone blocks (back ++ gained))) (sym it.1)
-      (All-cons (NamedNone blocks (back ++ gained)) number it.0 (named-now blocks back gained old number is it.2)
-      (refused-none more gained it.0 old new back blocks it.3 is))
-]
+left-each : (gained : List ℕ) (old new : List Block) (back placed : List ℕ) → LosesEach gained old new
+    → IsPermutation placed (held_numbers old ++ back) → IsPermutation placed (held_numbers new ++ (back ++ gained))
+left-each [] old new back placed same is =
+    subst (λ xs. IsPermutation placed (held_numbers xs ++ (back ++ []))) (sym same)
+    (subst (λ xs. IsPermutation placed (held_numbers old ++ xs)) (sym (append-nil back)) is)
+left-each (number ∷ gained) old new back placed each is =
+    subst (λ xs. IsPermutation placed (held_numbers new ++ xs)) (append_assoc back (number ∷ []) gained)
+    (left-each gained each.0 new (back ++ number ∷ []) placed each.2
+    (left-one number old each.0 back placed each.1 is))
 
 all-fed : (a : Arrivals) (i : Receiving) → i.fed ≡ a.inbound.fed → HasAll a → HasAll (record a { inbound = i })
 all-fed a i same (inl failed) = inl failed
@@ -236,15 +162,14 @@ pub record StaysFed (T : Table) (old new : Receiving) : Type 0 where
   pub fed : new.fed ≡ old.fed
   pub words : new.heap.words ≡ old.heap.words
 
-pub reclaimed : (life : Life) (numbers back more gained refused : List ℕ) (d : Deliveries) (i : Receiving) (r : Reclaims)
+pub reclaimed : (life : Life) (numbers back more gained : List ℕ) (d : Deliveries) (i : Receiving) (r : Reclaims)
     → HaveDelivered life numbers back d → StaysFed d.arrivals.table.now d.arrivals.inbound i
-    → IsReclaiming (numbers ++ more) (back ++ gained) r → r.not_held.items ≡ d.reclaims.not_held.items ++ refused
-    → AreJudged more gained refused d.arrivals.inbound.heap.held i.heap.held → r.programmed ≡ d.reclaims.programmed
+    → IsReclaiming (numbers ++ more) (back ++ gained) r → LosesEach gained d.arrivals.inbound.heap.held i.heap.held
+    → r.programmed ≡ d.reclaims.programmed
     → HaveDelivered life (numbers ++ more) (back ++ gained)
     (record d { arrivals = record d.arrivals { inbound = i }; reclaims = r })
-reclaimed life numbers back more gained refused d i r h stays returned grown judged programmed =
-    let lived = h.lived in
-    let blocks = message_blocks (messages_of life.fates) in record {
+reclaimed life numbers back more gained d i r h stays returned lost programmed =
+    let lived = h.lived in record {
       lived = record {
         valid = lived.valid;
         lives = stays.life life lived.lives;
@@ -260,12 +185,8 @@ reclaimed life numbers back more gained refused d i r h stays returned grown jud
       };
       told = h.told;
       returned = returned;
-      held = left-judged more gained refused d.arrivals.inbound.heap.held i.heap.held back blocks judged h.held;
-      not_held = subst (All (NamedNone blocks (back ++ gained))) (sym grown)
-          (All-append (NamedNone blocks (back ++ gained)) d.reclaims.not_held.items refused
-          (All-weaker (NamedNone blocks back) (NamedNone blocks (back ++ gained)) (named-back blocks back gained)
-          d.reclaims.not_held.items h.not_held)
-          (refused-none more gained refused d.arrivals.inbound.heap.held i.heap.held back blocks judged h.held));
+      held = left-each gained d.arrivals.inbound.heap.held i.heap.held back (message_blocks (messages_of life.fates)) lost
+          h.held;
       programmed = subst (λ n. n < 2 ^ 63) (sym programmed) h.programmed;
       closed = λ closing. record {
         all = all-fed d.arrivals i stays.fed (h.closed closing).all;
@@ -335,7 +256,6 @@ received life numbers back piece fault given given' d a h unclosed came writer h
     returned = h.returned;
     held = subst (λ (l : Layout). IsPermutation (message_blocks (messages_of life.fates)) (held_numbers l.held ++ back))
         (sym heap) h.held;
-    not_held = h.not_held;
     programmed = h.programmed;
     closed = λ closing. absurd (not-all d.arrivals unclosed.0 unclosed.1 (h.closed closing).all);
   });
@@ -361,13 +281,6 @@ told-more life numbers back more d a n h lived told held unclosed = record {
   told = told;
   returned = h.returned;
   held = held;
-  not_held = subst (λ xs. All (NamedNone xs back) d.reclaims.not_held.items)
-      (sym (ap message_blocks (flat_map-append message_of life.fates more)
-      ∙ map-append (λ (m : Delivered). m.block) (messages_of life.fates) (messages_of more)))
-      (All-weaker (NamedNone (message_blocks (messages_of life.fates)) back)
-      (NamedNone (message_blocks (messages_of life.fates) ++ message_blocks (messages_of more)) back)
-      (named-placed (message_blocks (messages_of life.fates)) (message_blocks (messages_of more)) back)
-      d.reclaims.not_held.items h.not_held);
   programmed = h.programmed;
   closed = λ closing. absurd (unclosed closing);
 }
@@ -497,7 +410,6 @@ told-on life numbers back d n h told closed = record {
   told = told;
   returned = h.returned;
   held = h.held;
-  not_held = h.not_held;
   programmed = h.programmed;
   closed = closed;
 }
@@ -525,7 +437,6 @@ stopped life numbers back d is h =
       told = h.told;
       returned = h.returned;
       held = h.held;
-      not_held = h.not_held;
       programmed = h.programmed;
       closed = λ closing. record {
         all = inl refl;

@@ -1,5 +1,5 @@
 -- What one connection's application was delivered, and gave back (this project's own).
-use Rattle.std.specs.Prelude.{◌≡◌, ◌≢◌, ◌≤◌, ◌<◌, ◌^◌, ◌⊎◌, ℕ, List, [], ◌∷◌, ◌++◌, map, length, All, Contains, Option, None, IsPermutation}
+use Rattle.std.specs.Prelude.{◌≡◌, ◌≢◌, ◌≤◌, ◌<◌, ◌^◌, ◌⊎◌, ℕ, List, [], ◌∷◌, ◌++◌, map, length, Option, None, IsPermutation}
 use Rattle.std.specs.List.{flat_map}
 use Rattle.std.specs.Io.KnownBytes.{Appends}
 use Rattle.receive_core.specs.Life.{Fated, Life, was_dropped, was_placed}
@@ -31,16 +31,6 @@ held_numbers blocks = map (λ (b : Block). b.number) blocks
 abbrev pub message_blocks : List Delivered → List ℕ
 message_blocks messages = map (λ (d : Delivered). d.block) messages
 
--- Of the blocks that had been placed when it was judged, a number is that of none, or of one that had come back.
-pub record NamedNone (blocks back : List ℕ) (number : ℕ) : Type 0 where
-  pub placed : List ℕ
-  pub later : List ℕ
-  pub gone : List ℕ
-  pub others : List ℕ
-  pub of_blocks : blocks ≡ placed ++ later
-  pub of_back : back ≡ gone ++ others
-  pub none : Contains placed number → Contains gone number
-
 -- nothing more is received: the stream has ended, was cut off or failed, or as many frames as may had their fates
 abbrev pub CountsAsEnded : Arrivals → Type 0
 CountsAsEnded a = (a.stream ≢ Open) ⊎ (MAX_ARRIVALS ≤ length a.lines.items)
@@ -57,14 +47,12 @@ pub record HaveEnded (d : Deliveries) : Type 0 where
 
 -- What was delivered, as far as it has come. The lines are the fates of frames, in order; of the messages that were
 -- placed the application was told, or they wait; of their blocks each is held or came back, among the numbers that were
--- judged, of which the others named none that was held; and the rings of notices are closed only once all is told and
--- nothing more comes.
+-- judged; and the rings of notices are closed only once all is told and nothing more comes.
 pub record HaveDelivered (life : Life) (numbers back : List ℕ) (d : Deliveries) : Type 0 where
   pub lived : HaveLived life d.arrivals
   pub told : IsTelling d.arrivals.writer.heap (messages_of life.fates) d.notices
   pub returned : IsReclaiming numbers back d.reclaims
   pub held : IsPermutation (message_blocks (messages_of life.fates)) (held_numbers d.arrivals.inbound.heap.held ++ back)
-  pub not_held : All (NamedNone (message_blocks (messages_of life.fates)) back) d.reclaims.not_held.items
   pub programmed : d.reclaims.programmed < 2 ^ 63
   pub closed : IsClosing d.notices → HaveEnded d
 

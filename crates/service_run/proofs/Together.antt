@@ -3,7 +3,6 @@ use Rattle.std.proofs.Common.{◌≡◌, ◌≤◌, ◌<◌, inl, inr, ℕ, Bool
 use Rattle.std.proofs.Common.{Option, Some, None, refl, sym, ap, subst, ◌∙◌, append-nil, arith}
 use Rattle.std.specs.Io.KnownBytes.{Appends}
 use Rattle.std.specs.Prelude.{All, IfSome, IsSomeAnd, IsPermutation, option_to_list}
-use Rattle.std.specs.Global.{Vec}
 use Rattle.std.specs.List.{AllZip}
 use Rattle.std.proofs.lemmas.List.{append_cancel_left}
 use mathlib.Core.List.{IsPrefix}
@@ -36,7 +35,7 @@ use Rattle.link_queue.specs.Queueing.{Queueing}
 use Rattle.link_queue.specs.Writers.{start_of}
 use Rattle.link_queue.specs.declared.writer_end.WriterEnd.{WriterEnd}
 use Rattle.service_loop.specs.Calls.{moments_at_calls, moments_in}
-use Rattle.service_loop.specs.Delivering.{HaveGoneOn, NamedNone, held_numbers, message_blocks, messages_of}
+use Rattle.service_loop.specs.Delivering.{HaveGoneOn, held_numbers, message_blocks, messages_of}
 use Rattle.service_loop.specs.Rounds.{GoesOn, IsOver, IsWhole, weight_of_share}
 use Rattle.service_wiring.specs.Applications.{Did, HasDone}
 use Rattle.service_wiring.specs.declared.closed.Closed.{Closed}
@@ -267,8 +266,6 @@ module _ {C L : Type 0} {of_clock : ClockMembers C} {of_quotas : TicketMembers (
             (subst (λ d. IsReclaiming gone.more gone.gained d.reclaims) (sym left.closed_of.parts.deliveries) there.returned);
         held = subst (λ a. IsPermutation (message_blocks (messages_of gone.later.fates))
             (held_numbers a.inbound.heap.held ++ gone.gained)) (sym arrivals-same) there.held;
-        not_held = subst (λ (ns : Vec ℕ). All (NamedNone (message_blocks (messages_of gone.later.fates)) gone.gained) ns.items)
-            (sym (met.not_held ∙ ap (λ d. d.reclaims.not_held) left.closed_of.parts.deliveries)) there.not_held;
       }
 
   queue-ended : b.arrivals.stream ≡ Ended → closed.passed.ended ≡ true

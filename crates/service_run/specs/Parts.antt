@@ -102,7 +102,6 @@ pub record HasMet (submissions : Submissions) (deliveries : Deliveries) (began :
   pub returned : b.reclaims.numbers.taken ≡ sent.reclaims.items
   pub reclaiming : (numbers back : List ℕ) → IsReclaiming numbers back deliveries.reclaims
       → IsReclaiming numbers back b.reclaims
-  pub not_held : b.reclaims.not_held ≡ deliveries.reclaims.not_held
 
 -- These are the parts of a connection that holds.
 pub record WasClosed {C : Type 0} (of_clock : ClockMembers C) (of_quotas : TicketMembers (List Drawing))

@@ -25,7 +25,7 @@ use Rattle.run_plan.specs.declared.application.Role.{Role}
 use Rattle.run_plan.specs.declared.application.Role.TheVariants as role
 use Rattle.run_plan.specs.declared.plan.Plan.{Plan}
 use Rattle.service_loop.specs.Calls.{moments_at_calls, moments_in}
-use Rattle.service_loop.specs.Delivering.{LivesOn, NamedNone, held_numbers, message_blocks, messages_of}
+use Rattle.service_loop.specs.Delivering.{LivesOn, held_numbers, message_blocks, messages_of}
 use Rattle.service_loop.specs.Serving.{IsServed}
 use Rattle.service_loop.specs.declared.share.Share.{Share}
 use Rattle.service_run.specs.Closings.{Opening}
@@ -79,7 +79,7 @@ pub record HasAccount (plan : Plan) (app : Application) (b : BoundConn) : Type 0
 -- What was delivered to an application, to the end. Its receiver lived on from the life that it began with; each frame
 -- that may have its fate had it, each line is the fate of a frame, in order, and each message that was placed was told
 -- to the application, with the number of its block. Each of these blocks is held or came back, among the numbers that
--- were judged, of which the others named none that was held.
+-- were judged.
 pub record WasDelivered (life : Life) (piece : List ℕ) (b : BoundConn) : Type 0 where
   pub later : Life
   pub lives : LivesOn piece life later
@@ -91,7 +91,6 @@ pub record WasDelivered (life : Life) (piece : List ℕ) (b : BoundConn) : Type 
   pub blocks : b.blocks.taken ≡ message_blocks (messages_of later.fates)
   pub returned : IsReclaiming numbers back b.reclaims
   pub held : IsPermutation (message_blocks (messages_of later.fates)) (held_numbers b.arrivals.inbound.heap.held ++ back)
-  pub not_held : All (NamedNone (message_blocks (messages_of later.fates)) back) b.reclaims.not_held.items
 
 module _ {C L : Type 0} (of_link : LinkMembers L) where
   -- What came of a link and was delivered: a first piece of what the link gave since, and all of it where the stream

@@ -238,7 +238,6 @@ fn meet_reclaims(reclaims: &mut Reclaims, returned: NumbersSent)
     requires ring { returned.ring ≡ reclaims.old.numbers.ring }
     requires closed { reclaims.old.numbers.closed ≡ true }
     ensures taken { reclaims.new.numbers.taken ≡ returned.items }
-    ensures not_held { reclaims.new.not_held ≡ reclaims.old.not_held }
     ensures reclaiming { (numbers back : List ℕ) → IsReclaiming numbers back reclaims.old
         → IsReclaiming numbers back reclaims.new }
 {

@@ -41,7 +41,7 @@ module _ {F : Type 0} (port : AppPort F) (end : AppEnd) (left : AppSent) where
         (reclaims_of program ++ blocks_of end.notices.taken end.blocks.taken) left
     pub reader : end.reader ≡ port.reader
 
-  -- A server does so for each request that it is told of, and replies to those whose number isn't 0.
+  -- A server does so for each request that it is told of.
   pub record DidServer (program : List ProgramLine) : Type 0 where
     pub stores : end.note.stores ≡ all_served_stores program end.notices.taken
     pub sent : HasSent port.sender.ring port.reclaims.ring (all_served_replies program 0 end.notices.taken)
@@ -73,7 +73,7 @@ pub record HasDone (job : Job) (end : AppEnd) (left : AppSent) : Type 0 where
   pub all : TookAll end
   pub did : Did job.role.now job.table.now job.port end left
 
--- what it left, of its port's heaps and rings; where its senders left something, it came to its end
+-- what it left, of its port's heaps and rings; unless it found no memory or the run was stopped, it came to its end
 pub record IsEndOf (job : Job) (end : AppEnd) : Type 0 where
   pub of_port : IsOfPort job.port end
   pub done : IfSome end.sent (HasDone job end)

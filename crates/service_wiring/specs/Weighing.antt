@@ -9,8 +9,7 @@ use Rattle.service_loop.specs.declared.share.Share.{Share}
 abbrev pub share_in : Plan → Application → Option Share
 share_in plan app = if plan.weighted then Some (record { weight = app.weight; account = new_account }) else None
 
--- An order goes by a plan: where the plan's connections are weighed, it grants each the rounds of its weight
--- and of those that it kept.
+-- An order goes by a plan: where the plan's connections are weighed, it grants each as many rounds as its weight says.
 abbrev pub GoesBy : Plan → (ℕ → ℕ → ℕ) → Type 0
 GoesBy plan grant_of = plan.weighted ≡ true → (app : Application) → Contains plan.applications app → (kept : ℕ)
     → grant_of app.conn kept ≡ granted app.weight kept

@@ -18,7 +18,7 @@ pub struct Job<'t> {
     pub port: AppPort<RunFlag>,
 }
 
-/// Runs an application to its end, or until the run is stopped or no memory is found.
+/// Runs an application to its end, or until the run is stopped.
 pub fn run_application<R: Wait>(rt: &R, alloc: Global, job: Job) -> AppEnd
     requires { IsJob job }
     ensures { IsEndOf job.entry result }

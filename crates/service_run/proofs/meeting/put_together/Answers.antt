@@ -52,6 +52,5 @@ returns c = (
     numbers = c.meet_notices.ensures.blocks;
     returned = c.meet_reclaims.ensures.taken;
     reclaiming = c.meet_reclaims.ensures.reclaiming;
-    not_held = c.meet_reclaims.ensures.not_held;
   },
 )

@@ -1,13 +1,14 @@
 use Rattle.std.proofs.Common.{◌≡◌, ◌+◌, ◌-◌, ◌≤◌}
 use Rattle.mrpc_table.specs.declared.table.Table.{Table}
 use Rattle.receive_core.specs.Life.{Life, Lives}
-use Rattle.deliveries.proofs.Reclaiming.{HasJudged}
+use Rattle.deliveries.proofs.Reclaiming.{HasJudged, HasJudgedEach}
 use Rattle.deliveries.proofs.reclaims.Reclaims.reclaim.Given as goal
 
 abbrev pub invariant-loop-number : goal.invariant-loop-number
 invariant-loop-number g l = record {
   most : l.most ≡ l.fn.self.programmed + l.fn.given;
   judged : HasJudged l.fn.self l.self l.fn.inbound.heap.held l.inbound.heap.held;
+  each : HasJudgedEach l.fn.self l.self l.fn.inbound.heap.held l.inbound.heap.held;
   few : l.fn.self.judged ≤ l.most → l.self.judged ≤ l.most;
   programmed : l.self.programmed ≡ l.fn.self.programmed;
   ring : l.self.numbers.ring ≡ l.fn.self.numbers.ring;

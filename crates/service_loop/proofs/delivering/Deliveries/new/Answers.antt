@@ -12,4 +12,4 @@ returns-clause-delivered c life lived none =
       counting = record { taken = c.requires.new_rings.2; count = refl; closed = sym c.requires.new_rings.3 };
       split = subst (λ xs. IsPermutation [] (xs ++ [])) (sym c.new-2.ensures.items) (IsPermutation-refl []);
     })
-    c.new-2.ensures.items c.requires.none_held c.requires.few (neither c.args.rings.notices c.args.rings.blocks)
+    c.requires.none_held c.requires.few (neither c.args.rings.notices c.args.rings.blocks)

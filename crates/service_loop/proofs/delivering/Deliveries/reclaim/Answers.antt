@@ -10,9 +10,9 @@ returns-clause-delivered g c life numbers back h =
     let r = c.in_ok-reclaimed.ensures.reclaimed numbers back h.returned in (
       r.0,
       r.1,
-      reclaimed life numbers back r.0 r.1 r.2 c.args.self.now c.reclaim.new.inbound c.reclaim.new.self h (record {
+      reclaimed life numbers back r.0 r.1 c.args.self.now c.reclaim.new.inbound c.reclaim.new.self h (record {
         life = c.reclaim.ensures.life c.args.self.now.arrivals.table.now;
         fed = c.reclaim.ensures.fed;
         words = c.reclaim.ensures.words;
-      }) r.3 r.4 r.5 c.reclaim.ensures.programmed,
+      }) r.2 r.3 c.reclaim.ensures.programmed,
     )
